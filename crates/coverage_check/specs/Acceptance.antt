@@ -1,4 +1,4 @@
--- The conditions A1 to A13 under which a specification is accepted, and the refusal if one does not hold.
+-- The conditions A1 to A13 under which a specification is accepted, and the refusal if some condition does not hold.
 use Rattle.std.specs.Prelude.{◌≡◌, ◌≢◌, ◌⊎◌, ℕ, ◌+◌, ◌<◌, ◌≤◌, true, false, length, slice_get, Option, Some, None}
 use Rattle.std.specs.Option.{option_or}
 use Rattle.scram_types.specs.declared.limits.TheConstants.{MAX_ENVIRONMENTS}
@@ -26,36 +26,36 @@ use Rattle.coverage_check.specs.Timing.{bound_refusal, further, greatest_bound, 
 use Rattle.coverage_check.specs.Holding.{breaks_entering, breaks_from, holds_entering, holds_leaving, holds_reaching, invariant_refusal, precondition_refusal}
 use Rattle.coverage_check.specs.Demands.{demand_refusal}
 
--- The first refusal by A1 to A4.
+-- The first refusal by A1 to A4, or none.
 abbrev pub form_refusal : Parts → Option Shown
 form_refusal spec = option_or (need_refusal spec) (option_or (state_refusal spec) (option_or (shape_refusal spec) (load_refusal spec)))
 
--- The first refusal by A5 to A8.
+-- The first refusal by A5 to A8, or none.
 abbrev pub choice_refusal : Parts → Option Shown
 choice_refusal spec =
     option_or (requirement_refusal spec requirement.HasRule) (option_or (requirement_refusal spec requirement.CanRun)
     (option_or (requirement_refusal spec requirement.Stays) (start_refusal spec)))
 
--- The first refusal by A9 and A10.
+-- The first refusal by A9 and A10, or none.
 abbrev pub time_refusal : Parts → Option Shown
 time_refusal spec = option_or (bound_refusal spec) (window_refusal spec)
 
--- The first refusal by A11 and A12.
+-- The first refusal by A11 and A12, or none.
 abbrev pub range_refusal : Parts → Option Shown
 range_refusal spec = option_or (invariant_refusal spec) (precondition_refusal spec)
 
--- The refusal by the first condition that a specification breaks, at its first place.
+-- The refusal by the first condition that a specification breaks, at its first place, or none if it breaks none.
 abbrev pub first_refusal : Parts → Option Shown
 first_refusal spec =
     option_or (form_refusal spec) (option_or (choice_refusal spec)
     (option_or (time_refusal spec) (option_or (range_refusal spec) (demand_refusal spec))))
 
--- An application is on in configuration `c`, and no configuration before it is the same.
+-- An application is on in configuration `c`, and no earlier configuration is the same.
 pub record IsShaped (spec : Parts) (c : ConfId) : Type 0 where
   pub something_on : is_empty spec c ≡ false
   pub differs : (d : ConfId) → d.0 < c.0 → is_same spec c d ≡ false
 
--- A bound is given that suffices.
+-- A bound from `i` to `j` is given and suffices.
 pub record IsServed (spec : Parts) (i j : ConfId) : Type 0 where
   pub frames : ℕ
   pub given : bound_in spec.bounds i.0 j.0 ≡ Some frames
@@ -88,7 +88,7 @@ pub record AcceptedIffUnrefused (spec : Parts) : Type 0 where
   pub accepted : first_refusal spec ≡ None → Accepts spec
   pub unrefused : Accepts spec → first_refusal spec ≡ None
 
--- Each specification is accepted if and only if no refusal is found for it.
+-- Each specification is accepted if and only if it has no refusal.
 abbrev pub AcceptsIffUnrefused : Type 0
 AcceptsIffUnrefused = (spec : Parts) → IsSpec spec → AcceptedIffUnrefused spec
 
@@ -118,6 +118,6 @@ pub data IsBroken (spec : Parts) (shown : Shown) : Type 0 where
       → n < environments spec → is_number_in_scope spec n ≡ true → misses spec demand (conf_id c) (numbered spec n) ≡ true
       → shown ≡ shown_in 13 c (numbered spec n) (other.Demand k) → IsBroken spec shown
 
--- The first refusal of a specification shows a condition that is broken in it.
+-- If a specification is refused, the condition that its first refusal shows is broken in it at the shown place.
 abbrev pub ShownIsBroken : Type 0
 ShownIsBroken = (spec : Parts) (shown : Shown) → first_refusal spec ≡ Some shown → IsBroken spec shown

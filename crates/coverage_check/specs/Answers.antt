@@ -5,7 +5,7 @@ use Rattle.coverage_check.specs.declared.acceptance.AcceptError.{AcceptError}
 use Rattle.coverage_check.specs.declared.acceptance.AcceptError.TheVariants as error
 use Rattle.coverage_check.specs.Acceptance.{first_refusal}
 
--- The specification is given back, with the first refusal unless memory ran out.
+-- The error gives back the specification and has its first refusal, unless memory ran out.
 abbrev pub IsRefusal : Parts → AcceptError → Type 0
 IsRefusal spec (error.NotAccepted back shown) = (back ≡ spec) × (first_refusal spec ≡ Some shown)
 IsRefusal spec (error.NoMemory back) = back ≡ spec

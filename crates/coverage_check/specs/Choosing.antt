@@ -15,49 +15,49 @@ use Rattle.coverage_check.specs.declared.choosing.Requirement.TheVariants as req
 use Rattle.coverage_check.specs.Search.{first_passing_env, shown_if}
 use Rattle.coverage_check.specs.Showing.{shown_in}
 
--- Configuration `c` does not meet a requirement in an environment. A5: no rule fits. A6: the target cannot run. A7:
--- another target is chosen from the target.
+-- Whether configuration `c` does not meet a requirement in an environment. A5 is not met if no rule fits, A6 if the
+-- target cannot run, and A7 if another target is chosen from the target.
 abbrev pub is_unmet : Parts → Requirement → ConfId → Env → Bool
 is_unmet spec requirement.HasRule c v = not (has_rule spec c v)
 is_unmet spec requirement.CanRun c v = not (is_runnable spec (choose spec c v) v)
 is_unmet spec requirement.Stays c v = not ((choose spec (choose spec c v) v).0 == (choose spec c v).0)
 
--- The number of the condition that a requirement is.
+-- The number of the condition that a requirement states.
 abbrev pub number_of_requirement : Requirement → ℕ
 number_of_requirement requirement.HasRule = 5
 number_of_requirement requirement.CanRun = 6
 number_of_requirement requirement.Stays = 7
 
--- The target that is shown, if the requirement has one.
+-- The target to show in the refusal, if the requirement is on a target.
 abbrev pub target_shown : Parts → Requirement → ConfId → Env → Other
 target_shown spec requirement.HasRule c v = other.Nothing
 target_shown spec requirement.CanRun c v = other.Conf (choose spec c v)
 target_shown spec requirement.Stays c v = other.Conf (choose spec c v)
 
--- The first environment in scope in which configuration c does not meet a requirement.
+-- The first environment in scope in which configuration `c` does not meet a requirement, or none.
 abbrev pub first_unmet_env : Parts → Requirement → ConfId → Option Env
 first_unmet_env spec asked c = first_passing_env spec (is_unmet spec asked c)
 
--- The finding of a cover for a requirement.
+-- The first environment that a cover has for a requirement, or none.
 abbrev pub unmet_of_cover : Cover → Requirement → Option Env
 unmet_of_cover cover requirement.HasRule = cover.unfit
 unmet_of_cover cover requirement.CanRun = cover.not_runnable
 unmet_of_cover cover requirement.Stays = cover.unsettled
 
--- The refusal for the first environment in which configuration c does not meet a requirement.
+-- The refusal for the first environment in which configuration `c` does not meet a requirement, or none.
 abbrev pub requirement_refusal_of : Parts → Requirement → ℕ → Option Shown
 requirement_refusal_of spec asked c =
     option_map (λ (v : Env). shown_in (number_of_requirement asked) c v (target_shown spec asked (conf_id c) v)) (first_unmet_env spec asked (conf_id c))
 
--- The refusal for the first configuration that does not meet a requirement.
+-- The refusal for the first configuration that does not meet a requirement, or none.
 abbrev pub requirement_refusal : Parts → Requirement → Option Shown
 requirement_refusal spec asked = first_below (requirement_refusal_of spec asked) (length spec.confs)
 
--- The table leaves the start configuration at once.
+-- Whether the table chooses another configuration from the start configuration in the opening environment.
 abbrev pub leaves_start : Parts → Bool
 leaves_start spec = not ((choose spec spec.start (opening_env spec)).0 == spec.start.0)
 
--- A8: the refusal of a start that the table leaves in the opening environment.
+-- A8: the refusal if the table leaves the start configuration in the opening environment, or none.
 abbrev pub start_refusal : Parts → Option Shown
 start_refusal spec =
     shown_if (leaves_start spec) (shown_in 8 spec.start.0 (opening_env spec) (other.Conf (choose spec spec.start (opening_env spec))))

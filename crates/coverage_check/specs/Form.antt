@@ -1,4 +1,5 @@
--- The conditions A1 to A4 on a single configuration: it is complete, different from the others and not overloaded.
+-- The conditions A1 to A4. Among other things, a configuration must be complete, differ from the others and overload no
+-- processor.
 use Rattle.std.specs.Prelude.{ℕ, zero, suc, ◌+◌, Bool, true, false, not, ◌&&◌, ◌==◌, nat_lt, List, length, slice_get, Option, Some, None, if◌then◌else◌}
 use Rattle.std.specs.Option.{option_map_or}
 use Rattle.std.specs.List.{list_any}
@@ -18,44 +19,44 @@ use Rattle.coverage_check.specs.declared.shown.Other.TheVariants as other
 use Rattle.coverage_check.specs.Search.{shown_if}
 use Rattle.coverage_check.specs.Showing.{shown_at, shown_nowhere}
 
--- Some of these applications are off in configuration `c`.
+-- Whether some application of a list is off in configuration `c`.
 abbrev pub has_off : Parts → ConfId → List AppId → Bool
 has_off spec c needs = list_any (λ (needed : AppId). not (is_on spec c needed.0)) needs
 
--- An application that `a` needs is off in configuration `c`.
+-- Whether some application that `a` needs is off in configuration `c`.
 abbrev pub has_off_need : Parts → ConfId → ℕ → Bool
 has_off_need spec c a = option_map_or (λ (needing : AppSpec). has_off spec c needing.needs) (slice_get spec.apps a) false
 
--- Application `a` is on in configuration `c`, and an application that it needs is off there.
+-- Whether application `a` is on in configuration `c` while some application that it needs is off.
 abbrev pub lacks_need : Parts → ConfId → ℕ → Bool
 lacks_need spec c a = is_on spec c a && has_off_need spec c a
 
--- More environments are in scope than acceptance searches.
+-- Whether more environments are in scope than acceptance searches.
 abbrev pub has_too_many_states : Parts → Bool
 has_too_many_states spec = nat_lt MAX_ENVIRONMENTS (states spec)
 
--- No application is on in configuration c.
+-- Whether no application is on in configuration `c`.
 abbrev pub is_empty : Parts → ConfId → Bool
 is_empty spec c = all_below (λ a. not (is_on spec c a)) 8
 
--- Two places are the same: both are off, or both have the same mode on the same processor.
+-- Whether two optional places are the same: both are absent, or both have the same mode on the same processor.
 abbrev pub is_same_place : Option Place → Option Place → Bool
 is_same_place None None = true
 is_same_place None (Some other) = false
 is_same_place (Some one) None = false
 is_same_place (Some one) (Some other) = one.mode.0 == other.mode.0 && one.proc.0 == other.proc.0
 
--- Configurations c and d give every application the same mode and processor.
+-- Whether configurations `c` and `d` give every application the same mode and processor.
 abbrev pub is_same : Parts → ConfId → ConfId → Bool
 is_same spec c d = all_below (λ a. is_same_place (place_of spec c a) (place_of spec d a)) 8
 
--- The load of application `a` on processor `p` in configuration `c`, or 0 if it is not placed there.
+-- The load of application `a` on processor `p` in configuration `c`, or 0 if the application is not placed there.
 abbrev pub load_of : Parts → ConfId → ℕ → ℕ → ℕ
 load_of spec c p a =
     if option_map_or (λ (place : Place). place.proc.0 == p) (place_of spec c a) false
     then option_map_or (λ (listed : ModeSpec). listed.load) (mode_of spec c a) 0 else 0
 
--- The load that the first n applications put on processor p.
+-- The load that the first `n` applications put on processor `p` in configuration `c`.
 abbrev pub load_below : Parts → ConfId → ℕ → ℕ → ℕ
 load_below spec c p zero = 0
 load_below spec c p (suc n) = load_below spec c p n + load_of spec c p n
@@ -64,38 +65,40 @@ load_below spec c p (suc n) = load_below spec c p n + load_of spec c p n
 abbrev pub capacity_of : Parts → ℕ → ℕ
 capacity_of spec p = option_map_or (λ (processor : Proc). processor.capacity) (slice_get spec.procs p) 0
 
--- Configuration c loads processor p beyond its capacity.
+-- Whether configuration `c` loads processor `p` beyond its capacity.
 abbrev pub is_overloaded : Parts → ConfId → ℕ → Bool
 is_overloaded spec c p = nat_lt (capacity_of spec p) (load_below spec c p (length spec.apps))
 
--- The refusal for the first application that is on in configuration `c` while an application that it needs is off.
+-- The refusal for the first application that is on in configuration `c` while an application that it needs is off, or
+-- none.
 abbrev pub need_refusal_in : Parts → ℕ → Option Shown
 need_refusal_in spec c = first_below (λ a. shown_if (lacks_need spec (conf_id c) a) (shown_at 1 c (other.App (app_id a)))) (length spec.apps)
 
--- A1: the refusal for the first application that is on while an application that it needs is off.
+-- A1: the refusal for the first configuration in which an application is on while an application that it needs is off,
+-- or none.
 abbrev pub need_refusal : Parts → Option Shown
 need_refusal spec = first_below (need_refusal_in spec) (length spec.confs)
 
--- A2: the refusal of too many environments.
+-- A2: the refusal if too many environments are in scope, or none.
 abbrev pub state_refusal : Parts → Option Shown
 state_refusal spec = shown_if (has_too_many_states spec) (shown_nowhere 2 (other.Count (states spec)))
 
--- The refusal of a configuration that is the same as an earlier one.
+-- The refusal if a configuration is the same as an earlier one, or none.
 abbrev pub twin_refusal_of : Parts → ℕ → Option Shown
 twin_refusal_of spec c = first_below (λ d. shown_if (is_same spec (conf_id c) (conf_id d)) (shown_at 3 c (other.Conf (conf_id d)))) c
 
--- The refusal of a configuration that is empty or the same as an earlier one.
+-- The refusal if a configuration is empty or the same as an earlier one, or none.
 abbrev pub shape_refusal_of : Parts → ℕ → Option Shown
 shape_refusal_of spec c = if is_empty spec (conf_id c) then Some (shown_at 3 c other.Nothing) else twin_refusal_of spec c
 
--- A3: the refusal of the first configuration that is empty or the same as an earlier one.
+-- A3: the refusal of the first configuration that is empty or the same as an earlier one, or none.
 abbrev pub shape_refusal : Parts → Option Shown
 shape_refusal spec = first_below (shape_refusal_of spec) (length spec.confs)
 
--- The refusal for the first processor that a configuration overloads.
+-- The refusal for the first processor that a configuration overloads, or none.
 abbrev pub load_refusal_in : Parts → ℕ → Option Shown
 load_refusal_in spec c = first_below (λ p. shown_if (is_overloaded spec (conf_id c) p) (shown_at 4 c (other.Proc (proc_id p)))) (length spec.procs)
 
--- A4: the refusal for the first configuration that overloads a processor.
+-- A4: the refusal for the first configuration that overloads a processor, or none.
 abbrev pub load_refusal : Parts → Option Shown
 load_refusal spec = first_below (load_refusal_in spec) (length spec.confs)

@@ -16,77 +16,79 @@ use Rattle.coverage_check.specs.Search.{shown_if}
 use Rattle.coverage_check.specs.Showing.{shown_at}
 use Rattle.coverage_check.specs.Timing.{is_target}
 
--- The interval from `low` to `high` contains a range.
+-- Whether the interval from `low` to `high` contains a range.
 abbrev pub holds_range : ℤ → ℤ → ℤ × ℤ → Bool
 holds_range low high range = int_le low range.0 && int_le range.1 high
 
--- An invariant's interval contains the range of its variable for a status in a mode. The status is 1 as the application
--- runs, 2 as it halts, 3 as it prepares and 4 as it initialises.
+-- Whether an invariant's interval contains the range of its variable for a status in a mode. The status is 1 as the
+-- application runs, 2 as it halts, 3 as it prepares and 4 as it initialises.
 abbrev pub holds_during : Parts → Invariant → ℕ → ℕ → Bool
 holds_during spec inv status mode = holds_range inv.least inv.greatest (during (kind_of_app spec inv.app.0) status mode inv.variable)
 
--- An invariant's interval contains the zeros of an application that is off.
+-- Whether an invariant's interval contains zero, the value of each variable of an application that is off.
 abbrev pub holds_off : Invariant → Bool
 holds_off inv = holds_range inv.least inv.greatest (pos 0, pos 0)
 
--- An invariant's interval contains the values that are seen while the source is left: in the source's mode, as the
--- application initialises, runs and halts.
+-- Whether an invariant's interval contains the values that are seen while the source is left: in the source's mode, as
+-- the application initialises, runs and halts.
 abbrev pub holds_leaving : Parts → Invariant → Option Place → Bool
 holds_leaving spec inv None = holds_off inv
 holds_leaving spec inv (Some place) =
     holds_during spec inv 4 place.mode.0 && holds_during spec inv 1 place.mode.0 && holds_during spec inv 2 place.mode.0
 
--- An invariant's interval contains the values that are seen while a target is reached, and left again for another.
+-- Whether an invariant's interval contains the values that are seen while a target is reached and left again for
+-- another.
 abbrev pub holds_reaching : Parts → Invariant → Option Place → Bool
 holds_reaching spec inv None = holds_off inv
 holds_reaching spec inv (Some place) = holds_during spec inv 3 place.mode.0 && holds_leaving spec inv (Some place)
 
--- An invariant's interval contains the values that are seen on the way from `i` to `j`, if `j` is a possible target.
+-- Whether an invariant's interval contains the values that are seen on the way from `i` to `j`, if `j` is a possible
+-- target.
 abbrev pub holds_on_way : Parts → Invariant → ConfId → ℕ → Bool
 holds_on_way spec inv i j = not (is_target spec i j) || holds_reaching spec inv (place_of spec (conf_id j) inv.app.0)
 
--- An invariant holds on the way from a configuration to each of its targets.
+-- Whether an invariant holds on the way from a configuration to each of its possible targets.
 abbrev pub holds_reached : Parts → Invariant → ConfId → Bool
 holds_reached spec inv i = all_below (holds_on_way spec inv i) (length spec.confs)
 
--- Invariant `inv` holds throughout all reconfigurations that leave configuration `i`.
+-- Whether an invariant holds throughout all reconfigurations that leave configuration `i`.
 abbrev pub holds_from : Parts → Invariant → ConfId → Bool
 holds_from spec inv i = holds_leaving spec inv (place_of spec i inv.app.0) && holds_reached spec inv i
 
--- An invariant applies to configuration `i`, and may not hold while it is left.
+-- Whether an invariant applies to configuration `i` and may be broken while the configuration is left.
 abbrev pub breaks_from : Parts → Invariant → ConfId → Bool
 breaks_from spec inv i = has_source inv.from i && not (holds_from spec inv i)
 
--- The refusal of invariant number k for the first configuration from which it can break.
+-- The refusal of invariant `k` for the first configuration from which it can break, or none.
 abbrev pub invariant_refusal_of : Parts → ℕ → Invariant → Option Shown
 invariant_refusal_of spec k inv = first_below (λ i. shown_if (breaks_from spec inv (conf_id i)) (shown_at 11 i (other.Item k))) (length spec.confs)
 
--- The refusal of the invariant of this number, if there is such an invariant.
+-- The refusal of the invariant of this index, or none, also if there is no such invariant.
 abbrev pub invariant_refusal_at : Parts → ℕ → Option Shown
 invariant_refusal_at spec k = option_map_or (invariant_refusal_of spec k) (slice_get spec.invariants k) None
 
--- A11: the refusal of the first invariant that can break.
+-- A11: the refusal of the first invariant that can break, or none.
 abbrev pub invariant_refusal : Parts → Option Shown
 invariant_refusal spec = first_below (invariant_refusal_at spec) (length spec.invariants)
 
--- A precondition's interval contains the values that its application has after its init phase, or zeros if the
--- application is off.
+-- Whether a precondition's interval contains the values that its variable can have after the application's init phase,
+-- or zero if the application is off.
 abbrev pub holds_entering : Parts → Precondition → Option Place → Bool
 holds_entering spec pre None = holds_range pre.least pre.greatest (pos 0, pos 0)
 holds_entering spec pre (Some place) = holds_range pre.least pre.greatest (after_init (kind_of_app spec pre.app.0) place.mode.0 pre.variable)
 
--- A precondition may not hold as its configuration is entered.
+-- Whether a precondition may be broken as its configuration is entered.
 abbrev pub breaks_entering : Parts → Precondition → Bool
 breaks_entering spec pre = not (holds_entering spec pre (place_of spec pre.conf pre.app.0))
 
--- The refusal of precondition number `k`, if it may not hold.
+-- The refusal of precondition `k` if it may be broken, or none.
 abbrev pub precondition_refusal_of : Parts → ℕ → Precondition → Option Shown
 precondition_refusal_of spec k pre = shown_if (breaks_entering spec pre) (shown_at 12 pre.conf.0 (other.Item k))
 
--- The refusal of the precondition of this number, if there is such a precondition.
+-- The refusal of the precondition of this index, or none, also if there is no such precondition.
 abbrev pub precondition_refusal_at : Parts → ℕ → Option Shown
 precondition_refusal_at spec k = option_map_or (precondition_refusal_of spec k) (slice_get spec.preconditions k) None
 
--- A12: the refusal of the first precondition that may not hold.
+-- A12: the refusal of the first precondition that may be broken, or none.
 abbrev pub precondition_refusal : Parts → Option Shown
 precondition_refusal spec = first_below (precondition_refusal_at spec) (length spec.preconditions)

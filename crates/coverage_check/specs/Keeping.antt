@@ -7,17 +7,17 @@ use Rattle.choice_table.specs.Environments.{IsEnv, in_scope}
 use Rattle.fault_script.specs.Environments.{env_at}
 use Rattle.coverage_check.specs.Missions.{IsMission, MissionParts}
 
--- The environment of frame f belongs to the specification and is in scope.
+-- The environment of frame `f` belongs to the specification and is in scope.
 pub record StaysInScope (spec : Parts) (script : ScriptParts) (f : ℕ) : Type 0 where
   pub belongs : IsEnv spec (env_at spec script f)
   pub scope : in_scope spec (env_at spec script f) ≡ true
 
--- The environment stays in scope in each frame up to the number of frames, and the first frame's environment is the one
--- in which a flight opens.
+-- The environment is in scope in each frame up to and including the frame after the last one. The first frame's
+-- environment is the one in which a flight opens.
 pub record KeepsScope (spec : Parts) (script : ScriptParts) : Type 0 where
   pub opens : env_at spec script 0 ≡ opening_env spec
   pub stays : (f : ℕ) → f ≤ script.frames → StaysInScope spec script f
 
--- In every frame of every mission the environment is in scope.
+-- The environment of every mission is in scope in every frame, also in the frame after the last one.
 abbrev pub MissionsKeepScope : Type 0
 MissionsKeepScope = (mission : MissionParts) → IsSpec mission.spec → IsMission mission → KeepsScope mission.spec mission.script

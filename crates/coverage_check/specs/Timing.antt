@@ -17,24 +17,24 @@ use Rattle.coverage_check.specs.declared.shown.Other.TheVariants as other
 use Rattle.coverage_check.specs.Search.{shown_if}
 use Rattle.coverage_check.specs.Showing.{shown_at, shown_nowhere}
 
--- Configuration j is chosen from i in environment number n, which is in scope.
+-- Whether configuration `j` is chosen from `i` in environment number `n`, and that environment is in scope.
 abbrev pub is_chosen_in : Parts → ConfId → ℕ → ℕ → Bool
 is_chosen_in spec i j n = is_number_in_scope spec n && (choose spec i (numbered spec n)).0 == j
 
--- Configuration j is a possible target of i: chosen from i in some environment in scope.
+-- Whether configuration `j` is a possible target of `i`: it is chosen from `i` in some environment in scope.
 abbrev pub is_target : Parts → ConfId → ℕ → Bool
 is_target spec i j = any_below (is_chosen_in spec i j) (environments spec)
 
--- The possible targets of configuration i, as bits.
+-- The possible targets of configuration `i`, as bits.
 abbrev pub targets : Parts → ConfId → ℕ
 targets spec i = bits_below (is_target spec i) (length spec.confs)
 
--- The number of changes after the first that a reconfiguration may see.
+-- The maximum number of changes after the first that a reconfiguration may see.
 abbrev pub further : Policy → ℕ → ℕ
 further policy.Retarget changes = changes
 further policy.Settle changes = suc changes
 
--- The length of the longest way from one target's choice to the next, over all configurations, in frames.
+-- The maximum length of the way from one target's choice to the next, over all configurations, in frames.
 abbrev pub slowest : Parts → ℕ
 slowest spec =
     greatest_below (λ k. preparing_time spec (conf_id k) + initialising_time spec (conf_id k) + 1 + halting_time spec (conf_id k)) (length spec.confs)
@@ -43,20 +43,21 @@ slowest spec =
 abbrev pub least : Parts → ConfId → ConfId → ℕ
 least spec i j = 1 + halting_time spec i + further spec.policy spec.changes * slowest spec + preparing_time spec j + initialising_time spec j
 
--- A reconfiguration may end where it began, since a further change is possible.
+-- Whether a reconfiguration may end where it began, since a further change is possible.
 abbrev pub can_return : Parts → Bool
 can_return spec = nat_lt 0 (further spec.policy spec.changes)
 
--- A bound from `i` to `j` is given and suffices.
+-- Whether a bound from `i` to `j` is given and suffices.
 abbrev pub is_bounded : Parts → ConfId → ConfId → Bool
 is_bounded spec i j = option_map_or (λ (t : ℕ). nat_le (least spec i j) t) (bound_in spec.bounds i.0 j.0) false
 
--- A reconfiguration from `i` may end in `j`, which is another configuration unless a reconfiguration may return to
+-- Whether a reconfiguration from `i` may end in `j`. It may end in `i` itself only if a reconfiguration may return to
 -- where it began.
 abbrev pub may_end_in : Parts → ConfId → ConfId → Bool
 may_end_in spec i j = not (i.0 == j.0) || can_return spec
 
--- A bound from `i` to `j` is required: `j` is a possible target of `i` in which a reconfiguration from `i` may end.
+-- Whether a bound from `i` to `j` is required: `j` is a possible target of `i` in which a reconfiguration from `i` may
+-- end.
 abbrev pub is_bound_asked : Parts → ConfId → ℕ → Bool
 is_bound_asked spec i j = is_target spec i j && may_end_in spec i (conf_id j)
 
@@ -64,17 +65,17 @@ is_bound_asked spec i j = is_target spec i j && may_end_in spec i (conf_id j)
 abbrev pub asked_bounds : Parts → ConfId → ℕ
 asked_bounds spec i = bits_below (is_bound_asked spec i) (length spec.confs)
 
--- A bound from `i` to `j` is required, and none that suffices is given.
+-- Whether a bound from `i` to `j` is required, but no sufficient bound is given.
 abbrev pub lacks_bound : Parts → ConfId → ℕ → Bool
 lacks_bound spec i j = is_bound_asked spec i j && not (is_bounded spec i (conf_id j))
 
--- The refusal for the first target of configuration `i` without a sufficient bound.
+-- The refusal for the first target of configuration `i` without a sufficient bound, or none.
 abbrev pub bound_refusal_of : Parts → ℕ → Option Shown
 bound_refusal_of spec i =
     first_below (λ j. shown_if (lacks_bound spec (conf_id i) j) (shown_at 9 i (other.Least (conf_id j) (least spec (conf_id i) (conf_id j)))))
     (length spec.confs)
 
--- A9: the refusal for the first configuration without a required bound.
+-- A9: the refusal for the first configuration from which a required bound is missing or too small, or none.
 abbrev pub bound_refusal : Parts → Option Shown
 bound_refusal spec = first_below (bound_refusal_of spec) (length spec.confs)
 
@@ -83,10 +84,10 @@ abbrev pub greatest_bound : List Bound → ℕ
 greatest_bound [] = 0
 greatest_bound (bound ∷ bounds) = max bound.frames (greatest_bound bounds)
 
--- The window of the failure assumption is shorter than the longest reconfiguration and the frame after it.
+-- Whether the window of the failure assumption is shorter than the longest reconfiguration and the frame after it.
 abbrev pub has_short_window : Parts → Bool
 has_short_window spec = nat_lt spec.window (greatest_bound spec.bounds + 1)
 
--- A10: the refusal of a window that is not longer than the longest bound.
+-- A10: the refusal if the window is not longer than the greatest bound, or none.
 abbrev pub window_refusal : Parts → Option Shown
 window_refusal spec = shown_if (has_short_window spec) (shown_nowhere 10 (other.Count (greatest_bound spec.bounds)))

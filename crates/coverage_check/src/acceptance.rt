@@ -143,12 +143,12 @@ fn refuse_ranges(spec: &Spec, covers: &[Cover; 12]) -> Option<Shown>
     refuse_precondition(spec)
 }
 
-/// States that no refusal is found for a specification if and only if all conditions hold.
+/// States that a specification has no refusal if and only if all conditions hold.
 pub fn accepts_iff_unrefused()
     ensures { AcceptsIffUnrefused }
 {}
 
-/// States that the place in a refusal exists in the specification, and the condition is false there.
+/// States that the place in a refusal exists in the specification, and that the condition does not hold there.
 pub fn shown_is_broken()
     ensures { ShownIsBroken }
 {}

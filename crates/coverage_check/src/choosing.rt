@@ -13,8 +13,8 @@ use choice_table::choose;
 use cube_cover::Cover;
 use scram_types::{ConfId, Env, Spec};
 
-/// A condition on a configuration in each environment in scope. A5 requires that a rule fits it, A6 that the target
-/// that the table chooses can run, and A7 that the table chooses no other configuration from this target.
+/// A condition on a configuration in each environment in scope. A5 requires that a rule fits, A6 that the target can
+/// run, and A7 that the table chooses no other configuration from the target.
 #[derive(Clone, Copy, Debug, PartialEq, Eq)]
 pub enum Requirement {
     HasRule,
@@ -22,7 +22,8 @@ pub enum Requirement {
     Stays,
 }
 
-// Returns the refusal for the smallest configuration and environment in which a requirement (A5 to A7) is not met.
+// Returns the refusal for the first configuration and environment in which a requirement (A5 to A7) is not met, or
+// `None` if it is met throughout.
 pub(crate) fn refuse_requirement(
     spec: &Spec,
     covers: &[Cover; 12],
@@ -59,7 +60,8 @@ fn refuse_requirement_of(
     }
 }
 
-/// Returns the first environment in scope in which a requirement is not met, as the cover has found it.
+/// Returns the first environment in scope in which a requirement is not met, taken from a cover, or `None` if the
+/// requirement is met.
 pub fn unmet_of_cover(cover: &Cover, requirement: Requirement) -> Option<Env>
     ensures { result ≡ unmet_of_cover cover.now requirement }
 {
@@ -89,7 +91,7 @@ fn target_shown(spec: &Spec, requirement: Requirement, c: ConfId, env: &Env) -> 
     }
 }
 
-// Returns the refusal of a start configuration that is left at once (A8).
+// Returns the refusal if the table leaves the start configuration at once (A8), or `None`.
 pub(crate) fn refuse_start(spec: &Spec) -> Option<Shown>
     ensures { result ≡ start_refusal spec.now }
 {

@@ -1,4 +1,5 @@
-//! The conditions A1 to A4 on a single configuration: it is complete, different from the others and not overloaded.
+//! The conditions A1 to A4. Among other things, a configuration must be complete, differ from the others and overload
+//! no processor.
 
 ghost use Rattle.std.specs.Prelude.{◌≡◌, length};
 ghost use Rattle.std.specs.Option.{option_map_or};
@@ -12,7 +13,7 @@ use choice_table::states;
 use scram_types::limits::MAX_ENVIRONMENTS;
 use scram_types::{AppId, ConfId, Mode, ModeSpec, Place, ProcId, Spec};
 
-// Returns the refusal of an application that is on while an application that it needs is off (A1).
+// Returns the refusal of the first application that is on while an application that it needs is off (A1), or `None`.
 pub(crate) fn refuse_need(spec: &Spec) -> Option<Shown>
     ensures { result ≡ need_refusal spec.now }
 {
@@ -57,7 +58,7 @@ fn has_off(spec: &Spec, c: ConfId, needs: &[AppId]) -> bool
     needs.iter().any(|needed| !spec.is_on(c, *needed))
 }
 
-/// Returns the refusal of more environments in scope than acceptance searches, with their number (A2).
+/// Returns the refusal if more environments are in scope than acceptance searches, with their number (A2), or `None`.
 pub fn refuse_states(spec: &Spec) -> Option<Shown>
     ensures { result ≡ state_refusal spec.now }
 {
@@ -69,7 +70,7 @@ pub fn refuse_states(spec: &Spec) -> Option<Shown>
     }
 }
 
-// Returns the refusal of a configuration with no application on, or of one that equals an earlier one (A3).
+// Returns the refusal of the first configuration that has no application on or equals an earlier one (A3), or `None`.
 pub(crate) fn refuse_shape(spec: &Spec) -> Option<Shown>
     ensures { result ≡ shape_refusal spec.now }
 {
@@ -92,7 +93,7 @@ fn refuse_shape_of(spec: &Spec, c: u8) -> Option<Shown>
     }
 }
 
-/// Returns whether a configuration has no application on.
+/// Returns whether no application is on in a configuration.
 pub fn is_empty(spec: &Spec, c: ConfId) -> bool
     ensures { result ≡ is_empty spec.now c }
 {
@@ -137,7 +138,7 @@ fn is_same_place(one: Option<Place>, other: Option<Place>) -> bool
     }
 }
 
-// Returns the refusal of a processor that a configuration loads beyond its capacity (A4).
+// Returns the refusal of the first configuration that loads a processor beyond its capacity (A4), or `None`.
 pub(crate) fn refuse_load(spec: &Spec) -> Option<Shown>
     ensures { result ≡ load_refusal spec.now }
 {

@@ -15,8 +15,8 @@ use app_model::{after_init, during};
 use cube_cover::Cover;
 use scram_types::{AppId, ConfId, Invariant, KindId, Mode, Place, Precondition, Spec};
 
-// Returns the refusal of the first invariant that may not hold throughout a reconfiguration, with the first
-// configuration from which it may not (A11).
+// Returns the refusal of the first invariant that may be broken during a reconfiguration, with the first configuration
+// that the reconfiguration may leave (A11), or `None`.
 pub(crate) fn refuse_invariant(spec: &Spec, covers: &[Cover; 12]) -> Option<Shown>
     requires { HasCovers spec.now covers.now }
     ensures { result ≡ invariant_refusal spec.now }
@@ -76,7 +76,8 @@ fn holds_from(spec: &Spec, cover: &Cover, inv: &Invariant, i: u8) -> bool
         && holds_reached(spec, cover, inv, i)
 }
 
-// Returns whether the interval contains the values that are seen on the way to each possible target.
+// Returns whether the invariant's interval contains the values that are seen on the way from `i` to each of its
+// possible targets.
 fn holds_reached(spec: &Spec, cover: &Cover, inv: &Invariant, i: u8) -> bool
     requires { IsCover spec.now (conf_id i) cover.now }
     ensures { result ≡ holds_reached spec.now inv.now (record { 0 = i }) }
@@ -98,8 +99,8 @@ fn holds_on_way(spec: &Spec, cover: &Cover, inv: &Invariant, i: u8, j: u8) -> bo
     !is_in(cover.targets, j) || holds_reaching(spec, inv, spec.place_of(ConfId(j), inv.app))
 }
 
-// Returns whether the interval contains the values that are seen while the application leaves its mode, or zeros if the
-// application is off.
+// Returns whether the invariant's interval contains the values that are seen while the application leaves its mode, or
+// zero if the application is off.
 fn holds_leaving(spec: &Spec, inv: &Invariant, place: Option<Place>) -> bool
     ensures { result ≡ holds_leaving spec.now inv.now place }
 {
@@ -113,8 +114,8 @@ fn holds_leaving(spec: &Spec, inv: &Invariant, place: Option<Place>) -> bool
     }
 }
 
-// Returns whether the interval contains the values that are seen while the application reaches its mode and leaves it
-// again.
+// Returns whether the invariant's interval contains the values that are seen while the application reaches its mode and
+// leaves it again.
 fn holds_reaching(spec: &Spec, inv: &Invariant, place: Option<Place>) -> bool
     ensures { result ≡ holds_reaching spec.now inv.now place }
 {
@@ -125,7 +126,7 @@ fn holds_reaching(spec: &Spec, inv: &Invariant, place: Option<Place>) -> bool
     }
 }
 
-// Returns whether the interval contains the range of its variable for a status in a mode.
+// Returns whether the invariant's interval contains the range of its variable for a status in a mode.
 fn holds_during(spec: &Spec, inv: &Invariant, status: u8, mode: Mode) -> bool
     ensures { result ≡ holds_during spec.now inv.now status mode.0 }
 {
@@ -149,7 +150,7 @@ fn holds_range(low: i64, high: i64, range: (i64, i64)) -> bool
     low <= range.0 && range.1 <= high
 }
 
-// Returns the refusal of the first precondition that may not hold as its configuration begins to run (A12).
+// Returns the refusal of the first precondition that may be broken as its configuration begins to run (A12), or `None`.
 pub(crate) fn refuse_precondition(spec: &Spec) -> Option<Shown>
     ensures { result ≡ precondition_refusal spec.now }
 {
@@ -181,7 +182,7 @@ fn refuse_precondition_of(spec: &Spec, k: u32, pre: &Precondition) -> Option<Sho
     }
 }
 
-/// Returns whether a precondition may not hold as its configuration is entered.
+/// Returns whether a precondition may be broken as its configuration is entered.
 pub fn breaks_entering(spec: &Spec, pre: &Precondition) -> bool
     ensures { result ≡ breaks_entering spec.now pre.now }
 {

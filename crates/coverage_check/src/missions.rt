@@ -23,8 +23,8 @@ impl std::marker::Model for Mission {
     ghost invariant = { λ m. IsMission (record { spec = m.accepted; script = m.script }) };
 }
 
-/// The refusal of a script, with the first frame in which it leaves the failure assumption. The specification and the
-/// script are given back.
+/// The refusal of a script, with the first frame in which the script leaves the failure assumption. It gives back the
+/// specification and the script.
 #[derive(Drop)]
 pub struct NotWithin {
     pub accepted: Accepted,
@@ -75,8 +75,8 @@ impl Mission {
         &self.script
     }
 
-    /// States that the mission has an accepted specification, and a script that fits it and keeps to its failure
-    /// assumption. The call has no effect.
+    /// States by its contract that the mission has an accepted specification, and a script that fits it and keeps to
+    /// its failure assumption. The call has no effect.
     pub fn holds(&self)
         ensures spec { IsSpec self.now.spec }
         ensures mission { IsMission self.now }

@@ -3,7 +3,7 @@
 use scram_types::{AppId, ConfId, Env, ProcId};
 
 /// The reason why a specification is not accepted: the number of the first condition that does not hold, 1 to 13, and
-/// the place where it does not.
+/// the place where the condition is broken.
 #[derive(Clone, Copy, Debug, PartialEq, Eq)]
 pub struct Shown {
     pub condition: u8,
@@ -12,7 +12,7 @@ pub struct Shown {
     pub other: Other,
 }
 
-/// The part of a condition's place beside the configuration and the environment.
+/// The part of a refusal's place besides the configuration and the environment.
 #[derive(Clone, Copy, Debug, PartialEq, Eq)]
 pub enum Other {
     Nothing,
@@ -33,7 +33,7 @@ impl Shown {
     ghost use Rattle.std.specs.Prelude.{◌≡◌};
     ghost use Rattle.coverage_check.specs.Showing.{shown_at, shown_in, shown_nowhere};
 
-    // Returns the refusal of a condition that is broken at no configuration.
+    // Returns the refusal by a condition that is broken at no particular configuration.
     pub(crate) fn nowhere(condition: u8, other: Other) -> Shown
         ensures { result ≡ shown_nowhere condition other }
     {
@@ -45,7 +45,7 @@ impl Shown {
         }
     }
 
-    // Returns the refusal of a condition that is broken at configuration number `c`.
+    // Returns the refusal by a condition that is broken at configuration `c`.
     pub(crate) fn at(condition: u8, c: u8, other: Other) -> Shown
         ensures { result ≡ shown_at condition c other }
     {
@@ -57,7 +57,7 @@ impl Shown {
         }
     }
 
-    // Returns the refusal of a condition that is broken at configuration number `c` in an environment.
+    // Returns the refusal by a condition that is broken at configuration `c` in an environment.
     pub(crate) fn within(condition: u8, c: u8, env: Env, other: Other) -> Shown
         ensures { result ≡ shown_in condition c env other }
     {

@@ -42,7 +42,7 @@ pub(crate) fn find_covers(alloc: Global, spec: &Spec) -> Result<[Cover; 12], NoM
     Ok(covers)
 }
 
-// Returns whether number `j` is in a set that is kept as bits.
+// Returns whether `j` is an element of a set that is kept as bits.
 pub(crate) fn is_in(set: u16, j: u8) -> bool
     requires { j < 16 }
     ensures { result ≡ has_bit set j }

@@ -16,9 +16,9 @@ use dep_order::timetable;
 use scram_types::{Bound, ConfId, NoMemory, Policy, Spec};
 use std::alloc::Global;
 
-/// Returns the minimum bound, in frames, that suffices for a reconfiguration from configuration `i` to `j`. It is one
-/// frame, the frames that `i` takes to halt and those that `j` takes to prepare and to initialise. For each further
-/// change of the environment, the longest way from one target's choice to the next is added.
+/// Returns the minimum bound, in frames, that suffices for a reconfiguration from configuration `i` to `j`. It counts
+/// one frame, the frames that `i` takes to halt, and the frames that `j` takes to prepare and to initialise. For each
+/// further change of the environment, it adds the longest way from one target's choice to the next.
 pub fn least(spec: &Spec, i: ConfId, j: ConfId) -> u32
     ensures { result ≡ least spec.now i j }
 {
@@ -42,7 +42,8 @@ pub fn asked_bounds(alloc: Global, spec: &Spec, i: ConfId) -> Result<u16, NoMemo
     Ok(find_asked(spec, &cover, i.0, count))
 }
 
-// Returns the same from the cover of `i`, where `count` is the number of configurations.
+// Returns the configurations, as bits, to which a bound from `i` is required, given the cover of `i`. `count` is the
+// number of configurations.
 fn find_asked(spec: &Spec, cover: &Cover, i: u8, count: u8) -> u16
     requires known { IsSpec spec.now }
     requires cover { IsCover spec.now (conf_id i) cover.now }
@@ -59,7 +60,7 @@ fn find_asked(spec: &Spec, cover: &Cover, i: u8, count: u8) -> u16
     bits
 }
 
-// Returns the number of changes after the first that a reconfiguration may see.
+// Returns the maximum number of changes after the first that a reconfiguration may see.
 fn further(spec: &Spec) -> u32
     ensures value { result ≡ further spec.now.policy spec.now.changes }
     ensures most { result ≤ 256 }
@@ -70,7 +71,7 @@ fn further(spec: &Spec) -> u32
     }
 }
 
-// Returns the length of the longest way from one target's choice to the next, in frames.
+// Returns the maximum length of the way from one target's choice to the next, in frames.
 fn slowest(spec: &Spec) -> u32
     ensures value { result ≡ slowest spec.now }
     ensures most { result ≤ 196606 }
@@ -90,7 +91,7 @@ fn way(spec: &Spec, k: ConfId) -> u32
     u32::from(times.p) + u32::from(times.i) + 1 + u32::from(times.h)
 }
 
-// Returns the refusal of a pair of configurations whose bound is too small or missing (A9).
+// Returns the refusal for the first pair of configurations whose bound is too small or missing (A9), or `None`.
 pub(crate) fn refuse_bound(spec: &Spec, covers: &[Cover; 12]) -> Option<Shown>
     requires { HasCovers spec.now covers.now }
     ensures { result ≡ bound_refusal spec.now }
@@ -117,7 +118,7 @@ fn refuse_bound_of(spec: &Spec, cover: &Cover, i: u8) -> Option<Shown>
     None
 }
 
-// Returns whether a bound from `i` to `j` is required, by the cover of `i`.
+// Returns whether a bound from `i` to `j` is required, given the cover of `i`.
 fn is_bound_asked(spec: &Spec, cover: &Cover, i: u8, j: u8) -> bool
     requires known { IsSpec spec.now }
     requires cover { IsCover spec.now (conf_id i) cover.now }
@@ -150,7 +151,8 @@ pub fn is_bounded(spec: &Spec, i: ConfId, j: ConfId) -> bool
     }
 }
 
-// Returns the refusal of a window that is shorter than the longest reconfiguration and the frame after it (A10).
+// Returns the refusal if the window is shorter than the longest reconfiguration and the frame after it (A10), or
+// `None`.
 pub(crate) fn refuse_window(spec: &Spec) -> Option<Shown>
     ensures { result ≡ window_refusal spec.now }
 {

@@ -9,40 +9,41 @@ use Rattle.choice_table.specs.Choices.{IsTarget, choose, has_rule, is_runnable}
 use Rattle.choice_table.specs.Numbering.{number_of}
 use Rattle.cube_cover.specs.declared.answers.Cover.{Cover}
 
--- An environment in scope that passes a test, such that no other such environment has a smaller number.
+-- `found` is an environment in scope that passes the test, and no other such environment has a smaller number.
 pub record IsLeast (spec : Parts) (test : Env → Bool) (found : Env) : Type 0 where
   pub belongs : IsEnv spec found
   pub scope : in_scope spec found ≡ true
   pub passes : test found ≡ true
   pub least : (v : Env) → IsEnv spec v → in_scope spec v ≡ true → test v ≡ true → number_of spec found ≤ number_of spec v
 
--- The environment in scope with the smallest number that passes a test, or none if no environment in scope passes the
--- test.
+-- The optional environment is the one in scope with the smallest number that passes the test, or none if no environment
+-- in scope passes.
 abbrev pub IsLeastEnv : Parts → (Env → Bool) → Option Env → Type 0
 IsLeastEnv spec test (Some found) = IsLeast spec test found
 IsLeastEnv spec test None = (v : Env) → IsEnv spec v → in_scope spec v ≡ true → test v ≡ false
 
--- The environment with the smaller number of two optional environments.
+-- The environment with the smaller number of two optional environments, or the one that is present, or none.
 abbrev pub earlier_env : Parts → Option Env → Option Env → Option Env
 earlier_env spec None None = None
 earlier_env spec (Some v) None = Some v
 earlier_env spec None (Some w) = Some w
 earlier_env spec (Some v) (Some w) = if nat_le (number_of spec v) (number_of spec w) then Some v else Some w
 
--- No rule fits configuration `i`.
+-- Whether no rule fits configuration `i` in an environment.
 abbrev pub is_unfit : Parts → ConfId → Env → Bool
 is_unfit spec i v = not (has_rule spec i v)
 
--- The configuration that is chosen from configuration `i` cannot run.
+-- Whether the configuration that is chosen from configuration `i` in an environment cannot run in it.
 abbrev pub cannot_run : Parts → ConfId → Env → Bool
 cannot_run spec i v = not (is_runnable spec (choose spec i v) v)
 
--- Another configuration is chosen from the configuration that is chosen from configuration `i`.
+-- Whether another configuration is chosen, in the same environment, from the configuration that is chosen from
+-- configuration `i`.
 abbrev pub is_left_again : Parts → ConfId → Env → Bool
 is_left_again spec i v = not ((choose spec (choose spec i v) v).0 == (choose spec i v).0)
 
--- A cover of configuration `i`: exactly its possible targets, and the first environments that break a requirement on
--- the table.
+-- `cover` is the cover of configuration `i`. Its targets are exactly the possible targets, and its environments are the
+-- first that break a requirement on the table.
 pub record IsCover (spec : Parts) (i : ConfId) (cover : Cover) : Type 0 where
   pub few : cover.targets < 2 ^ length spec.confs
   pub only : (j : ConfId) → has_bit cover.targets j.0 ≡ true → IsTarget spec i j

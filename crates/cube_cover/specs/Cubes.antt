@@ -14,47 +14,48 @@ use Rattle.cube_cover.specs.declared.cubes.Cube.{Cube}
 unfoldable pub digit_in : Env → ℕ → ℕ
 digit_in v x = if nat_lt x 6 then factor_in v x else (if is_up_in v (x - 6) then 0 else 1)
 
--- An environment of some specification of at most six factors of at most four values, and eight processors.
+-- The digits of an environment are those of some specification with at most six factors of at most four values, and at
+-- most eight processors.
 pub record HasDigits (v : Env) : Type 0 where
   pub small : (x : ℕ) → digit_in v x < 4
   pub past : (x : ℕ) → 6 ≤ x → factor_in v x ≡ 0
   pub few : v.up < 256
 
--- The digit of the environment at place `x` is open in the cube.
+-- Whether the digit of an environment at place `x` is open in a cube.
 abbrev pub allows : Cube → Env → ℕ → Bool
 allows cube v x = has_bit cube.bits (4 * x + digit_in v x)
 
--- The environment's digit is open in the cube at each place.
+-- Whether a cube holds an environment: at each place, the environment's digit is open in the cube.
 unfoldable pub holds : Cube → Env → Bool
 holds cube v = all_below (allows cube v) 14
 
--- Processor `p` may be up, as digit 0 is open at its place.
+-- Whether processor `p` may be up in a cube: digit 0 is open at the processor's place.
 abbrev pub may_be_up : Cube → ℕ → Bool
 may_be_up cube p = has_bit cube.bits (4 * (6 + p) + 0)
 
--- One of the cubes holds the environment.
+-- Whether some cube of a list holds an environment.
 unfoldable pub is_in : List Cube → Env → Bool
 is_in cubes v = list_any (λ (cube : Cube). holds cube v) cubes
 
--- 1 if a test passes, else 0.
+-- 1 if a test passes, or 0 if it fails.
 abbrev pub once : Bool → ℕ
 once test = if test then 1 else 0
 
--- The number of cubes that hold the environment.
+-- The number of cubes of a list that hold an environment.
 unfoldable pub holders : List Cube → Env → ℕ
 holders [] v = 0
 holders (cube ∷ cubes) v = once (holds cube v) + holders cubes v
 
--- An environment can have digit `d` at place `x`.
+-- Whether an environment of a specification can have digit `d` at place `x`.
 unfoldable pub is_digit : Parts → ℕ → ℕ → Bool
 is_digit spec x d =
     if nat_lt x 6 then (d == 0 || nat_lt d (value_count spec.factors x)) else (d == 1 || (d == 0 && nat_lt x (length spec.procs + 6)))
 
--- The bits of all digits at place `x`.
+-- A mask with the bits of all digits at place `x`.
 unfoldable pub field_of : ℕ → ℕ
 field_of x = 15 * 2 ^ (4 * x)
 
--- An environment of the specification that is in scope.
+-- `v` is an environment of the specification and is in scope.
 pub record IsInScope (spec : Parts) (v : Env) : Type 0 where
   pub belongs : IsEnv spec v
   pub scope : in_scope spec v ≡ true
@@ -63,17 +64,17 @@ pub record IsInScope (spec : Parts) (v : Env) : Type 0 where
 abbrev pub Agree : Parts → (Env → Bool) → (Env → Bool) → Type 0
 Agree spec one other = (v : Env) → IsInScope spec v → one v ≡ other v
 
--- Each environment in scope is held by one cube more than before if it passes a test, and by the same number of cubes
--- otherwise.
+-- For each environment in scope, the second list has one cube more that holds the environment if it passes the test,
+-- and the same number otherwise.
 abbrev pub Gain : Parts → List Cube → List Cube → (Env → Bool) → Type 0
 Gain spec before after test = (v : Env) → IsInScope spec v → holders after v ≡ holders before v + once (test v)
 
--- In scope, the two lists hold the parts of the cubes inside and outside of `by`. Each environment is held by the same
--- number of cubes as before.
+-- In scope, the lists `inside` and `outside` hold the parts of the cubes inside and outside of `by`. Together they hold
+-- each environment as often as the cubes do.
 pub record IsSplit (spec : Parts) (cubes : List Cube) (by : Cube) (inside outside : List Cube) : Type 0 where
   pub within : (v : Env) → IsInScope spec v → holders inside v ≡ (if holds by v then holders cubes v else 0)
   pub beyond : (v : Env) → IsInScope spec v → holders outside v ≡ (if holds by v then 0 else holders cubes v)
 
--- No environment in scope is held by two of the cubes.
+-- No environment in scope is held by two cubes of the list.
 abbrev pub AreDisjoint : Parts → List Cube → Type 0
 AreDisjoint spec cubes = (v : Env) → IsInScope spec v → holders cubes v ≤ 1

@@ -8,20 +8,20 @@ use Rattle.choice_table.specs.Choices.{IsTarget, choose, is_runnable}
 use Rattle.cube_cover.specs.declared.covers.Finding.{Finding}
 use Rattle.cube_cover.specs.Covers.{IsLeastEnv}
 
--- Configuration number `t` is chosen from configuration `i`.
+-- Whether configuration `t` is chosen from configuration `i` in an environment.
 abbrev pub is_chosen_at : Parts → ConfId → ℕ → Env → Bool
 is_chosen_at spec i t v = (choose spec i v).0 == t
 
--- Target `t` is chosen from configuration `i` and cannot run.
+-- Whether target `t` is chosen from configuration `i` in an environment and cannot run in it.
 abbrev pub is_stuck_at : Parts → ConfId → ℕ → Env → Bool
 is_stuck_at spec i t v = is_chosen_at spec i t v && not (is_runnable spec (conf_id t) v)
 
--- Target `t` is chosen from configuration `i`, and another target is chosen from `t`.
+-- Whether target `t` is chosen from configuration `i` in an environment, and another target is chosen from `t`.
 abbrev pub is_left_at : Parts → ConfId → ℕ → Env → Bool
 is_left_at spec i t v = is_chosen_at spec i t v && not ((choose spec (conf_id t) v).0 == t)
 
--- The finding on target `t` of configuration `i`: whether `t` is chosen, and the first environments, by number, in
--- which it cannot run or is left again.
+-- `finding` is the finding on target `t` of configuration `i`. It says whether `t` is chosen, and has the first
+-- environments, by number, in which `t` cannot run or is left again.
 pub record IsFinding (spec : Parts) (i : ConfId) (t : ℕ) (finding : Finding) : Type 0 where
   pub only : finding.is_chosen ≡ true → IsTarget spec i (conf_id t)
   pub all : IsTarget spec i (conf_id t) → finding.is_chosen ≡ true

@@ -20,6 +20,6 @@ least_env spec cube = record {
   factors = least_digit cube 0 ∷ least_digit cube 1 ∷ least_digit cube 2 ∷ least_digit cube 3 ∷ least_digit cube 4 ∷ least_digit cube 5 ∷ [];
 }
 
--- Each factor has a value that the specification allows.
+-- Whether each factor of an environment has a value that the specification allows.
 unfoldable pub belongs : Parts → Env → Bool
 belongs spec v = all_below (λ x. is_digit spec x (factor_in v x)) 6

@@ -10,15 +10,16 @@ use Rattle.cube_cover.specs.declared.cubes.Cube.{Cube}
 use Rattle.cube_cover.specs.declared.regions.Region.{Region}
 use Rattle.cube_cover.specs.Cubes.{Agree, holds, is_in}
 
--- A region whose target passes a test holds the environment.
+-- Whether a region holds an environment and its target passes a test.
 abbrev pub is_held : (ℕ → Bool) → Env → Region → Bool
 is_held passes v region = passes region.target.0 && holds region.cube v
 
--- Some region whose target passes a test holds the environment.
+-- Whether some region of a list holds an environment and has a target that passes a test.
 unfoldable pub is_marked : List Region → (ℕ → Bool) → Env → Bool
 is_marked regions passes v = list_any (is_held passes v) regions
 
--- The first rule that fits has a target that passes a test. It is false if no rule fits.
+-- Whether the first rule that fits configuration `c` has a target that passes a test. The value is `false` if no rule
+-- fits.
 unfoldable pub is_ruled : List Choice → ConfId → (ℕ → Bool) → Env → Bool
 is_ruled [] c passes v = false
 is_ruled (rule ∷ rules) c passes v = if rule_fits c v rule then passes rule.to.0 else is_ruled rules c passes v

@@ -13,30 +13,33 @@ use Rattle.cube_cover.specs.Cubes.{holders, IsInScope}
 use Rattle.cube_cover.specs.declared.cubes.Cube.{Cube}
 use Rattle.cube_cover.specs.Sizes.{count_where, passes_at, sum_below}
 
--- The index of the first rule that fits configuration `c`, or the number of rules if no rule fits.
+-- The index of the first rule that fits configuration `c` in an environment, or the number of rules if no rule fits.
 abbrev pub first_rule : List Choice → ConfId → Env → ℕ
 first_rule [] c v = 0
 first_rule (rule ∷ rules) c v = if rule_fits c v rule then 0 else suc (first_rule rules c v)
 
--- Rule `k` is the first that fits configuration `c`, or no rule fits if `k` is the number of rules.
+-- Whether rule `k` is the first that fits configuration `c` in an environment. If `k` is the number of rules, the value
+-- says whether no rule fits.
 abbrev pub is_ruled_by : Parts → ConfId → ℕ → Env → Bool
 is_ruled_by spec c k v = first_rule spec.rules c v == k
 
--- The environment in scope with the smallest number that passes a test, or none.
+-- The environment in scope with the smallest number that passes a test, or none if no environment in scope passes.
 abbrev pub first_where : Parts → (Env → Bool) → Option Env
 first_where spec test = first_below (λ n. if passes_at spec test n then Some (numbered spec n) else None) (environments spec)
 
--- The number of environments in scope in which a test passes, and the first of them, by number.
+-- `share` has the number of environments in scope that pass the test, and the first of them, by number.
 pub record IsShare (spec : Parts) (test : Env → Bool) (share : Share) : Type 0 where
   pub count : share.count ≡ count_where spec test
   pub first : IsLeastEnv spec test share.first
 
--- The shares of a configuration: the share of each rule, followed by the share in which no rule fits.
+-- `shares` has the share of each rule for configuration `c`, followed by the share of the environments in which no rule
+-- fits.
 pub record AreShares (spec : Parts) (c : ConfId) (shares : List Share) : Type 0 where
   pub width : length shares ≡ suc (length spec.rules)
   pub each : (k : ℕ) (share : Share) → slice_get shares k ≡ Some share → IsShare spec (is_ruled_by spec c k) share
 
--- In scope, the cubes hold no environment that the rule fits, and hold each other environment as often as before.
+-- In scope, the second list holds no environment that the rule fits, and holds each other environment as often as the
+-- first list.
 abbrev pub HoldsRest : Parts → ConfId → Choice → List Cube → List Cube → Type 0
 HoldsRest spec c rule before after = (v : Env) → IsInScope spec v → holders after v ≡ (if rule_fits c v rule then 0 else holders before v)
 

@@ -8,11 +8,11 @@ use Rattle.scram_types.specs.Specification.{Parts}
 use Rattle.choice_table.specs.Numbering.{environments, is_down_in_scope, is_number_in_scope, numbered}
 use Rattle.cube_cover.specs.declared.cubes.Cube.{Cube}
 
--- Environment number `n` is in scope and passes a test.
+-- Whether environment number `n` is in scope and passes a test.
 abbrev pub passes_at : Parts → (Env → Bool) → ℕ → Bool
 passes_at spec test n = is_number_in_scope spec n && test (numbered spec n)
 
--- The number of environments in scope in which a test passes.
+-- The number of environments in scope that pass a test.
 abbrev pub count_where : Parts → (Env → Bool) → ℕ
 count_where spec test = count_below (passes_at spec test) (environments spec)
 
@@ -21,7 +21,7 @@ abbrev pub sum_below : (ℕ → ℕ) → ℕ → ℕ
 sum_below value zero = 0
 sum_below value (suc n) = sum_below value n + value n
 
--- Digit `d` is open at place `x`.
+-- Whether digit `d` is open at place `x` of a cube.
 abbrev pub is_open_digit : Cube → ℕ → ℕ → Bool
 is_open_digit cube x d = has_bit cube.bits (4 * x + d)
 
@@ -29,20 +29,20 @@ is_open_digit cube x d = has_bit cube.bits (4 * x + d)
 abbrev pub digit_of_processor : ℕ → ℕ → ℕ
 digit_of_processor up p = if has_bit up p then 0 else 1
 
--- The cube allows exactly the processors of the set `up` to be up.
+-- Whether a cube allows exactly the processors of the set `up` to be up.
 abbrev pub allows_up : Cube → ℕ → Bool
 allows_up cube up = all_below (λ p. is_open_digit cube (6 + p) (digit_of_processor up p)) 8
 
--- The cube and the scope allow exactly the processors of the set `down` to be down.
+-- Whether a cube and the scope allow exactly the processors of the set `down` to be down.
 abbrev pub is_down_held : Parts → Cube → ℕ → Bool
 is_down_held spec cube down = allows_up cube (2 ^ length spec.procs - 1 - down) && is_down_in_scope spec down
 
--- The values of a list are open at the places from `x` on.
+-- Whether the values of a list are open in a cube at the places from `x` on, each at its own place.
 abbrev pub are_open : Cube → ℕ → List ℕ → Bool
 are_open cube x [] = true
 are_open cube x (value ∷ values) = is_open_digit cube x value && are_open cube (suc x) values
 
--- The number of combinations of open values of factors, the first of which is factor `x`.
+-- The number of combinations of values of the factors from factor `x` on that are open in a cube.
 abbrev pub open_ways : Cube → ℕ → List Factor → ℕ
 open_ways cube x [] = 1
 open_ways cube x (factor ∷ factors) = count_below (is_open_digit cube x) (length factor.values) * open_ways cube (suc x) factors

@@ -5,12 +5,12 @@ use scram_types::Env;
 /// The outcome of a configuration's choices over all environments in scope.
 #[derive(Clone, Copy, Debug, PartialEq, Eq)]
 pub struct Cover {
-    /// The possible targets, as bits: bit `j` is set if configuration `j` is chosen in some environment.
+    /// The set of possible targets: bit `j` is set if configuration `j` is chosen in some environment in scope.
     pub targets: u16,
-    /// The first environment, by number, in which no rule fits.
+    /// The first environment in scope, by number, in which no rule fits, or `None`.
     pub unfit: Option<Env>,
-    /// The first environment, by number, in which the target cannot run.
+    /// The first environment in scope, by number, in which the target cannot run, or `None`.
     pub not_runnable: Option<Env>,
-    /// The first environment, by number, in which the table chooses another target from the target.
+    /// The first environment in scope, by number, in which the table chooses another target from the target, or `None`.
     pub unsettled: Option<Env>,
 }

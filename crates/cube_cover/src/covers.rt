@@ -1,4 +1,4 @@
-//! Computing the cover of a configuration.
+//! The computation of the cover of a configuration.
 
 ghost use Rattle.std.specs.Prelude.{◌≡◌, ◌+◌, ◌^◌, ◌<◌, ◌≤◌, ◌&&◌, ◌==◌, IfOk, if◌then◌else◌, length, not, true};
 ghost use Rattle.scram_types.specs.Lookups.{conf_id};
@@ -25,8 +25,8 @@ pub(crate) struct Finding {
     unsettled: Option<Env>,
 }
 
-/// Returns the cover of configuration `i`. It has the possible targets, and the first environments in scope, by number,
-/// in which no rule fits, the target cannot run, or another target is chosen from the target.
+/// Returns the cover of configuration `i`: its possible targets, and the first environments in scope in which a
+/// requirement on the table is broken.
 ///
 /// # Errors
 ///
@@ -60,7 +60,7 @@ fn count_confs(spec: &Spec) -> u8
     spec.confs.items().len() as u8
 }
 
-// Returns a vector with the cube that holds all environments.
+// Returns a vector with one cube, which holds all environments.
 pub(crate) fn all_cubes(alloc: Global, spec: &Spec) -> Result<Vec<Cube>, NoMemory>
     requires { IsSpec spec.now }
     ensures all { IfOk result (λ cubes. Agree spec.now (is_in cubes.items) (λ v. true)) }
@@ -71,7 +71,7 @@ pub(crate) fn all_cubes(alloc: Global, spec: &Spec) -> Result<Vec<Cube>, NoMemor
     Ok(cubes)
 }
 
-// Returns the regions, followed by the cubes that no rule fits, with configuration `i` itself as their target.
+// Returns the regions, followed by the cubes that no rule fits as regions with target `i`.
 pub(crate) fn all_regions(found: Regions, i: ConfId) -> Result<Vec<Region>, NoMemory>
     ensures { IfOk result (λ regions. MarksMore found.ruled.items regions.items found.unruled.items i) }
 {
@@ -104,8 +104,8 @@ fn find(
     })
 }
 
-// Returns the first environment of the cubes, by number, in which another target is chosen from `t`, or `None`.
-// Configuration `i` itself counts as settled if it is chosen from itself.
+// Returns the first environment of the cubes, by number, in which another target is chosen from `t`, or `None` if there
+// is none. If `t` is `i`, the choice of `i` from itself counts as settled.
 fn find_unsettled(
     alloc: Global,
     spec: &Spec,

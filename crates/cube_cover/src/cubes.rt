@@ -85,8 +85,7 @@ fn with_wants(wants: &[Want]) -> Cube
     cube
 }
 
-// Returns the environments of the cube in which a factor has a required value. A factor past the last possible one has
-// value 0.
+// Returns the part of the cube in which a factor has a required value. A factor past the last possible one has value 0.
 fn with_wanted(cube: Cube, want: &Want) -> Cube
     ensures { (v : Env) → HasDigits v → holds result v ≡ (holds cube v && has_wanted v want.now) }
 {
@@ -99,21 +98,21 @@ fn with_wanted(cube: Cube, want: &Want) -> Cube
     }
 }
 
-// Returns the environments of the cube in which each processor of the set is up.
+// Returns the part of the cube in which each processor of the set is up.
 fn with_up(cube: Cube, set: u8) -> Cube
     ensures { (v : Env) → HasDigits v → holds result v ≡ (holds cube v && all_up set v) }
 {
     with_processors(cube, set, 0)
 }
 
-// Returns the environments of the cube in which each processor of the set is down.
+// Returns the part of the cube in which each processor of the set is down.
 fn with_down(cube: Cube, set: u8) -> Cube
     ensures { (v : Env) → HasDigits v → holds result v ≡ (holds cube v && all_down set v) }
 {
     with_processors(cube, set, 1)
 }
 
-// Returns the environments of the cube that have digit `d` at the place of each processor of the set.
+// Returns the part of the cube with digit `d` at the place of each processor of the set.
 fn with_processors(cube: Cube, set: u8, d: u8) -> Cube
     ensures { (v : Env) → HasDigits v → holds result v ≡ (holds cube v && all_below (λ p. not (has_bit set p) || (digit_in v (6 + p) == d)) 8) }
 {
@@ -170,7 +169,7 @@ fn with_place(cube: Cube, place: &Option<Place>) -> Cube
     }
 }
 
-// Returns the environments of the cube with digit `d` at place `x`.
+// Returns the part of the cube with digit `d` at place `x`.
 fn with_digit(cube: Cube, x: u8, d: u8) -> Cube
     requires { x < 14 }
     ensures { (v : Env) → HasDigits v → holds result v ≡ (holds cube v && (digit_in v x == d)) }
@@ -185,7 +184,7 @@ fn with_digit(cube: Cube, x: u8, d: u8) -> Cube
     }
 }
 
-// Returns the environments of the cube whose digit at place `x` is open in the cube `by`.
+// Returns the part of the cube whose digit at place `x` is open in the cube `by`.
 pub(crate) fn inside_at(cube: Cube, by: Cube, x: u8) -> Cube
     requires { x < 14 }
     ensures { (v : Env) → HasDigits v → holds result v ≡ (holds cube v && allows by v x) }
@@ -195,7 +194,7 @@ pub(crate) fn inside_at(cube: Cube, by: Cube, x: u8) -> Cube
     }
 }
 
-// Returns the environments of the cube whose digit at place `x` is not open in the cube `by`.
+// Returns the part of the cube whose digit at place `x` is not open in the cube `by`.
 pub(crate) fn outside_at(cube: Cube, by: Cube, x: u8) -> Cube
     requires { x < 14 }
     ensures { (v : Env) → HasDigits v → holds result v ≡ (holds cube v && not (allows by v x)) }
@@ -205,7 +204,7 @@ pub(crate) fn outside_at(cube: Cube, by: Cube, x: u8) -> Cube
     }
 }
 
-// Returns whether some digit is open at place `x`. If none is, the cube holds no environment.
+// Returns whether some digit is open at place `x`. If no digit is open, the cube holds no environment.
 pub(crate) fn is_open_at(cube: Cube, x: u8) -> bool
     requires { x < 14 }
     ensures { (v : Env) → HasDigits v → holds cube v ≡ true → result ≡ true }
@@ -213,7 +212,7 @@ pub(crate) fn is_open_at(cube: Cube, x: u8) -> bool
     cube.bits & field(x) != 0
 }
 
-// Returns the bits of all digits at place `x`.
+// Returns a mask with the bits of all digits at place `x`.
 fn field(x: u8) -> u64
     requires { x < 14 }
     ensures { result ≡ field_of x }
@@ -221,7 +220,7 @@ fn field(x: u8) -> u64
     15 << (4 * x)
 }
 
-// Returns the environments that both cubes hold.
+// Returns the cube of the environments that both cubes hold.
 pub(crate) fn both(one: Cube, other: Cube) -> Cube
     ensures { (v : Env) → holds result v ≡ (holds one v && holds other v) }
 {
@@ -230,8 +229,8 @@ pub(crate) fn both(one: Cube, other: Cube) -> Cube
     }
 }
 
-// Returns whether each place has a digit that is open in both cubes. If some place has none, no environment is held by
-// both.
+// Returns whether each place has a digit that is open in both cubes. If some place has no such digit, the cubes share
+// no environment.
 pub(crate) fn meet(one: Cube, other: Cube) -> bool
     ensures { (v : Env) → HasDigits v → (holds one v && holds other v) ≡ true → result ≡ true }
 {

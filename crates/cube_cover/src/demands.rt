@@ -20,8 +20,8 @@ use scram_types::{ConfId, Demand, Env, NoMemory, Spec};
 use std::alloc::Global;
 
 /// Returns for each demand, in order, the first environment in scope, by number, in which the table misses the demand
-/// from configuration `i`, or `None`. A demand is missed if it speaks of the environment and asks something of a choice
-/// from `i`, and the chosen configuration does not meet it.
+/// from configuration `i`, or `None` if there is none. A demand is missed if it speaks of the environment and asks
+/// something of a choice from `i`, and the chosen configuration does not meet it.
 ///
 /// # Errors
 ///
@@ -51,8 +51,8 @@ fn chosen_regions(alloc: Global, spec: &Spec, i: ConfId) -> Result<Vec<Region>, 
     Ok(regions)
 }
 
-// Returns the first environment, by number, in which the table misses a demand from configuration `i`, or `None`.
-// `regions` are the regions of `i`.
+// Returns the first environment, by number, in which the table misses a demand from configuration `i`, or `None` if
+// there is none. `regions` are the regions of `i`.
 fn least_miss(spec: &Spec, i: ConfId, demand: &Demand, regions: &[Region]) -> Option<Env>
     requires known { IsSpec spec.now }
     requires inside { i.0 < length spec.now.confs }
@@ -65,7 +65,7 @@ fn least_miss(spec: &Spec, i: ConfId, demand: &Demand, regions: &[Region]) -> Op
     least_outside(spec, regions, met_by(spec, demand), demand_cube(demand))
 }
 
-// Returns the configurations that meet a demand, as bits.
+// Returns the set of configurations that meet a demand, as bits.
 fn met_by(spec: &Spec, demand: &Demand) -> u16
     ensures { result ≡ bits_below (λ c. is_met spec.now demand.now (conf_id c)) 12 }
 {
@@ -78,7 +78,8 @@ fn met_by(spec: &Spec, demand: &Demand) -> u16
     bits
 }
 
-// Returns the first environment of the cube `by`, by number, whose target is not in the set `met`, or `None`.
+// Returns the first environment of the cube `by`, by number, whose target is not in the set `met`, or `None` if there
+// is none.
 fn least_outside(spec: &Spec, regions: &[Region], met: u16, by: Cube) -> Option<Env>
     requires { IsSpec spec.now }
     ensures { IsLeastEnv spec.now (λ v. is_marked regions.now (is_outside met) v && holds by v) result }

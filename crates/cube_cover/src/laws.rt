@@ -2,8 +2,8 @@
 
 ghost use Rattle.cube_cover.specs.Shares.{SharesAddUp};
 
-/// The environments in which some rule is the first that fits a configuration, and those in which none fits, are all
-/// environments in scope, each counted once.
+/// States that the shares of a configuration count each environment in scope once. A share belongs to each rule, and
+/// the last share to the environments that no rule fits.
 pub fn shares_add_up()
     ensures { SharesAddUp }
 {}

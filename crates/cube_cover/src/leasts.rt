@@ -12,7 +12,8 @@ use choice_table::{in_scope, number_of};
 use scram_types::bits::has_bit;
 use scram_types::{Env, Spec};
 
-// Returns the environment in scope with the smallest number that one of the cubes holds, or `None` if they hold none.
+// Returns the environment in scope with the smallest number that one of the cubes holds, or `None` if they hold no
+// environment in scope.
 pub(crate) fn least_of(spec: &Spec, cubes: &[Cube]) -> Option<Env>
     requires { IsSpec spec.now }
     ensures { IsLeastEnv spec.now (is_in cubes.now) result }
@@ -24,7 +25,8 @@ pub(crate) fn least_of(spec: &Spec, cubes: &[Cube]) -> Option<Env>
     least
 }
 
-// Returns the environment with the smaller number, or the one that is present, or `None`.
+// Returns the environment with the smaller number of two optional environments. If only one is present, returns that
+// environment; if neither is, returns `None`.
 pub(crate) fn earlier_env(spec: &Spec, one: Option<Env>, other: Option<Env>) -> Option<Env>
     ensures { result ≡ earlier_env spec.now one other }
 {
@@ -42,7 +44,8 @@ pub(crate) fn earlier_env(spec: &Spec, one: Option<Env>, other: Option<Env>) -> 
     }
 }
 
-// Returns the environment in scope with the smallest number that a cube holds, or `None` if it holds none.
+// Returns the environment in scope with the smallest number that a cube holds, or `None` if the cube holds no
+// environment in scope.
 pub(crate) fn least_env(spec: &Spec, cube: Cube) -> Option<Env>
     requires { IsSpec spec.now }
     ensures { IsLeastEnv spec.now (holds cube) result }
@@ -55,7 +58,8 @@ pub(crate) fn least_env(spec: &Spec, cube: Cube) -> Option<Env>
     }
 }
 
-// Returns the environment with the smallest open digits of a cube. Processors past the last one are not up.
+// Returns the environment with the smallest open digit of a cube at each place. Processors past the last one are not
+// up.
 fn make_least(spec: &Spec, cube: Cube) -> Env
     ensures { result ≡ least_env spec.now cube }
 {
@@ -101,7 +105,7 @@ fn least_digit(cube: Cube, x: u8) -> u8
     }
 }
 
-// Returns whether each factor has a value that the specification allows.
+// Returns whether each factor of an environment has a value that the specification allows.
 fn belongs(spec: &Spec, env: &Env) -> bool
     ensures { result ≡ belongs spec.now env.now }
 {

@@ -18,7 +18,8 @@ pub(crate) struct Region {
     pub(crate) target: ConfId,
 }
 
-// The regions of the cubes of a configuration: those in which some rule fits, with their targets, and the rest.
+// The cubes of a configuration, divided by its rules: the regions that some rule fits, with their targets, and the
+// remaining cubes.
 #[derive(Drop)]
 pub(crate) struct Regions {
     pub(crate) ruled: Vec<Region>,
@@ -53,7 +54,8 @@ pub(crate) fn regions_of(
     })
 }
 
-// Moves the environments that a rule fits from the cubes to the regions, and returns the rest.
+// Moves the environments that a rule fits from the cubes to the regions, and returns the cubes of the remaining
+// environments.
 fn apply_rule(
     alloc: Global,
     source: &Source,
@@ -85,7 +87,7 @@ pub(crate) fn is_source(from: Option<ConfId>, c: ConfId) -> bool
     }
 }
 
-// Appends cubes with the same target to the regions.
+// Appends cubes to the regions, each with the same target.
 pub(crate) fn assign(
     regions: &mut Vec<Region>,
     cubes: &[Cube],
@@ -128,7 +130,7 @@ pub(crate) fn with_other_target(
     Ok(cubes)
 }
 
-// Appends a cube to others if it is selected.
+// Appends a cube to a list if `is_wanted` is `true`.
 fn push_where(cubes: &mut Vec<Cube>, cube: Cube, is_wanted: bool) -> Result<(), NoMemory>
     ensures { OnOk result (HoldsMore cubes.old.items cubes.new.items cube is_wanted) }
 {

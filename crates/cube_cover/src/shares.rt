@@ -1,4 +1,4 @@
-//! The environments in scope, divided by the first rule that fits.
+//! The environments in scope, divided by the first rule that fits them.
 
 ghost use Rattle.std.specs.Prelude.{◌≡◌, ◌&&◌, IfOk};
 ghost use Rattle.scram_types.specs.Specification.{IsSpec};
@@ -16,14 +16,14 @@ use crate::splits::split_by;
 use scram_types::{Choice, ConfId, Env, NoMemory, Spec};
 use std::alloc::Global;
 
-/// A share of the environments in scope: their number, and the first of them, by number.
+/// A share of the environments in scope: the number of environments, and the first of them, by number.
 #[derive(Clone, Copy, Debug, PartialEq, Eq)]
 pub struct Share {
     pub count: u32,
     pub first: Option<Env>,
 }
 
-// The share that a rule takes of some cubes, and the cubes of the rest.
+// The share that a rule takes of some cubes, and the remaining cubes.
 #[derive(Drop)]
 struct Taken {
     share: Share,
@@ -51,7 +51,7 @@ pub fn shares_of(alloc: Global, spec: &Spec, c: ConfId) -> Result<Vec<Share>, No
     Ok(shares)
 }
 
-/// Returns the index of the first rule that fits configuration `c` in an environment, or the number of rules if none
+/// Returns the index of the first rule that fits configuration `c` in an environment, or the number of rules if no rule
 /// fits.
 pub fn first_rule(spec: &Spec, c: ConfId, env: &Env) -> usize
     requires { IsEnv spec.now env.now }

@@ -25,8 +25,8 @@ pub(crate) fn count_held(spec: &Spec, cubes: &[Cube]) -> u32
     count
 }
 
-// Returns the number of environments in scope that a cube holds. It is the product of the number of sets of processors
-// that may be down and the number of combinations of open values.
+// Returns the number of environments in scope that a cube holds. This is the number of sets of processors that may be
+// down times the number of combinations of open values.
 fn size_of(spec: &Spec, cube: Cube) -> u32
     requires { IsSpec spec.now }
     ensures { result ≡ count_where spec.now (holds cube) }
@@ -105,7 +105,7 @@ fn is_down_held(spec: &Spec, cube: Cube, down: u32) -> bool
     allows_up(cube, up) && in_scope(spec, &env)
 }
 
-// Returns the processors that are up if those of the set `down` are down.
+// Returns the set of processors that are up if exactly the processors of the set `down` are down.
 fn up_beside(spec: &Spec, down: u32) -> u8
     requires known { IsSpec spec.now }
     requires set { down < 2 ^ length spec.now.procs }

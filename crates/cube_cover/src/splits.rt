@@ -1,4 +1,4 @@
-//! Splitting cubes by a cube.
+//! The splitting of cubes by another cube.
 
 ghost use Rattle.std.specs.Prelude.{◌≡◌, ◌&&◌, ◌<◌, IfOk, OnOk, length, not};
 ghost use Rattle.scram_types.specs.Bits.{count_below};
@@ -9,7 +9,7 @@ use crate::cubes::{Cube, inside_at, is_open, is_open_at, meet, outside_at};
 use scram_types::{NoMemory, Spec};
 use std::alloc::Global;
 
-// Cubes inside a cube, and cubes outside of it.
+// The parts of cubes inside a cube, and the parts outside of it.
 #[derive(Drop)]
 pub(crate) struct Split {
     pub(crate) inside: Vec<Cube>,
@@ -34,8 +34,8 @@ pub(crate) fn split_by(
     Ok(Split { inside, outside })
 }
 
-// Appends the parts of a cube inside and outside of `by` to two lists. A cube that does not meet `by` lies outside as a
-// whole.
+// Appends the parts of a cube inside and outside of `by` to two lists. If the cube does not meet `by`, all of it lies
+// outside.
 fn split_cube(
     spec: &Spec,
     cube: Cube,
@@ -56,7 +56,7 @@ fn split_cube(
     Ok(())
 }
 
-// Cuts off the parts outside of the cube `by`, place by place, and returns the part inside.
+// Cuts off the parts of a cube outside of the cube `by`, place by place, and returns the part inside.
 fn cut(spec: &Spec, cube: Cube, by: Cube, outside: &mut Vec<Cube>) -> Result<Cube, NoMemory>
     requires { IsSpec spec.now }
     ensures beyond { OnOk result (Gain spec.now outside.old.items outside.new.items (λ v. holds cube v && not (holds by v))) }
@@ -89,7 +89,7 @@ fn push_outside_at(
     Ok(())
 }
 
-// Appends a cube to others, unless more processors are down in all its environments than the scope allows.
+// Appends a cube to a list, unless more processors are down in all its environments than the scope allows.
 fn push_in_scope(spec: &Spec, cube: Cube, cubes: &mut Vec<Cube>) -> Result<(), NoMemory>
     requires { IsSpec spec.now }
     ensures { OnOk result (Gain spec.now cubes.old.items cubes.new.items (holds cube)) }

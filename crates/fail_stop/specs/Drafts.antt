@@ -14,7 +14,7 @@ use Rattle.frame_model.specs.Storage.{kernel_image}
 use Rattle.frame_model.specs.Tasks.{off_task, task_of}
 use Rattle.fail_stop.specs.declared.snapshots.Snapshot.{Snapshot}
 
--- The task of application `a` among the eight tasks.
+-- The task of application `a` in a list of eight tasks.
 abbrev pub task_among : List Task → ℕ → Task
 task_among tasks a = slice_index_or tasks a off_task
 
@@ -31,11 +31,12 @@ areas_shown snap = eight (λ a. area_kept snap.images (keeper_at snap.kernel.kee
 abbrev pub state_shown : Snapshot → State
 state_shown snap = record { mode = snap.kernel.mode; arrived = false; areas = areas_shown snap; keepers = snap.kernel.keepers; world = snap.kernel.world }
 
--- The area of application `a` after a frame with these tasks, by the law of its kind.
+-- The area of application `a` after a frame with these tasks, computed by the law of its kind.
 abbrev pub area_drafted : Parts → List Task → Seen → List (List ℤ) → ℕ → List ℤ
 area_drafted spec tasks seen areas a = law (kind_of_app spec a) (task_among tasks a).order (seen_in seen (task_among tasks a).mode (area_at areas a))
 
--- The slot of application `a` that processor `p` makes: the area by the law if the task names `p`, else the old slot.
+-- The slot of application `a` that processor `p` makes: the area by the law of its kind if the task names `p`, or else
+-- the old slot.
 abbrev pub slot_made : Parts → List Task → Seen → List (List ℤ) → List ℤ → ℕ → ℕ → List ℤ
 slot_made spec tasks seen areas image p a =
     if is_proc p (task_among tasks a).proc then area_drafted spec tasks seen areas a else slot_in image a

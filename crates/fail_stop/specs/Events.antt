@@ -6,7 +6,8 @@ use Rattle.bank_words.specs.Marks.{mark_word}
 use Rattle.scram_types.specs.Lookups.{proc_id}
 use Rattle.fail_stop.specs.Flights.{Flight, word_in, back_by}
 
--- The place of a processor: a frame and the number of steps made in it, or the frame in which it has halted.
+-- The place of a processor: a frame and the number of steps that the processor has made in it, or the frame in which it
+-- has halted.
 pub data Place : Type 0 where
   At : ℕ → ℕ → Place
   Halted : ℕ → Place
@@ -26,13 +27,14 @@ pub data Word : Type 0 where
   EndWord : ℕ → Word
   BankWord : ℕ → ℕ → ℕ → Word
 
--- Whether the halt of a frame, if there is one, is step `n`. It comes after the start, the looks and its number of
--- stores.
+-- Whether a frame has a halt and the halt is step `n`. The halt comes after the start, the looks and the number of
+-- stores that the script gives.
 abbrev pub halts_at : Flight → ℕ → Option ℕ → Bool
 halts_at m n None = false
 halts_at m n (Some s) = nat_eq n (m.procs + 1 + s)
 
--- The event after `n` steps of a frame without a halt: start, looks, stores, flip, done.
+-- The event after `n` steps of a frame without a halt, or `None` after the last. The order is start, looks, stores,
+-- flip, done.
 abbrev pub plan_step : Flight → ℕ → ℕ → Option Event
 plan_step m p n =
     if nat_eq n 0 then Some (Start (proc_id p))
@@ -41,17 +43,18 @@ plan_step m p n =
     else (if nat_eq n (m.procs + 1 + m.width) then Some (Flip (proc_id p))
     else (if nat_eq n (m.procs + 2 + m.width) then Some (Done (proc_id p)) else None))))
 
--- The event of processor `p` after `n` steps of frame `f`. A halt replaces all the events that would follow.
+-- The event of processor `p` after `n` steps of frame `f`, or `None` after the last. A halt replaces all events that
+-- would follow.
 abbrev pub plan : Flight → ℕ → ℕ → ℕ → Option Event
 plan m p f n = if halts_at m n (m.halt p f) then Some (Halt (proc_id p)) else plan_step m p n
 
--- The next event of a processor that has halted in frame `h`: the start of its restart's frame once that frame is
--- released.
+-- The next event of a processor that has halted in frame `h`, or `None`. It is the start of the frame of its restart,
+-- once that frame is released.
 abbrev pub next_halted : ℕ → ℕ → ℕ → Option ℕ → Option Event
 next_halted p h release None = None
 next_halted p h release (Some r) = if nat_lt h r && nat_lt r release then Some (Start (proc_id p)) else None
 
--- The next event of processor `p` from its place by the release, or `None` if there is none.
+-- The next event of processor `p`, given its place and the release, or `None` if there is none.
 abbrev pub next_from : Flight → ℕ → ℕ → Place → Option Event
 next_from m p release (At f zero) = if nat_lt f m.frames && nat_lt f release then Some (Start (proc_id p)) else None
 next_from m p release (At f (suc n)) = plan m p f (suc n)
@@ -61,12 +64,12 @@ next_from m p release (Halted h) = next_halted p h release (m.restart p)
 abbrev pub next_of : Flight → Places → (Word → ℕ) → ℕ → Option Event
 next_of m at words p = if nat_lt p m.procs then next_from m p (words ReleaseWord) (at.proc p) else None
 
--- Whether the end word `e` of `p` lets the kernel note `p` in frame `k`.
+-- Whether the kernel may note processor `p` in frame `k`, given the end word `e` of `p`.
 abbrev pub may_note : Flight → ℕ → ℕ → ℕ → Bool
 may_note m p k e = nat_eq e (2 * suc k) || (nat_eq (e % 2) 1 && not (back_by (m.restart p) (e / 2) k))
 
--- The next event of the kernel, or `None` if there is none: a note of each processor in order, its twenty stores, the
--- release.
+-- The next event of the kernel, or `None` if there is none. In each frame the kernel notes each processor in order,
+-- makes its twenty stores, and releases the next frame.
 abbrev pub next_kernel : Flight → Places → (Word → ℕ) → Option Event
 next_kernel m at words =
     if nat_lt at.frame m.frames
@@ -106,12 +109,13 @@ is_actor (KNote p) q = false
 is_actor (KStore i) q = false
 is_actor Release q = false
 
--- The place of a halted processor after its start.
+-- The place of a halted processor after its start, given the frame of its restart. Without a restart the place does not
+-- change.
 abbrev pub back_at : Option ℕ → Place → Place
 back_at None place = place
 back_at (Some r) place = At r 1
 
--- The place after one step.
+-- The place after one further step.
 abbrev pub one_on : Place → Place
 one_on (At f n) = At f (suc n)
 one_on (Halted h) = Halted h
@@ -121,7 +125,7 @@ abbrev pub started : Option ℕ → Place → Place
 started restart (At f n) = At f (suc n)
 started restart (Halted h) = back_at restart (Halted h)
 
--- The place at the beginning of the next frame.
+-- The place at the start of the next frame.
 abbrev pub frame_on : Place → Place
 frame_on (At f n) = At (suc f) 0
 frame_on (Halted h) = Halted h
@@ -176,12 +180,12 @@ abbrev pub frame_of : Place → ℕ
 frame_of (At f n) = f
 frame_of (Halted h) = h
 
--- Whether the processor at this place has halted.
+-- Whether a place is the place of a halted processor.
 abbrev pub is_halted : Place → Bool
 is_halted (At f n) = false
 is_halted (Halted h) = true
 
--- The place of a processor after the whole of frame `f`, by the halt in the frame.
+-- The place of a processor after the whole of frame `f`, given the halt in the frame, if there is one.
 abbrev pub after_frame : ℕ → Option ℕ → Place
 after_frame f None = At (suc f) 0
 after_frame f (Some s) = Halted f
@@ -212,7 +216,7 @@ abbrev pub written : Option (Word × ℕ) → (Word → ℕ) → Word → ℕ
 written None words w = words w
 written (Some t) words w = if same_word t.0 w then t.1 else words w
 
--- A word exists: its processor exists, and its numbers are in range.
+-- A word exists: its processor exists, and its indices are in range.
 abbrev pub IsStored : Flight → Word → Type 0
 IsStored m ReleaseWord = Unit {0}
 IsStored m (KernelWord i) = i < 20

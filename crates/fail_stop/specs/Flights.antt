@@ -16,7 +16,7 @@ pub record Flight : Type 0 where
   pub draft : ℕ → ℕ → List ℕ
   pub kernel_image : ℕ → List ℕ
 
--- Whether a restart, if there is one, comes after frame `h` and no later than frame `g`.
+-- Whether there is a restart, and it comes after frame `h` and no later than frame `g`.
 abbrev pub back_by : Option ℕ → ℕ → ℕ → Bool
 back_by None h g = false
 back_by (Some r) h g = nat_lt h r && nat_le r g
@@ -30,11 +30,11 @@ pub record Flies (m : Flight) : Type 0 where
   pub back : (p h s r : ℕ) → m.up p h ≡ true → m.halt p h ≡ Some s → m.restart p ≡ Some r → h < r → m.up p r ≡ true
   pub step : (p f s : ℕ) → m.halt p f ≡ Some s → s ≤ m.width + 1
 
--- Word `i` of an image.
+-- Word `i` of an image, given as a list of words.
 abbrev pub word_in : List ℕ → ℕ → ℕ
 word_in image i = get_or image i 0
 
--- Whether the mark is reached: there is no halt, or the halt comes after the flip.
+-- Whether a processor reaches its mark in a frame: there is no halt, or the halt comes after the flip.
 abbrev pub reaches_mark : ℕ → Option ℕ → Bool
 reaches_mark width None = true
 reaches_mark width (Some s) = nat_lt width s
@@ -43,7 +43,7 @@ reaches_mark width (Some s) = nat_lt width s
 unfoldable pub is_committed : Flight → ℕ → ℕ → Bool
 is_committed m p f = m.up p f && reaches_mark m.width (m.halt p f)
 
--- The image of processor `p` at the beginning of frame `f`.
+-- The image of processor `p` at the start of frame `f`.
 unfoldable pub image_before : Flight → ℕ → ℕ → List ℕ
 image_before m p zero = m.start p
 image_before m p (suc f) = if is_committed m p f then m.draft p f else image_before m p f
@@ -58,26 +58,26 @@ unfoldable pub commit_count : Flight → ℕ → ℕ → ℕ
 commit_count m p zero = 0
 commit_count m p (suc f) = if is_committed m p f then suc (commit_count m p f) else commit_count m p f
 
--- The bank that the mark names at the beginning of frame `f`.
+-- The bank that the mark of processor `p` names at the start of frame `f`.
 unfoldable pub side : Flight → ℕ → ℕ → ℕ
 side m p zero = 0
 side m p (suc f) = if is_committed m p f then 1 - side m p f else side m p f
 
--- The mark of processor `p` at the beginning of frame `f`.
+-- The mark of processor `p` at the start of frame `f`.
 abbrev pub mark_before : Flight → ℕ → ℕ → ℕ
 mark_before m p f = mark_word (last_commit m p f) (side m p f)
 
--- The end word that a frame leaves, by the halt in the frame.
+-- The end word after a frame, given the halt in the frame, if there is one.
 abbrev pub end_word_after : ℕ → Option ℕ → ℕ
 end_word_after f None = 2 * suc f
 end_word_after f (Some s) = 2 * f + 1
 
--- The end word of processor `p` at the beginning of frame `f`.
+-- The end word of processor `p` at the start of frame `f`.
 unfoldable pub end_before : Flight → ℕ → ℕ → ℕ
 end_before m p zero = 0
 end_before m p (suc f) = if m.up p f then end_word_after f (m.halt p f) else end_before m p f
 
--- The number of stores in a frame in which a processor is up, by the halt in the frame.
+-- The number of stores in a frame in which a processor is up, given the halt in the frame, if there is one.
 abbrev pub stores_by : ℕ → Option ℕ → ℕ
 stores_by width None = width
 stores_by width (Some s) = min s width
@@ -86,11 +86,12 @@ stores_by width (Some s) = min s width
 unfoldable pub stores_in : Flight → ℕ → ℕ → ℕ
 stores_in m p f = if m.up p f then stores_by m.width (m.halt p f) else 0
 
--- Word `i` of bank `b` of `p` after `s` stores of frame `f`, if the word was `old` at the beginning of the frame.
+-- Word `i` of bank `b` of processor `p` after `s` stores of frame `f`, if `old` is the word at the start of the frame.
 unfoldable pub laid : Flight → ℕ → ℕ → ℕ → ℕ → ℕ → ℕ → ℕ
 laid m p f s b i old = if nat_eq b (1 - side m p f) && nat_lt i s then word_in (m.draft p f) i else old
 
--- Word `i` of bank `b` at the beginning of frame `f`: the word that `p` stored there last, or the opening word.
+-- Word `i` of bank `b` of processor `p` at the start of frame `f`: the word that `p` stored there last, or the opening
+-- word.
 unfoldable pub bank_before : Flight → ℕ → ℕ → ℕ → ℕ → ℕ
 bank_before m p zero b i = if nat_eq b 0 then word_in (m.start p) i else 0
 bank_before m p (suc f) b i = laid m p f (stores_in m p f) b i (bank_before m p f b i)

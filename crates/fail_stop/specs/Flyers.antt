@@ -1,4 +1,5 @@
--- Processors in flight: the effect of a start and of a halt, and how a processor agrees with its place in the machine.
+-- Processors in flight: the effect of a start and of a halt, and the agreement of a processor with its place in the
+-- machine.
 use Rattle.std.specs.Prelude.{◌≡◌, ℕ, ◌<◌, Bool, true, false, List, length, slice_index_or, Option, Some, None, is_some}
 use Rattle.app_model.specs.declared.racks.Rack.{Rack}
 use Rattle.fail_stop.specs.declared.flyers.Flyer.{Flyer}
@@ -12,23 +13,23 @@ abbrev pub unit_proc : {X : Type 0} {Y : X → Type 0} → HeldUnit X Y → ℕ
 unit_proc (Up live) = live.proc.0
 unit_proc (Down halted) = halted.proc.0
 
--- Whether the processor has halted.
+-- Whether a unit has halted.
 abbrev pub is_down : {X : Type 0} {Y : X → Type 0} → HeldUnit X Y → Bool
 is_down (Up live) = false
 is_down (Down halted) = true
 
--- The boxes of a live processor, or `None` if it has halted.
+-- The boxes of a unit, or `None` if the unit has halted.
 abbrev pub unit_rack : {X : Type 0} {Y : X → Type 0} → HeldUnit X Y → Option (Rack X Y)
 unit_rack (Up live) = Some live.rack
 unit_rack (Down halted) = None
 
--- A unit after a start: a halted unit becomes live again with its spare rack, if it has one.
+-- A unit after a start. A halted unit becomes live again with its spare rack, if it has one.
 abbrev pub unit_started : {X : Type 0} {Y : X → Type 0} → HeldUnit X Y → Option (Rack X Y) → HeldUnit X Y
 unit_started (Up live) spare = Up live
 unit_started (Down halted) None = Down halted
 unit_started (Down halted) (Some rack) = Up (record { proc = halted.proc; rack = rack })
 
--- The spare rack after a start.
+-- The spare rack after a start, or `None` if the start has used it.
 abbrev pub spare_started : {X : Type 0} {Y : X → Type 0} → HeldUnit X Y → Option (Rack X Y) → Option (Rack X Y)
 spare_started (Up live) spare = spare
 spare_started (Down halted) spare = None
@@ -51,23 +52,24 @@ abbrev pub unit_frame : {X : Type 0} {Y : X → Type 0} → HeldUnit X Y → ℕ
 unit_frame (Up live) = 0
 unit_frame (Down halted) = halted.frame
 
--- A unit is that of processor `p` at a place: it has halted exactly if the place is a halted one, and in the same
--- frame.
+-- A unit is the unit of processor `p` at a place. It has halted if and only if the place is a halted one, and in the
+-- same frame.
 pub record IsUnitAt {X : Type 0} {Y : X → Type 0} (p : ℕ) (place : Place) (unit : HeldUnit X Y) : Type 0 where
   pub number : unit_proc unit ≡ p
   pub down : is_down unit ≡ is_halted place
   pub frame : is_down unit ≡ true → unit_frame unit ≡ frame_of place
 
--- If processor `p`, which is in a frame or has halted there, has a later restart, the rack for it is there.
+-- If processor `p`, which is in a frame or has halted in it, has a later restart, the spare rack is present.
 abbrev pub HasSpare : {R : Type 0} → Flight → ℕ → ℕ → Option R → Type 0
 HasSpare m p f spare = (r : ℕ) → m.restart p ≡ Some r → f < r → is_some spare ≡ true
 
--- A processor in flight is processor `p` of a flight at this place, with the rack for a restart that is still to come.
+-- A processor in flight is processor `p` of a flight at this place, with the rack for any restart that is still to
+-- come.
 pub record IsFlyerAt {X : Type 0} {Y : X → Type 0} (m : Flight) (p : ℕ) (place : Place) (flyer : Flyer X Y) : Type 0 where
   pub unit : IsUnitAt p place flyer.unit
   pub spare : HasSpare m p (frame_of place) flyer.spare
 
--- There are eight processors in the order of their numbers, each at its place.
+-- A list has eight processors in the order of their numbers, each at its place.
 pub record AreFlyersAt {X : Type 0} {Y : X → Type 0} (m : Flight) (at : ℕ → Place) (flyers : List (Flyer X Y)) : Type 0 where
   pub count : length flyers ≡ 8
   pub each : (p : ℕ) (none : Flyer X Y) → p < 8 → IsFlyerAt m p (at p) (slice_index_or flyers p none)

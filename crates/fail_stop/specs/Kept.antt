@@ -1,4 +1,4 @@
--- The invariant of each state of each schedule.
+-- The invariant that holds in each state of each schedule.
 use Rattle.std.specs.Prelude.{◌≡◌, ℕ, suc, ◌+◌, ◌-◌, ◌*◌, ◌<◌, ◌≤◌, min, Bool, true, Option, Some, None, if◌then◌else◌, nat_lt, nat_eq}
 use Rattle.fail_stop.specs.Flights.{Flight, word_in, mark_before, end_before, laid, bank_before}
 use Rattle.fail_stop.specs.Events.{Place, At, Halted, Places, Word, ReleaseWord, KernelWord, MarkWord, EndWord, BankWord, IsStored}
@@ -11,17 +11,17 @@ stores_made m n = min (n - (m.procs + 1)) m.width
 abbrev pub is_flipped : Flight → ℕ → Bool
 is_flipped m n = nat_lt (m.procs + 1 + m.width) n
 
--- The mark of processor `p` at this place.
+-- The mark of processor `p`, if the processor is at this place.
 abbrev pub mark_at : Flight → ℕ → Place → ℕ
 mark_at m p (At f n) = if is_flipped m n then mark_before m p (suc f) else mark_before m p f
 mark_at m p (Halted h) = mark_before m p (suc h)
 
--- The end word of processor `p` at this place.
+-- The end word of processor `p`, if the processor is at this place.
 abbrev pub end_at : Flight → ℕ → Place → ℕ
 end_at m p (At f n) = end_before m p f
 end_at m p (Halted h) = end_before m p (suc h)
 
--- Word `i` of bank `b` of processor `p` at this place.
+-- Word `i` of bank `b` of processor `p`, if the processor is at this place.
 abbrev pub bank_at : Flight → ℕ → Place → ℕ → ℕ → ℕ
 bank_at m p (At f n) b i = laid m p f (stores_made m n) b i (bank_before m p f b i)
 bank_at m p (Halted h) b i = bank_before m p (suc h) b i
@@ -34,7 +34,7 @@ kernel_at m k j i = if nat_lt i (j - m.procs) then word_in (m.kernel_image (suc 
 abbrev pub release_at : Flight → ℕ → ℕ
 release_at m k = if nat_eq m.frames 0 then 0 else suc k
 
--- The value of each word as a function of the places.
+-- The value of each word, as a function of the places.
 abbrev pub stored_word : Flight → Places → Word → ℕ
 stored_word m at ReleaseWord = release_at m at.frame
 stored_word m at (KernelWord i) = kernel_at m at.frame at.step i
@@ -42,7 +42,7 @@ stored_word m at (MarkWord p) = mark_at m p (at.proc p)
 stored_word m at (EndWord p) = end_at m p (at.proc p)
 stored_word m at (BankWord p b i) = bank_at m p (at.proc p) b i
 
--- The last step of a frame, by the halt in the frame.
+-- The last step of a frame, given the halt in the frame, if there is one.
 abbrev pub last_step : Flight → Option ℕ → ℕ
 last_step m None = m.procs + 2 + m.width
 last_step m (Some s) = m.procs + 1 + s
@@ -77,13 +77,13 @@ pub record IsKernel (m : Flight) (k j : ℕ) : Type 0 where
   pub steps : j ≤ m.procs + 20
   pub ending : m.procs < j → suc k < m.frames
 
--- The invariant in the form that each event keeps: facts on places, and each word as a function of the places.
+-- The invariant in the form that each event preserves: facts on places, and each word as a function of the places.
 pub record Kept (m : Flight) (at : Places) (words : Word → ℕ) : Type 0 where
   pub kernel : IsKernel m at.frame at.step
   pub placed : (p : ℕ) → p < m.procs → IsPlaced m at.frame at.step p (at.proc p)
   pub words_are : (w : Word) → IsStored m w → words w ≡ stored_word m at w
 
--- The places at the opening: all actors are at the beginning of frame 0.
+-- The places at the opening: all actors are at the start of frame 0.
 abbrev pub opening_places : Places
 opening_places = record { proc = λ p. At 0 0; frame = 0; step = 0 }
 

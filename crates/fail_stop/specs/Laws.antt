@@ -34,7 +34,7 @@ pub record IsOfTrace (spec : Parts) (script : ScriptParts) : Type 0 where
 abbrev pub FlightsAreOfTraces : Type 0
 FlightsAreOfTraces = (spec : Parts) (script : ScriptParts) → Fits spec script → IsOfTrace spec script
 
--- The opening satisfies the invariant.
+-- The opening state satisfies the invariant.
 abbrev pub OpeningKeeps : Type 0
 OpeningKeeps = (spec : Parts) (script : ScriptParts) → Fits spec script
     → Kept (flight_of spec script) opening_places (opening_words (flight_of spec script))
@@ -58,7 +58,7 @@ abbrev pub OpeningListsAreOfScripts : Type 0
 OpeningListsAreOfScripts = (spec : Parts) (script : ScriptParts) → IsSpec spec
     → IsOpening spec script (opening_list script.frames (kernel_words spec script 0) (state_after spec script 0).areas (state_after spec script 0).keepers)
 
--- An event that is the next of its actor keeps the invariant.
+-- An event that is the next of its actor preserves the invariant.
 abbrev pub EventsKeep : Type 0
 EventsKeep = (spec : Parts) (script : ScriptParts) → Fits spec script
     → (at : Places) (words : Word → ℕ) (event : Event) (at_after : Places) (words_after : Word → ℕ)
@@ -66,7 +66,7 @@ EventsKeep = (spec : Parts) (script : ScriptParts) → Fits spec script
     → Happens (flight_of spec script) at words event at_after words_after
     → Kept (flight_of spec script) at_after words_after
 
--- An event that is the next of its actor keeps the invariant over one list of words.
+-- An event that is the next of its actor preserves the invariant over one list of words.
 abbrev pub EventsKeepLists : Type 0
 EventsKeepLists = (spec : Parts) (script : ScriptParts) → IsSpec spec → Fits spec script
     → (at : Places) (list : List ℕ) (event : Event) (at_after : Places)
@@ -74,7 +74,7 @@ EventsKeepLists = (spec : Parts) (script : ScriptParts) → IsSpec spec → Fits
     → Moves (flight_of spec script) at event at_after
     → Kept (flight_of spec script) at_after (stored_in (list_after list (writes (flight_of spec script) at (stored_in list) event)))
 
--- The invariant gives each fact of `IsConsistent`.
+-- The invariant implies each fact of `IsConsistent`.
 abbrev pub KeptIsConsistent : Type 0
 KeptIsConsistent = (spec : Parts) (script : ScriptParts) → Fits spec script → (at : Places) (words : Word → ℕ)
     → Kept (flight_of spec script) at words → IsConsistent (flight_of spec script) at words
@@ -85,8 +85,8 @@ SchedulesKeep = (spec : Parts) (script : ScriptParts) → Fits spec script → (
     → IsSchedule (flight_of spec script) (opening (flight_of spec script)) events state
     → Kept (flight_of spec script) state.at state.words × IsConsistent (flight_of spec script) state.at state.words
 
--- A processor that reads in frame `f` finds the words of that frame. The bank that it picks of `q` stays the same and
--- holds the image of `q` after the first `f` frames; the kernel's words are those of frame `f`.
+-- A processor that reads in frame `f` finds the words of that frame. The bank that it picks of `q` does not change and
+-- holds the image of `q` after the first `f` frames. The kernel's words are those of frame `f`.
 pub record Finds (spec : Parts) (script : ScriptParts) (words : Word → ℕ) (f : ℕ) : Type 0 where
   pub picked : (q : ℕ) → q < length spec.procs → pick (words (MarkWord q)) f ≡ image_bank_after spec script q f
   pub held : (q i : ℕ) → q < length spec.procs → i < width_of spec
@@ -98,13 +98,13 @@ abbrev pub ReadersFind : Type 0
 ReadersFind = (spec : Parts) (script : ScriptParts) → Fits spec script → (at : Places) (words : Word → ℕ)
     → Kept (flight_of spec script) at words → (p f n : ℕ) → p < length spec.procs → Reads at p f n → Finds spec script words f
 
--- The mark of `p` is that of all frames up to the kernel's, and the marked bank holds the image of `p` after them.
+-- The mark of processor `p` is its mark after frame `k`, and the marked bank holds the image of `p` after that frame.
 pub record IsNoted (spec : Parts) (script : ScriptParts) (words : Word → ℕ) (k p : ℕ) : Type 0 where
   pub mark : words (MarkWord p) ≡ mark_after spec script p (suc k)
   pub held : (i : ℕ) → i < width_of spec
       → words (BankWord p (image_bank_after spec script p (suc k)) i) ≡ word_in (image_words_after spec script p (suc k)) i
 
--- A processor that the kernel has noted shows its mark and its image of the end of the frame.
+-- A processor that the kernel has noted shows its mark and its image at the end of the frame.
 abbrev pub NotesFix : Type 0
 NotesFix = (spec : Parts) (script : ScriptParts) → Fits spec script → (at : Places) (words : Word → ℕ)
     → Kept (flight_of spec script) at words → (p : ℕ) → p < length spec.procs → p < at.step → IsNoted spec script words at.frame p
@@ -115,7 +115,7 @@ MachineGoesOn = (spec : Parts) (script : ScriptParts) → Fits spec script → (
     → Kept (flight_of spec script) at words
     → IsOver (flight_of spec script) at ⊎ ((event : Event) × IsNext (flight_of spec script) at words event)
 
--- At the beginning of a frame, each word of a bank is the word stored there last, or the opening word.
+-- At the start of a frame, each word of a bank is the word that was stored there last, or the opening word.
 abbrev pub BanksHoldTheLastStores : Type 0
 BanksHoldTheLastStores = (spec : Parts) (script : ScriptParts) (p f b i : ℕ)
     → IsStoredLast (flight_of spec script) p f b i (bank_before (flight_of spec script) p f b i)

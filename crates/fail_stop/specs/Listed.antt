@@ -1,11 +1,11 @@
--- The shared words in one list.
+-- The shared words, kept in one list.
 use Rattle.std.specs.Prelude.{◌≡◌, ℕ, ◌+◌, ◌*◌, ◌≤◌, List, length, Option, Some, None, slice_index, slice_set}
 use Rattle.fail_stop.specs.Flights.{Flight}
 use Rattle.bank_words.specs.declared.events.Event.{Event}
 use Rattle.fail_stop.specs.Events.{Places, Word, ReleaseWord, KernelWord, MarkWord, EndWord, BankWord, proc_after, frame_after, step_after}
 
--- The index of a word, for at most 8 processors and 64 words of a bank. The release has a cache line of 64 bytes of its
--- own, and so have the words that each processor writes.
+-- The index of a word, for at most 8 processors and 64 words per bank. The release has a cache line of 64 bytes to
+-- itself, and so have the words that each processor writes.
 abbrev pub index_of : Word → ℕ
 index_of ReleaseWord = 0
 index_of (KernelWord i) = 8 + i
@@ -17,7 +17,7 @@ index_of (BankWord p b i) = 40 + 136 * p + 64 * b + i
 abbrev pub word_index_count : ℕ
 word_index_count = 1120
 
--- The value of a word in a list.
+-- The value of a word that is kept in a list.
 abbrev pub stored_in : List ℕ → Word → ℕ
 stored_in list w = slice_index list (index_of w)
 
@@ -32,7 +32,7 @@ pub record HoldsWords (m : Flight) (list : List ℕ) : Type 0 where
   pub width : m.width ≤ 64
   pub long : length list ≡ word_index_count
 
--- Event `e` moves the place of its actor alone.
+-- Event `e` moves the place of its actor and no other place.
 pub record Moves (m : Flight) (at : Places) (e : Event) (at2 : Places) : Type 0 where
   pub proc : (q : ℕ) → at2.proc q ≡ proc_after m at e q
   pub frame : at2.frame ≡ frame_after at e

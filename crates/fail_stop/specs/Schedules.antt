@@ -21,17 +21,17 @@ happened m s e = record {
 abbrev pub opening : Flight → Machine
 opening m = record { at = opening_places; words = opening_words m }
 
--- The events lead from state `s` to state `t`, and each is the next event of its actor in its state.
+-- The events take state `s` to state `t`, and each is the next event of its actor in its state.
 abbrev pub IsSchedule : Flight → Machine → List Event → Machine → Type 0
 IsSchedule m s [] t = t ≡ s
 IsSchedule m s (e ∷ es) t = IsNext m s.at s.words e × IsSchedule m (happened m s e) es t
 
--- Whether a restart, if there is one, is in frame `f`.
+-- Whether there is a restart, and it is in frame `f`.
 abbrev pub is_frame : Option ℕ → ℕ → Bool
 is_frame None f = false
 is_frame (Some r) f = nat_eq r f
 
--- Whether a processor is up in a frame, computed frame by frame from the halts below it and the restart.
+-- Whether a processor is up in a frame, computed frame by frame from the halts below the frame and the restart.
 unfoldable pub up_by : (ℕ → Option ℕ) → Option ℕ → ℕ → Bool
 up_by halt restart zero = true
 up_by halt restart (suc f) = (up_by halt restart f && is_none (halt f)) || is_frame restart (suc f)
@@ -41,7 +41,7 @@ abbrev pub latest : (ℕ → Option ℕ) → ℕ → Option ℕ
 latest halt zero = None
 latest halt (suc f) = if is_some (halt f) then Some f else latest halt f
 
--- Whether a processor is up in frame `f`, by its latest halt below `f`, if there is one, and its restart.
+-- Whether a processor is up in frame `f`, given its latest halt below `f` and its restart, if there are any.
 abbrev pub is_up_after : Option ℕ → Option ℕ → ℕ → Bool
 is_up_after None restart f = true
 is_up_after (Some h) restart f = back_by restart h f

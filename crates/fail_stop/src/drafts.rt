@@ -50,8 +50,8 @@ fn area_kept(snap: &Snapshot, a: u8) -> Area
     }
 }
 
-/// Replaces the slots of the applications that processor `proc` hosts in its image of the previous frame, with one call
-/// of a box for each. Afterwards `seen` is as the last of these applications saw it.
+/// Replaces the slots of the applications that processor `proc` hosts in its image of the previous frame, calling one
+/// box for each. Afterwards `seen` is as the last of these applications saw it.
 pub(crate) fn make_slots(
     proc: ProcId,
     rack: &mut Rack,
@@ -91,7 +91,7 @@ fn put_slot(image: &mut Image, a: u8, area: &Area)
     }
 }
 
-// Returns whether a processor hosts an application in the frame.
+// Returns whether a processor hosts an application in the setting's frame.
 fn hosts(proc: ProcId, setting: &Setting<'_>, a: u8) -> bool
     requires a { a < 8 }
     ensures { result ≡ is_proc proc.0 (task_among setting.now.tasks a).proc }

@@ -25,7 +25,7 @@ pub enum Unit {
     Down(Halted),
 }
 
-/// A processor in flight, with the boxes for its restart until it restarts.
+/// A processor in flight, with the boxes for its restart. The boxes are taken when it restarts.
 #[derive(Drop)]
 pub struct Flyer {
     pub unit: Unit,
@@ -65,8 +65,8 @@ impl Flyer {
         }
     }
 
-    /// Starts a frame of the processor. A halted processor becomes live again with its spare rack if it has one;
-    /// otherwise nothing changes.
+    /// Starts a frame of the processor. A halted processor becomes live again with its spare rack, if it has one.
+    /// Otherwise nothing changes.
     pub fn start(&mut self)
         requires few { unit_proc self.old.unit < 8 }
         ensures { self.new ≡ flyer_started self.old }
@@ -79,7 +79,7 @@ impl Flyer {
         }
     }
 
-    /// Halts the processor in this frame and drops its boxes. Nothing changes if it has halted already.
+    /// Halts the processor in this frame and drops its boxes. If the processor has halted already, nothing changes.
     pub fn halt(&mut self, frame: u32)
         ensures { self.new ≡ flyer_halted frame self.old }
     {
@@ -89,7 +89,8 @@ impl Flyer {
         }
     }
 
-    /// Sets `image` to the draft that the processor, which must be live, makes of a snapshot, as [`Live::draft`] does.
+    /// Sets `image` to the draft that the processor makes of a snapshot, as [`Live::draft`] does. The processor must be
+    /// live.
     pub fn draft(&mut self, spec: &Spec, snap: &Snapshot, image: &mut Image)
         requires lives { is_down self.old.unit ≡ false }
         requires few { unit_proc self.old.unit < 8 }
@@ -135,7 +136,7 @@ pub fn make_flyers(
     Ok(flyers)
 }
 
-// Returns the next of these racks.
+// Removes and returns the next of these racks.
 fn next_rack(racks: &mut IntoIter<Rack>) -> Rack
     requires some { 0 < into_iter_len racks.old }
     ensures first { into_iter_items racks.old ≡ result ∷ into_iter_items racks.new }

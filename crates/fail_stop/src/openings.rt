@@ -32,7 +32,7 @@ pub fn first_image(spec: &Spec, script: &Script) -> KernelImage
 }
 
 /// Returns the words at the opening of a flight with `frames` frames. The kernel's words are those of the first frame,
-/// bank 0 of each processor holds its start image, and the release is 1 if the flight has a frame.
+/// and bank 0 of each processor holds its start image. The release is 1 if the flight has a frame, or else 0.
 #[tactic(auto, using(crate::proofs::OpeningLists::list_whole))]
 pub fn opening_words(
     alloc: Global,

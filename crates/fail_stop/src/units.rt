@@ -30,8 +30,8 @@ pub struct Halted {
 
 impl Live {
     /// Returns the processor of this number, with these boxes.
-    // No clause depends on the precondition. A function that returns boxes without any precondition counts as one that
-    // may make boxes, and so does each function that calls it without any precondition.
+    // No clause depends on the precondition. Without a precondition, a function that returns boxes counts as one that
+    // may make boxes, and so does each function that calls it without a precondition.
     pub fn new(proc: ProcId, rack: Rack) -> Live
         requires proc { proc.0 < 8 }
         ensures proc { result.proc ≡ proc }
@@ -48,7 +48,7 @@ impl Live {
     }
 
     /// Sets `image` to the image of this processor after the snapshot's frame. The area of each application that the
-    /// processor hosts there is the answer of one call of its rack; the other words are as in its image of the
+    /// processor hosts there is the answer of one call of its rack. The other words are as in its image of the
     /// snapshot. If the snapshot is that of a frame of a script, the image is the draft of the one-thread trace in that
     /// frame.
     pub fn draft(&mut self, spec: &Spec, snap: &Snapshot, image: &mut Image)

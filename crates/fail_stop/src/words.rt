@@ -1,4 +1,4 @@
-//! The indices of the shared words in one list, for at most 8 processors and 64 words of a bank.
+//! The indices of the shared words in one list, for at most 8 processors and 64 words per bank.
 
 ghost use Rattle.std.specs.Prelude.{◌≡◌, ◌<◌, ◌≤◌};
 ghost use Rattle.fail_stop.specs.Events.{BankWord, EndWord, KernelWord, MarkWord};
@@ -6,7 +6,7 @@ ghost use Rattle.fail_stop.specs.Listed.{index_of};
 
 use scram_types::ProcId;
 
-/// The number of words.
+/// The number of entries in the list of shared words.
 pub const WORDS: usize = 1_120;
 
 /// Returns the index of word `i` of the kernel, which is below 20.

@@ -1,4 +1,4 @@
--- The row of a frame, drawn from the kernel image of the frame and from the marks and images after it.
+-- The row of a frame, drawn from the kernel image of the frame and from the marks and images after the frame.
 use Rattle.std.specs.Prelude.{ℕ, suc, ◌/◌, ◌==◌, ℤ, Bool, List, Option, Some, None, if◌then◌else◌}
 use Rattle.scram_types.specs.Eights.{eight}
 use Rattle.scram_types.specs.Specification.{Parts}
@@ -12,12 +12,13 @@ use Rattle.frame_model.specs.States.{act_after, area_at, keeper_at, keeper_on, w
 use Rattle.frame_model.specs.Tasks.{task_of}
 use Rattle.scram_kernel.specs.Marks.{mark_in}
 
--- Whether processor `p` has committed frame `f` by the marks after it: half of a mark is the number of frames up to the
--- last committed one.
+-- Whether processor `p` has committed frame `f`, by the marks after the frame. Half of a mark is the number of frames
+-- up to the last committed one.
 abbrev pub has_committed : List ℕ → ℕ → ℕ → Bool
 has_committed marks f p = mark_in marks p / 2 == suc f
 
--- The area of application `a`: zeros if it is off, its slot if its processor has committed, else the old area.
+-- The area of application `a` after a frame: zeros if the application is off, its slot if its processor has committed
+-- the frame, or else the old area.
 abbrev pub area_from : (ℕ → Bool) → List (List ℤ) → ℕ → List ℤ → Option ProcId → List ℤ
 area_from committed images a old None = zeros
 area_from committed images a old (Some proc) = if committed proc.0 then slot_in (image_in images proc.0) a else old
@@ -34,11 +35,11 @@ act_drawn spec image marks a = act_after (has_committed marks image.frame) (task
 abbrev pub keeper_drawn : Parts → KernelImage → List ℕ → ℕ → Option ProcId
 keeper_drawn spec image marks a = keeper_on (has_committed marks image.frame) (keeper_at image.keepers a) (task_in_image spec image a).proc
 
--- The area of application `a` after the image's frame, by the areas before it.
+-- The area of application `a` after the image's frame, given the areas before that frame.
 abbrev pub area_drawn : Parts → KernelImage → List ℕ → List (List ℤ) → List (List ℤ) → ℕ → List ℤ
 area_drawn spec image marks images areas a = area_from (has_committed marks image.frame) images a (area_at areas a) (task_in_image spec image a).proc
 
--- The areas of the eight applications after the image's frame.
+-- The areas of the eight applications after the image's frame, given the areas before that frame.
 abbrev pub areas_drawn : Parts → KernelImage → List ℕ → List (List ℤ) → List (List ℤ) → List (List ℤ)
 areas_drawn spec image marks images areas = eight (area_drawn spec image marks images areas)
 
@@ -46,7 +47,7 @@ areas_drawn spec image marks images areas = eight (area_drawn spec image marks i
 abbrev pub keepers_drawn : Parts → KernelImage → List ℕ → List (Option ProcId)
 keepers_drawn spec image marks = eight (keeper_drawn spec image marks)
 
--- The row of the image's frame, by the areas before that frame.
+-- The row of the image's frame, given the areas before that frame.
 abbrev pub row_drawn : Parts → KernelImage → List ℕ → List (List ℤ) → List (List ℤ) → Row
 row_drawn spec image marks images areas = record {
   frame = image.frame;

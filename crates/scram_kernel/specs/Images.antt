@@ -1,4 +1,4 @@
--- The kernel image of a frame, by the system before it or by the row of the previous frame.
+-- The kernel image of a frame, computed from the system before the frame or from the row of the previous frame.
 use Rattle.std.specs.Prelude.{◌+◌, List, Option}
 use Rattle.scram_types.specs.Specification.{Parts}
 use Rattle.scram_types.specs.declared.rows.Env.{Env}
@@ -9,7 +9,7 @@ use Rattle.frame_model.specs.declared.systems.Sys.{Sys}
 use Rattle.frame_model.specs.Frames.{state_of, sys_of}
 use Rattle.frame_model.specs.States.{State, has_arrived, mode_decided}
 
--- The kernel image of the next frame of a system, in this environment.
+-- The kernel image of the next frame of a system in an environment.
 abbrev pub image_given : Parts → Sys → Env → KernelImage
 image_given spec sys v = record {
   frame = sys.frame;
@@ -23,7 +23,7 @@ image_given spec sys v = record {
 abbrev pub state_left : Parts → Row → List (Option ProcId) → State
 state_left spec row keepers = record { mode = row.mode; arrived = has_arrived spec row; areas = row.areas; keepers = keepers; world = row.world }
 
--- The kernel image of the frame after a row, in this environment. The decision sees the processors that are up in the
--- environment alone, so the system is given none.
+-- The kernel image of the frame after a row in an environment. A decision sees which processors are up only through the
+-- environment, so no processor is up in the given system.
 abbrev pub image_next : Parts → Row → List (Option ProcId) → Env → KernelImage
 image_next spec row keepers v = image_given spec (sys_of (row.frame + 1) 0 (state_left spec row keepers)) v

@@ -14,7 +14,7 @@ use Rattle.frame_model.specs.Flights.{row_at, state_after}
 use Rattle.frame_model.specs.Readings.{ended, reading_of}
 use Rattle.frame_model.specs.Storage.{kernel_image}
 
--- The specification and the script of a kernel, and the number of frames that have ended.
+-- The parts of a kernel: its specification, its script, and the number of frames that have ended.
 pub record KernelParts : Type 0 where
   pub spec : Parts
   pub script : ScriptParts
@@ -28,8 +28,8 @@ kernel_after spec script f = record { spec = spec; script = script; past = f }
 abbrev pub rows_below : Parts → ScriptParts → ℕ → List Row
 rows_below spec script f = listed_below (row_at spec script) f
 
--- A kernel after `f` frames holds the image of frame `f` and the areas before it. It holds the rows of the first `f`
--- frames, their reading, and the reports of the reconfigurations that ended in them.
+-- The values are those of a kernel after `f` frames: the image of frame `f`, the areas before frame `f`, the rows of
+-- the first `f` frames, their reading, and the reports of the reconfigurations that ended in them.
 pub record HoldsFlight (spec : Parts) (script : ScriptParts) (f : ℕ) (image : KernelImage) (areas : List (List ℤ))
     (reading : Reading) (rows : List Row) (reports : List Report) : Type 0 where
   pub image_is : image ≡ kernel_image spec script f
@@ -38,8 +38,8 @@ pub record HoldsFlight (spec : Parts) (script : ScriptParts) (f : ℕ) (image : 
   pub reading_is : reading ≡ reading_of spec (rows_below spec script f)
   pub reports_are : reports ≡ ended spec (rows_below spec script f)
 
--- After `f` frames there is room for the rest of the flight: a row for each frame, and a report for each frame and one
--- at the end.
+-- After `f` frames there is room for the rest of the flight. It needs a row for each frame, and a report for each frame
+-- and one at the end.
 pub record HasRoomForFlight (frames f room_of_rows room_of_reports count_of_rows count_of_reports : ℕ) : Type 0 where
   pub within : f ≤ frames
   pub rows_fit : frames ≤ room_of_rows
@@ -47,8 +47,8 @@ pub record HasRoomForFlight (frames f room_of_rows room_of_reports count_of_rows
   pub rows_told : count_of_rows ≡ f
   pub reports_few : count_of_reports ≤ f
 
--- The invariant of a kernel. Its image is that of the running frame, which is also its walk's frame, so the image gives
--- the number of frames that have ended.
+-- The invariant of a kernel. Its image is the image of the running frame, which is also the frame of its walk. So the
+-- image gives the number of frames that have ended.
 pub record KernelKeeps (spec : Parts) (script : ScriptParts) (walk : Walk) (image : KernelImage) (areas : List (List ℤ))
     (reading : Reading) (rows : List Row) (reports : List Report) (room_of_rows room_of_reports count_of_rows count_of_reports : ℕ) : Type 0 where
   pub facts : IsSpec spec

@@ -1,4 +1,4 @@
--- The marks and the images of the processors after the first frames, as the caller that ends a frame passes them in.
+-- The marks and the images of the processors after a number of frames, as the caller passes them when it ends a frame.
 use Rattle.std.specs.Prelude.{◌≡◌, ℕ, ◌<◌, ℤ, List, length, slice_index_or}
 use Rattle.scram_types.specs.Scripts.{ScriptParts}
 use Rattle.scram_types.specs.Specification.{Parts}
@@ -9,12 +9,11 @@ use Rattle.frame_model.specs.Storage.{mark_after}
 abbrev pub mark_in : List ℕ → ℕ → ℕ
 mark_in marks p = slice_index_or marks p 0
 
--- A list holds the marks of the processors after the first `f` frames. Its entries past the last processor are
--- arbitrary.
+-- A list has the marks of the processors after the first `f` frames. Its entries past the last processor are arbitrary.
 abbrev pub AreMarks : Parts → ScriptParts → ℕ → List ℕ → Type 0
 AreMarks spec script f marks = (p : ℕ) → p < length spec.procs → mark_in marks p ≡ mark_after spec script p f
 
--- A list holds the images of the processors after the first `f` frames. Its entries past the last processor are
+-- A list has the images of the processors after the first `f` frames. Its entries past the last processor are
 -- arbitrary.
 abbrev pub AreImages : Parts → ScriptParts → ℕ → List (List ℤ) → Type 0
 AreImages spec script f images = (p : ℕ) → p < length spec.procs → image_in images p ≡ image_after spec script p f

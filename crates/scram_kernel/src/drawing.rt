@@ -1,4 +1,4 @@
-//! The row of a frame, drawn from the kernel image of the frame and from the marks and images after it.
+//! The row of a frame, drawn from the kernel image of the frame and from the marks and images after the frame.
 
 ghost use Rattle.std.specs.Prelude.{◌≡◌, ◌<◌};
 ghost use Rattle.scram_types.specs.Eights.{eight};
@@ -19,7 +19,7 @@ pub(crate) struct Stored<'a> {
     pub(crate) images: &'a [Image; 8],
 }
 
-/// Returns the row of the image's frame, by the tasks of the frame, and replaces the areas before the frame by those
+/// Returns the row of the image's frame, given the tasks of the frame. Replaces the areas before the frame by the areas
 /// after it.
 pub(crate) fn draw(
     spec: &Spec,
@@ -58,7 +58,7 @@ fn acts_drawn(image: &KernelImage, tasks: &[Task; 8], marks: &[u64; 8]) -> [Act;
     ]
 }
 
-// Replaces the areas before the frame by those after it.
+// Replaces the areas before the frame by the areas after it.
 fn draw_areas(image: &KernelImage, tasks: &[Task; 8], stored: &Stored<'_>, areas: &mut [Area; 8])
     ensures { (spec : Parts) → tasks.now ≡ eight (task_in_image spec image.now)
         → areas.new ≡ areas_drawn spec image.now stored.now.marks.now stored.now.images.now areas.old }
@@ -104,7 +104,8 @@ fn act_after(task: &Task, marks: &[u64; 8], frame: u32) -> Act
     }
 }
 
-// Replaces the area of an application before the frame by that after it. The area of a lost application stays as it is.
+// Replaces the area of an application before the frame by its area after the frame. The area of a lost application
+// stays as it is.
 fn draw_area(task: &Task, stored: &Stored<'_>, frame: u32, a: u8, area: &mut Area)
     requires { a < 8 }
     ensures { area.new ≡ area_from (has_committed stored.now.marks.now frame) stored.now.images.now a area.old task.now.proc }
@@ -181,8 +182,8 @@ mod tests {
     use super::*;
     use scram_types::{Mode, Order};
 
-    // The marks after frame 4: processor 0 has committed that frame, processor 1 committed frame 2 last, and processor
-    // 2 none.
+    // The marks after frame 4. Processor 0 has committed frame 4, processor 1 has committed frame 2 last, and processor
+    // 2 has committed none.
     const MARKS: [u64; 8] = [11, 6, 0, 0, 0, 0, 0, 0];
 
     fn task(proc: Option<ProcId>) -> Task {
@@ -211,7 +212,7 @@ mod tests {
         assert_eq!(rt; act_after(&task(None), &MARKS, 4), Act::Off);
     }
 
-    // A lost application keeps its area and its keeper; an application that is off has neither.
+    // A lost application keeps its area and its keeper. An application that is off has neither.
     #[test]
     fn areas_are_slots_of_who_has_committed(rt: HostRuntime) {
         let mut image = [0; 64];

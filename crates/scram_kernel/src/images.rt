@@ -8,7 +8,7 @@ use bank_words::KernelImage;
 use frame_model::{Sys, decide, has_arrived, phase_at};
 use scram_types::{Env, ProcId, Row, Spec};
 
-/// Returns the kernel image of the next frame of a system, in this environment.
+/// Returns the kernel image of the next frame of a system in an environment.
 pub(crate) fn image_given(spec: &Spec, sys: &Sys, env: Env) -> KernelImage
     ensures { result ≡ image_given spec.now sys.now env }
 {
@@ -22,7 +22,7 @@ pub(crate) fn image_given(spec: &Spec, sys: &Sys, env: Env) -> KernelImage
     }
 }
 
-/// Returns the kernel image of the frame after a row, in this environment.
+/// Returns the kernel image of the frame after a row in an environment.
 pub(crate) fn image_next(
     spec: &Spec,
     row: &Row,
@@ -33,7 +33,7 @@ pub(crate) fn image_next(
     ensures { result ≡ image_next spec.now row.now keepers env }
 {
     let phase = phase_at(spec, &row.mode, row.frame);
-    // A decision reads no areas.
+    // A decision does not read the areas.
     let sys = Sys {
         frame: row.frame + 1,
         mode: row.mode,

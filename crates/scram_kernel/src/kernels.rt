@@ -8,10 +8,10 @@ use frame_model::{Reading, Sys, close, read_row, tasks_of};
 use scram_types::{Area, Flown, Image, List, NoMemory, Report, Row, Script, Spec};
 use std::alloc::Global;
 
-/// The kernel of a flight by a specification and a script, after some frames. It calls no application. It takes the
-/// acts of a frame from the marks and the images of the processors after it, and the environment of the next frame from
-/// the script, along which it walks. It keeps the image of the running frame, the areas before that frame, and the rows
-/// and the reconfigurations of the frames that have ended.
+/// The kernel of a flight, given by a specification and a script, after a number of frames. It calls no application. It
+/// takes the acts of a frame from the marks and the images of the processors after the frame. It takes the environment
+/// of the next frame from the script, along which it walks. It keeps the image of the running frame, the areas before
+/// that frame, and the rows and the reconfigurations of the frames that have ended.
 #[derive(Drop)]
 pub struct Kernel<'a> {
     spec: &'a Spec,
@@ -67,7 +67,7 @@ impl<'a> Kernel<'a> {
         })
     }
 
-    /// Returns the kernel image of frame 0, however many frames have ended.
+    /// Returns the kernel image of frame 0, whatever the number of frames that have ended.
     pub fn first(&self) -> KernelImage
         ensures { result ≡ kernel_image self.now.spec self.now.script 0 }
     {
@@ -78,14 +78,14 @@ impl<'a> Kernel<'a> {
         )
     }
 
-    /// Returns the kernel image of the running frame, which follows those that have ended.
+    /// Returns the kernel image of the running frame, the first that has not ended.
     pub fn image(&self) -> KernelImage
         ensures { result ≡ kernel_image self.now.spec self.now.script self.now.past }
     {
         self.image
     }
 
-    /// Returns the rows of the frames that have ended, which are the first rows of the one-thread trace.
+    /// Returns the rows of the frames that have ended. They are the first rows of the one-thread trace.
     pub fn rows(&self) -> &[Row]
         ensures rows { result.now ≡ rows_below self.now.spec self.now.script self.now.past }
         ensures first { result.now ≡ take self.now.past (rows_of self.now.spec self.now.script) }
@@ -93,9 +93,9 @@ impl<'a> Kernel<'a> {
         &self.rows
     }
 
-    /// Ends the running frame; the precondition is that not all frames have ended. From the processors' marks and
-    /// images after the frame it appends the frame's row, continues the reading of reconfigurations, and walks on to
-    /// the next frame. Returns the kernel image of that frame, also after the last one.
+    /// Ends the running frame, given the processors' marks and images after it. Appends the frame's row, continues the
+    /// reading of reconfigurations, and walks on to the next frame. Returns the kernel image of the next frame, also
+    /// after the last frame. The precondition is that not all frames have ended.
     pub fn tick(&mut self, marks: &[u64; 8], images: &[Image; 8]) -> KernelImage
         requires frames { self.old.past < self.old.script.frames }
         requires marks { AreMarks self.old.spec self.old.script (self.old.past + 1) marks.now }
@@ -118,7 +118,7 @@ impl<'a> Kernel<'a> {
         image
     }
 
-    /// Returns the rows and reports of a flight after its last frame, which are the one-thread trace.
+    /// Returns the rows and reports of a flight whose last frame has ended. They are the one-thread trace.
     pub fn finish(self) -> Flown
         requires { self.past ≡ self.script.frames }
         ensures rows { result.rows ≡ rows_of self.entry.spec self.entry.script }
@@ -145,7 +145,7 @@ impl<'a> Kernel<'a> {
 ghost use Rattle.std.specs.Prelude.{◌≡◌, ◌<◌, ◌≤◌, ◌+◌, ◌++◌, vec_capacity, vec_len};
 ghost use Rattle.frame_model.specs.Readings.{as_list};
 
-// Appends a report, if there is one, within the reserved capacity.
+// Appends a report, if there is one. The report fits the reserved capacity.
 fn log(reports: &mut Vec<Report>, report: Option<Report>)
     requires { vec_len reports.old < vec_capacity reports.old }
     ensures items { reports.new.items ≡ reports.old.items ++ as_list report }

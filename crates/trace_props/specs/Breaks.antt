@@ -21,26 +21,26 @@ property_number Sp4 = 4
 property_number Sp5 = 5
 property_number Sp6 = 6
 
--- A proposition does not hold.
+-- The negation of a proposition.
 abbrev pub Fails : Type 0 → Type 0
 Fails Fact = Fact → ⊥
 
--- The smaller begin of two reconfigurations, the begin of the only one, or nothing if there is none.
+-- The smaller begin of two optional reconfigurations, the begin of the only one, or none.
 abbrev pub lesser_begin : Option Report → Option Report → Option ℕ
 lesser_begin None None = None
 lesser_begin (Some one) None = Some one.begin
 lesser_begin None (Some other) = Some other.begin
 lesser_begin (Some one) (Some other) = Some (min one.begin other.begin)
 
--- SP1 is broken at the first index at which the reported and the read reconfigurations differ. The frame is the smaller
--- begin of the two, or the begin of the only one if one list has ended.
+-- SP1 is broken in `frame`: the reports differ from the reconfigurations that are read off the rows. The frame is the
+-- smaller begin of the two at the first index at which they differ, or the begin of the only one if one list has ended.
 pub record BreaksSp1 (told read : List Report) (frame : ℕ) : Type 0 where
   pub place : ℕ
   pub alike : (k : ℕ) → k < place → slice_get told k ≡ slice_get read k
   pub differ : slice_get told place ≢ slice_get read place
   pub began : lesser_begin (slice_get told place) (slice_get read place) ≡ Some frame
 
--- The last frame of a reconfiguration, by its target: its end, or the last row if it is unfinished.
+-- The last frame of a reconfiguration, given its target: its end, or the last row if the reconfiguration is unfinished.
 abbrev pub last_frame_to : Option ConfId → ℕ → ℕ
 last_frame_to None end = end - 1
 last_frame_to (Some j) end = end
@@ -49,7 +49,7 @@ last_frame_to (Some j) end = end
 abbrev pub last_frame : Report → ℕ
 last_frame r = last_frame_to r.to r.end
 
--- An invariant for the source does not hold in the row of this frame, which is one of the reconfiguration's.
+-- Row `frame` is a row of the reconfiguration, and an invariant for the reconfiguration's source does not hold in it.
 pub record BreaksInvariant (spec : Parts) (rows : List Row) (r : Report) (frame : ℕ) : Type 0 where
   pub place : ℕ
   pub inv : Invariant
@@ -61,7 +61,7 @@ pub record BreaksInvariant (spec : Parts) (rows : List Row) (r : Report) (frame 
   pub stands : slice_get rows frame ≡ Some row
   pub broken : Fails (InvariantHolds inv row)
 
--- A precondition of the target does not hold in the row before the end, which is the row of this frame.
+-- Row `frame` is the row before the reconfiguration's end, and a precondition of the target does not hold in it.
 pub record BreaksPrecondition (spec : Parts) (rows : List Row) (r : Report) (frame : ℕ) : Type 0 where
   pub place : ℕ
   pub pre : Precondition
@@ -72,8 +72,8 @@ pub record BreaksPrecondition (spec : Parts) (rows : List Row) (r : Report) (fra
   pub stands : slice_get rows frame ≡ Some row
   pub broken : Fails (PreconditionHolds pre row)
 
--- A reconfiguration breaks a property in a frame: SP2 in its end, SP3 in its last frame, SP4 in the row that breaks it,
--- SP5 in its begin. SP1 and SP6 are not properties of a single reconfiguration.
+-- A reconfiguration breaks a property in a frame. The frame is the end for SP2, the last frame for SP3, the broken row
+-- for SP4, and the begin for SP5. SP1 and SP6 are not properties of a single reconfiguration.
 abbrev pub BreaksIn : Parts → List Row → Report → Property → ℕ → Type 0
 BreaksIn spec rows r Sp1 frame = ⊥
 BreaksIn spec rows r Sp2 frame = Fails (KeepsSp2 spec rows r) × (frame ≡ r.end)
@@ -89,7 +89,7 @@ pub record BreaksSomewhere (spec : Parts) (rows : List Row) (property : Property
   pub there : slice_get (reports spec rows) place ≡ Some reconfiguration
   pub broken : BreaksIn spec rows reconfiguration property frame
 
--- SP6 is broken in each calm row whose running configuration does not satisfy the demands.
+-- SP6 is broken in `frame`: its row is calm, and the configuration that runs there does not satisfy the demands.
 pub record BreaksSp6 (spec : Parts) (rows : List Row) (frame : ℕ) : Type 0 where
   pub row : Row
   pub calm : IsCalm spec rows frame row
@@ -104,16 +104,17 @@ BreaksAt spec rows told Sp4 frame = BreaksSomewhere spec rows Sp4 frame
 BreaksAt spec rows told Sp5 frame = BreaksSomewhere spec rows Sp5 frame
 BreaksAt spec rows told Sp6 frame = BreaksSp6 spec rows frame
 
--- A break comes before another if its frame is earlier, or in the same frame if its property's number is not greater.
+-- A break comes before another if its frame is earlier, or if the frame is the same and its property's number is not
+-- greater.
 abbrev pub ComesBefore : Property → ℕ → Property → ℕ → Type 0
 ComesBefore one f other g = (f < g) ⊎ ((f ≡ g) × (property_number one ≤ property_number other))
 
--- A property is broken in a frame, and every other break comes after this one.
+-- A property is broken in a frame, and no other break comes earlier.
 pub record IsFirstBreak (spec : Parts) (rows : List Row) (told : List Report) (property : Property) (frame : ℕ) : Type 0 where
   pub broken : BreaksAt spec rows told property frame
   pub first : (other : Property) (g : ℕ) → BreaksAt spec rows told other g → ComesBefore property frame other g
 
--- All six properties hold exactly if none is broken in any frame.
+-- All six properties hold if and only if none of them is broken in any frame.
 abbrev pub HoldsWhereUnbroken : Type 0
 HoldsWhereUnbroken = (spec : Parts) (rows : List Row) (told : List Report)
     → HoldsAll spec rows told ↔ ((property : Property) (frame : ℕ) → Fails (BreaksAt spec rows told property frame))

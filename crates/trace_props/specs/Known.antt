@@ -1,4 +1,4 @@
--- The facts that the theorem takes from the other crates.
+-- The facts from other crates on which the theorems rest.
 use Rattle.choice_table.specs.Laws.{RunsWherePlacesAreUp}
 use Rattle.dep_order.specs.Timetables.{PhasesEndInTime}
 use Rattle.app_model.specs.Areas.{AllTablesNarrow, LawLiesAfterInit, LawLiesDuring, StartLiesAfterInit}

@@ -48,14 +48,14 @@ first_moving spec script f = first_moving_in (decided spec script (begin_at spec
 abbrev pub changes_since : Parts → ScriptParts → ℕ → ℕ
 changes_since spec script f = changes_upto spec script f - changes_upto spec script (first_moving spec script f)
 
--- The property holds for each moving frame of a mission, including the frame after the last one.
+-- A property holds for each moving frame of a mission, including the frame after the last one.
 abbrev pub InMovingFrames : (Parts → ScriptParts → ℕ → ConfId → Option ConfId → ConfId → ℕ → Type 0) → Type 0
 InMovingFrames Fact = (spec : Parts) (script : ScriptParts) → IsSpec spec → IsMission (mission_of spec script)
     → (f : ℕ) (from : ConfId) (halting : Option ConfId) (to : ConfId) (since : ℕ) → f ≤ script.frames → decided spec script f ≡ Moving from halting to since
     → Fact spec script f from halting to since
 
 -- The target can run, and was chosen from the source in an environment seen since the first moving frame. Under
--- `Retarget` it was chosen in this frame's environment.
+-- `Retarget` it was chosen in the environment of frame `f`.
 pub record IsTargetChosen (spec : Parts) (script : ScriptParts) (f : ℕ) (from : ConfId) (halting : Option ConfId) (to : ConfId) (since : ℕ) : Type 0 where
   pub can_run : is_runnable spec to (env_at spec script f) ≡ true
   pub chosen_at : ℕ
@@ -68,7 +68,7 @@ pub record IsTargetChosen (spec : Parts) (script : ScriptParts) (f : ℕ) (from 
 abbrev pub TargetsAreChosen : Type 0
 TargetsAreChosen = InMovingFrames IsTargetChosen
 
--- The halting phase ends in time: each further change delays it by at most the slowest turn.
+-- The halting phase ends in time: each further change of the environment delays it by at most the slowest turn.
 abbrev pub HaltsInTime : Parts → ScriptParts → ℕ → ConfId → Option ConfId → ConfId → ℕ → Type 0
 HaltsInTime spec script f from halting to since =
     since + halting_frames spec halting ≤ first_moving spec script f + halting_time spec from + changes_since spec script f * slowest spec
@@ -77,7 +77,7 @@ HaltsInTime spec script f from halting to since =
 abbrev pub HaltingEndsInTime : Type 0
 HaltingEndsInTime = InMovingFrames HaltsInTime
 
--- Frame f is no later than the frame in which the phases are past.
+-- Frame `f` is no later than the frame in which the phases are past.
 abbrev pub SettlesInTime : Parts → ScriptParts → ℕ → ConfId → Option ConfId → ConfId → ℕ → Type 0
 SettlesInTime spec script f from halting to since = f ≤ since + halting_frames spec halting + preparing_time spec to + initialising_time spec to
 
@@ -85,11 +85,11 @@ SettlesInTime spec script f from halting to since = f ≤ since + halting_frames
 abbrev pub PhasesArePastInTime : Type 0
 PhasesArePastInTime = InMovingFrames SettlesInTime
 
--- The number of further changes is within the number that the bounds allow for.
+-- The number of further changes is at most the number for which the bounds allow.
 abbrev pub SeesFewChanges : Parts → ScriptParts → ℕ → ConfId → Option ConfId → ConfId → ℕ → Type 0
 SeesFewChanges spec script f from halting to since = changes_since spec script f ≤ further spec.policy spec.changes
 
--- In each moving frame of a mission the number of further changes is within the number that the bounds allow for.
+-- In each moving frame of a mission the number of further changes is at most the number for which the bounds allow.
 abbrev pub FurtherChangesAreFew : Type 0
 FurtherChangesAreFew = InMovingFrames SeesFewChanges
 

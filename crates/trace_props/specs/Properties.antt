@@ -1,5 +1,5 @@
--- The six properties of rows and reports. SP1 to SP5 are properties of the reconfigurations that are read off the rows;
--- SP6 is one of calm rows.
+-- The six properties of rows and reports. SP1 to SP5 are properties of the reconfigurations that are read off the rows.
+-- SP6 is a property of calm rows.
 use Rattle.std.specs.Prelude.{◌≡◌, ◌≢◌, ◌⊎◌, ℕ, suc, ◌<◌, ◌≤◌, ◌+◌, Bool, true, not, List, length, slice_get, Option, Some, None}
 use Rattle.scram_types.specs.declared.ids.ConfId.{ConfId}
 use Rattle.scram_types.specs.declared.rows.Env.{Env}
@@ -20,7 +20,7 @@ use Rattle.frame_model.specs.Readings.{reports}
 use Rattle.frame_model.specs.Runs.{act_at, running}
 use Rattle.frame_model.specs.States.{area_at}
 
--- There is a row f, and its environment differs from that of the preceding row.
+-- Row `f` exists, and its environment differs from the environment of the preceding row.
 pub record ChangesIn (spec : Parts) (rows : List Row) (f : ℕ) : Type 0 where
   pub inside : f < length rows
   pub differ : env_in rows f ≢ env_before spec rows f
@@ -29,7 +29,7 @@ pub record ChangesIn (spec : Parts) (rows : List Row) (f : ℕ) : Type 0 where
 abbrev pub HoldsSp1 : Parts → List Row → List Report → Type 0
 HoldsSp1 spec rows told = told ≡ reports spec rows
 
--- Configuration j was chosen from the source in the environment of some row from the begin to the end.
+-- Configuration `j` was chosen from the source in the environment of some row from the begin to the end.
 pub record IsChosen (spec : Parts) (rows : List Row) (r : Report) (j : ConfId) : Type 0 where
   pub frame : ℕ
   pub from : r.begin ≤ frame
@@ -42,13 +42,14 @@ pub record IsChosen (spec : Parts) (rows : List Row) (r : Report) (j : ConfId) :
 abbrev pub KeepsSp2 : Parts → List Row → Report → Type 0
 KeepsSp2 spec rows r = (j : ConfId) → r.to ≡ Some j → IsChosen spec rows r j
 
--- The bound on a reconfiguration, or the greatest bound given from its source if it is unfinished.
+-- The bound on a reconfiguration, or the greatest bound that is given from its source if the reconfiguration is
+-- unfinished.
 abbrev pub bound_on : Parts → ConfId → Option ConfId → Option ℕ
 bound_on spec from None = greatest_bound_in spec.bounds from.0
 bound_on spec from (Some j) = bound_in spec.bounds from.0 j.0
 
--- SP3 of a reconfiguration: a bound is given, and the reconfiguration took no longer. An unfinished one ends with the
--- rows.
+-- SP3 of a reconfiguration: a bound is given, and the reconfiguration took no longer. An unfinished reconfiguration
+-- counts up to the last row.
 pub record KeepsSp3 (spec : Parts) (r : Report) : Type 0 where
   pub bound : ℕ
   pub given : bound_on spec r.from r.to ≡ Some bound
@@ -63,14 +64,14 @@ abbrev pub PreconditionHolds : Precondition → Row → Type 0
 PreconditionHolds pre row = Between (pre.least, pre.greatest) (word (area_at row.areas pre.app.0) pre.variable)
 
 -- SP4 of a reconfiguration: the invariants for its source hold in its rows, from the begin to the end or to the last
--- row. The preconditions of its target hold in the row before its end.
+-- row. In addition, the preconditions of its target hold in the row before its end.
 pub record KeepsSp4 (spec : Parts) (rows : List Row) (r : Report) : Type 0 where
   pub throughout : Each (λ (inv : Invariant). has_source inv.from r.from ≡ true → (f : ℕ) (row : Row) → r.begin ≤ f → f ≤ r.end
       → slice_get rows f ≡ Some row → InvariantHolds inv row) spec.invariants
   pub ready : Each (λ (pre : Precondition). r.to ≡ Some pre.conf → (f : ℕ) (row : Row) → suc f ≡ r.end
       → slice_get rows f ≡ Some row → PreconditionHolds pre row) spec.preconditions
 
--- Another reconfiguration ended in the row before this one's begin, and saw a change after its own begin.
+-- Another reconfiguration ended in the row before the begin of `r`, and saw a change after its own begin.
 pub record FollowsAnother (spec : Parts) (rows : List Row) (r : Report) : Type 0 where
   pub settles : spec.policy ≡ Settle
   pub before : Report
@@ -87,19 +88,19 @@ pub record FollowsAnother (spec : Parts) (rows : List Row) (r : Report) : Type 0
 abbrev pub KeepsSp5 : Parts → List Row → Report → Type 0
 KeepsSp5 spec rows r = suc r.begin < length rows → ChangesIn spec rows r.begin ⊎ ChangesIn spec rows (suc r.begin) ⊎ FollowsAnother spec rows r
 
--- Each reconfiguration that the rows show has a target that was chosen during it.
+-- SP2: each reconfiguration that the rows show has a target that was chosen during it, or is unfinished.
 abbrev pub HoldsSp2 : Parts → List Row → Type 0
 HoldsSp2 spec rows = Each (KeepsSp2 spec rows) (reports spec rows)
 
--- Each reconfiguration that the rows show ends in time.
+-- SP3: each reconfiguration that the rows show ends in time.
 abbrev pub HoldsSp3 : Parts → List Row → Type 0
 HoldsSp3 spec rows = Each (KeepsSp3 spec) (reports spec rows)
 
--- Each reconfiguration that the rows show keeps its invariants and meets its target's preconditions.
+-- SP4: each reconfiguration that the rows show keeps its invariants and meets its target's preconditions.
 abbrev pub HoldsSp4 : Parts → List Row → Type 0
 HoldsSp4 spec rows = Each (KeepsSp4 spec rows) (reports spec rows)
 
--- Each reconfiguration that the rows show begins because the environment changed.
+-- SP5: each reconfiguration that the rows show has a change of the environment as its cause, or begins in the last row.
 abbrev pub HoldsSp5 : Parts → List Row → Type 0
 HoldsSp5 spec rows = Each (KeepsSp5 spec rows) (reports spec rows)
 
@@ -107,20 +108,20 @@ HoldsSp5 spec rows = Each (KeepsSp5 spec rows) (reports spec rows)
 abbrev pub LosesNone : Row → Type 0
 LosesNone row = (a : ℕ) → act_at row.acts a ≢ act.Lost
 
--- Row t is calm: its environment has held for the greatest bound, and no application is lost in it.
+-- Row `t` is calm: its environment has held for the greatest bound, and no application is lost in the row.
 pub record IsCalm (spec : Parts) (rows : List Row) (t : ℕ) (row : Row) : Type 0 where
   pub there : slice_get rows t ≡ Some row
   pub late : greatest_bound spec.bounds ≤ t
   pub still : (f : ℕ) → t ≤ f + greatest_bound spec.bounds → f ≤ t → env_in rows f ≡ Some row.env
   pub whole : LosesNone row
 
--- The running configuration meets each demand that matches the environment and applies to the configuration. If no
--- configuration runs, no demand matches the environment.
+-- Whether the running configuration meets each demand that matches the environment and applies to the configuration. If
+-- no configuration runs, whether no demand matches the environment.
 abbrev pub satisfies : Parts → Env → Option ConfId → Bool
 satisfies spec v None = not (has_demand_in spec v)
 satisfies spec v (Some c) = meets_all spec c v
 
--- The configuration that runs in a row satisfies the demands.
+-- Whether the configuration that runs in a row satisfies the demands.
 abbrev pub is_satisfied : Parts → Row → Bool
 is_satisfied spec row = satisfies spec row.env (running spec row.acts)
 

@@ -13,9 +13,10 @@ pub enum Property {
     Sp2,
     /// A bound is given, and the reconfiguration took no longer.
     Sp3,
-    /// The invariants for the source hold throughout, and the target's preconditions hold before the end.
+    /// The invariants for the source hold throughout, and the target's preconditions hold in the row before the end.
     Sp4,
-    /// The reconfiguration begins because the environment changed.
+    /// The environment changes at the reconfiguration's begin or in the next row. If targets are settled, a change
+    /// during the preceding reconfiguration may also be the cause. A begin in the last row is exempt.
     Sp5,
     /// The configuration that runs in each calm row satisfies the demands.
     Sp6,
@@ -47,7 +48,7 @@ pub struct Broken {
     pub frame: u32,
 }
 
-// Returns the break of a property in a frame, or `None` if there is no frame.
+// Returns the break of a property in a frame, or `None` if `frame` is `None`.
 pub(crate) fn broken_at(property: Property, frame: Option<u32>) -> Option<Broken>
     ensures { result ≡ broken_at property frame }
 {
@@ -57,7 +58,7 @@ pub(crate) fn broken_at(property: Property, frame: Option<u32>) -> Option<Broken
     }
 }
 
-// Returns the break that comes first of two, or the only one.
+// Returns the earlier of two breaks, the only one if one is absent, or `None`.
 pub(crate) fn earlier(one: Option<Broken>, other: Option<Broken>) -> Option<Broken>
     ensures { result ≡ earlier one other }
 {

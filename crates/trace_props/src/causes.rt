@@ -8,8 +8,9 @@ ghost use Rattle.trace_props.specs.Judging.{causeless_at, changes_in, follows, h
 use scram_types::lookups::{env_before, env_in};
 use scram_types::{Env, Policy, Report, Row, Spec};
 
-// Returns the frame in which SP5 is broken, or `None` if it is kept. The frame is the begin, if the environment changed
-// neither in it, nor in the next frame, nor during a reconfiguration just before. A begin in the last row is exempt.
+// Returns the begin of a reconfiguration if SP5 is broken in it, or `None` if SP5 is kept. SP5 is broken if the
+// environment changed neither in the begin, nor in the next frame, nor during a reconfiguration just before. A begin in
+// the last row is exempt.
 pub(crate) fn causeless_at(
     spec: &Spec,
     rows: &[Row],

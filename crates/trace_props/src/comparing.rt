@@ -5,12 +5,12 @@ ghost use Rattle.trace_props.specs.Judging.{compare, difference, is_same_report,
 
 use scram_types::{ConfId, Report};
 
-/// The agreement of two lists that has been found so far.
+/// The agreement of two lists so far.
 #[derive(Clone, Copy, Debug, PartialEq, Eq)]
 pub(crate) enum Agreement {
-    /// The first reconfigurations, of this number, are reported as they are read.
+    /// The first reconfigurations that are read equal the first reports. The field is their number.
     Alike(usize),
-    /// The next reconfiguration is not reported as it is read. The frame is the smaller begin of the two.
+    /// A reconfiguration that is read differs from the report at its index. The frame is the smaller begin of the two.
     Apart(u32),
 }
 
@@ -33,8 +33,8 @@ pub(crate) fn compare(told: &[Report], so_far: Agreement, read: Report) -> Agree
     }
 }
 
-// Returns the frame in which the lists differ once all is read, or `None` if they agree. Any further report is a
-// difference.
+// Returns the frame in which the lists differ once all reconfigurations are read, or `None` if the lists agree. Any
+// further report is a difference.
 pub(crate) fn difference(told: &[Report], so_far: Agreement) -> Option<u32>
     ensures { result ≡ difference told.now so_far }
 {

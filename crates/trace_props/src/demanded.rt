@@ -27,7 +27,8 @@ pub(crate) fn unsatisfied_at(spec: &Spec, rows: &[Row]) -> Option<u32>
     None
 }
 
-// Returns the first frame from which on the environment is that of row `frame`, given that frame for the preceding row.
+// Returns the first frame from which on the environment is the one of row `frame`, given that frame for the preceding
+// row.
 fn held_by(rows: &[Row], frame: usize, since: usize) -> usize
     ensures { result ≡ held_by rows.now frame since }
 {

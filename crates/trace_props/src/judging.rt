@@ -14,7 +14,7 @@ use crate::targets::{late_at, unchosen_at};
 use frame_model::{Reading, close, read_row};
 use scram_types::{Report, Row, Spec};
 
-/// Judges rows, the first of which is the row of frame 0, and their reports by SP1 to SP6. The specification need not
+/// Judges rows and their reports by SP1 to SP6. The first of the rows is the row of frame 0. The specification need not
 /// be accepted.
 ///
 /// # Errors
@@ -33,15 +33,15 @@ pub fn props(spec: &Spec, rows: &[Row], told: &[Report]) -> Result<(), Broken>
     }
 }
 
-/// SP1 to SP6 hold exactly if none of them is broken in any frame.
+/// States that SP1 to SP6 hold if and only if none of them is broken in any frame.
 pub fn holds_where_unbroken()
     ensures { HoldsWhereUnbroken }
 {}
 
-/// The judgement of the reconfigurations so far.
+/// The judgement of the reconfigurations that have been read so far.
 #[derive(Clone, Copy, Debug, PartialEq, Eq)]
 pub(crate) struct Judgement {
-    /// The agreement of the reports with the reconfigurations that are read.
+    /// The agreement of the reports with the reconfigurations that have been read.
     pub agreement: Agreement,
     /// The first break of SP2 to SP5.
     pub broken: Option<Broken>,
@@ -59,7 +59,7 @@ fn first_break(spec: &Spec, rows: &[Row], told: &[Report]) -> Option<Broken>
     )
 }
 
-// Returns the first break of SP1 to SP5, or `None` if they hold.
+// Returns the first break of SP1 to SP5, or `None` if all five hold.
 fn first_in_reports(spec: &Spec, rows: &[Row], told: &[Report]) -> Option<Broken>
     requires { length rows.now < 2 ^ 32 }
     ensures { result ≡ first_in_reports spec.now rows.now told.now }
@@ -103,8 +103,8 @@ fn judge(
     }
 }
 
-// Returns the first break of SP2 to SP5 by a reconfiguration, given the reconfiguration `before` that was read just
-// before it.
+// Returns the first break of SP2 to SP5 by a reconfiguration, or `None`. `before` is the reconfiguration that was read
+// just before.
 fn broken_in(spec: &Spec, rows: &[Row], before: Option<Report>, read: Report) -> Option<Broken>
     ensures { result ≡ broken_in spec.now rows.now before read }
 {

@@ -9,8 +9,8 @@ ghost use Rattle.trace_props.specs.Judging.{breaks_at, breaks_target_preconditio
 
 use scram_types::{AppId, Area, ConfId, Invariant, Precondition, Report, Row, Spec};
 
-// Returns the first frame in which SP4 is broken, or `None` if it is kept. The row of the frame does not keep an
-// invariant, or it is the row before the end and does not meet a precondition of the target.
+// Returns the first frame in which SP4 is broken, or `None` if SP4 is kept. In that frame the row breaks an invariant,
+// or the row is the one before the end and does not meet a precondition of the target.
 pub(crate) fn unkept_at(spec: &Spec, rows: &[Row], read: Report) -> Option<u32>
     ensures { result ≡ unkept_at spec.now rows.now read }
 {
@@ -21,7 +21,7 @@ pub(crate) fn unkept_at(spec: &Spec, rows: &[Row], read: Report) -> Option<u32>
     least
 }
 
-// Returns the first frame in which an invariant is broken, or `None` if it is kept or is not for the source.
+// Returns the first frame in which an invariant is broken, or `None` if the invariant is kept or is not for the source.
 fn unkept_from(rows: &[Row], read: Report, inv: &Invariant) -> Option<u32>
     ensures { result ≡ unkept_from rows.now read inv.now }
 {
@@ -58,7 +58,7 @@ fn breaks_invariant(row: &Row, inv: &Invariant) -> bool
     !lies_in(inv.least, inv.greatest, word_in(row, inv.app, inv.variable))
 }
 
-// Returns the frame before the end if its row does not meet some precondition of the target.
+// Returns the frame before the end if its row does not meet some precondition of the target, or `None`.
 fn unmet_at(spec: &Spec, rows: &[Row], read: Report) -> Option<u32>
     ensures { result ≡ unmet_at spec.now rows.now read }
 {
@@ -139,7 +139,7 @@ fn lies_in(low: i64, high: i64, word: i64) -> bool
     low <= word && word <= high
 }
 
-// Returns the smaller of two frames, or the only one.
+// Returns the smaller of two frames, the only one if one is absent, or `None`.
 fn lesser_frame(one: Option<u32>, other: Option<u32>) -> Option<u32>
     ensures { result ≡ lesser_frame one other }
 {

@@ -1,4 +1,4 @@
-//! Theorems on missions: each function here states a theorem by its contract and does nothing. A mission is an accepted
+//! Theorems on missions. Each function here states a theorem by its contract and does nothing. A mission is an accepted
 //! specification and a script that fits it and keeps to its failure assumption.
 
 ghost use Rattle.trace_props.specs.Missions.{FurtherChangesAreFew, HaltingEndsInTime, PhasesArePastInTime, ReconfigurationsAreAssured, TargetsAreChosen};
@@ -18,39 +18,40 @@ pub fn reconfigurations_are_assured()
     know();
 }
 
-/// In each frame in which a reconfiguration is under way its target can run, and was chosen from its source in an
-/// environment seen since its first moving frame. Under `Retarget` it was chosen in this frame's environment.
+/// States that in each frame in which a reconfiguration is under way, its target can run and was chosen from its source
+/// in an environment seen since its first moving frame. Under `Retarget` the target was chosen in this frame's
+/// environment.
 pub fn targets_are_chosen()
     ensures { TargetsAreChosen }
 {
     know();
 }
 
-/// The halting phase ends within this number of frames after the first moving frame: the halting time of the source,
-/// plus the slowest turn for each further change of the environment.
+/// States that the halting phase ends in time after the first moving frame. The limit is the halting time of the
+/// source, plus the slowest turn for each further change of the environment.
 pub fn halting_ends_in_time()
     ensures { HaltingEndsInTime }
 {
     know();
 }
 
-/// No frame of a reconfiguration is later than its phases allow.
+/// States that no frame of a reconfiguration is later than its phases allow.
 pub fn phases_are_past_in_time()
     ensures { PhasesArePastInTime }
 {
     know();
 }
 
-/// The number of further changes during a reconfiguration is within the number that its bounds allow for.
+/// States that the number of further changes during a reconfiguration is at most the number for which its bounds allow.
 pub fn further_changes_are_few()
     ensures { FurtherChangesAreFew }
 {
     know();
 }
 
-/// Once the environment has held for the greatest bound, no reconfiguration is under way. In each row whose environment
-/// has held for that number of frames, and in which no application is lost, a configuration runs that the table chooses
-/// again in this environment. This holds under both policies, with halts and restarts.
+/// States that no reconfiguration is under way once the environment has held for the greatest bound. In each row whose
+/// environment has held for that number of frames, and in which no application is lost, a configuration runs that the
+/// table chooses again in this environment. This holds under both policies, with halts and restarts.
 pub fn calm_settles()
     ensures { CalmSettles }
 {
