@@ -238,7 +238,8 @@ fn spins_of<R: Threads>(rt: &R) -> u32 {
     }
 }
 
-// Returns the cells of the processors. Cell `p` holds rack `p` and spare rack `p`.
+// Returns the cells of the processors. Cell `p` holds rack `p` and spare rack `p`, or is empty if there are no such
+// racks.
 fn cells(alloc: Global, racks: Vec<Rack>, spares: Vec<Rack>) -> [RackCell; 8] {
     let mut racks = racks.into_iter();
     let mut spares = spares.into_iter();
