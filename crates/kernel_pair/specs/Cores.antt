@@ -29,7 +29,7 @@ abbrev pub flyer_after : {X : Type 0} {Y : X → Type 0} → Option ℕ → ℕ 
 flyer_after None f flyer = flyer
 flyer_after (Some s) f flyer = flyer_halted f flyer
 
--- An event of a unit changes neither a kernel's log nor a word of its image, and needs no processor.
+-- The event is one of a unit that needs neither a processor nor a word.
 abbrev pub IsTurn : PairEvent → Type 0
 IsTurn (Fly p u) = ⊥
 IsTurn (Note u p) = ⊥

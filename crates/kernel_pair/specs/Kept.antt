@@ -7,8 +7,7 @@ use Rattle.fail_stop.specs.Kept.{mark_at, end_at, bank_at, kernel_at, release_at
 use Rattle.kernel_pair.specs.declared.events.UnitHalt.{UnitHalt}
 use Rattle.kernel_pair.specs.Pairs.{Processor, KernelUnit, Pair, other_unit, frame_to_make}
 
--- Processor `p` may be at the beginning of frame `f`. It is up in the frame and has ended the preceding frame or was
--- down in it.
+-- Processor `p` may be at the beginning of frame `f`, since it is up in the frame and done with the preceding frame.
 pub record Waiting (m : Flight) (p f n : ℕ) : Type 0 where
   pub fresh : n ≡ 0
   pub within : f ≤ m.frames

@@ -211,7 +211,7 @@ halted_unit t x = record {
   images = x.images;
 }
 
--- The family `f` with another member at index `i`.
+-- The family `g` with `a` as its member at index `i`.
 abbrev pub with_at : {A : Type 0} → (ℕ → A) → ℕ → A → ℕ → A
 with_at {A} g i a j = if nat_eq j i then a else g j
 
