@@ -1,4 +1,4 @@
--- The parts of a flight of a kernel on two units beside its machine.
+-- A flight whose kernel runs on two units: its kernels and processors in relation to the state of its machine.
 use Rattle.std.specs.Prelude.{◌≡◌, ℕ, List, Option, Some, None}
 use Rattle.scram_kernel.specs.Kernels.{KernelParts, kernel_after}
 use Rattle.fail_stop.specs.declared.flyers.Flyer.{Flyer}
@@ -10,15 +10,15 @@ use Rattle.kernel_pair.specs.Laws.{noted_frames}
 use Rattle.kernel_pair.specs.Machines.{PairParts, pair_flight, pair_in}
 use Rattle.kernel_pair.specs.Pairs.{Pair}
 
--- The place of each processor.
+-- The place of each processor in a state.
 abbrev pub places_in : Pair → ℕ → Place
 places_in s p = (s.proc p).place
 
--- A kernel is that of unit `u`: it has ended the frames in which the unit has noted every processor.
+-- The kernel of unit `u` has ended the frames in which the unit has noted every processor.
 abbrev pub IsKernelOf : PairParts → ℕ → KernelParts → Type 0
 IsKernelOf pair u kernel = kernel ≡ kernel_after pair.spec pair.script (noted_frames (pair_flight pair) ((pair_in pair).unit u))
 
--- Both kernels are those of their units, and the eight processors in flight are at their places in the machine.
+-- Each kernel belongs to its unit, and the eight processors in flight are at their places in the machine.
 pub record PairCoreKeeps {X : Type 0} {Y : X → Type 0} (pair : PairParts) (kernel other : KernelParts) (crew : List (Flyer X Y)) : Type 0 where
   pub first : IsKernelOf pair 0 kernel
   pub second : IsKernelOf pair 1 other
@@ -29,7 +29,7 @@ abbrev pub flyer_after : {X : Type 0} {Y : X → Type 0} → Option ℕ → ℕ 
 flyer_after None f flyer = flyer
 flyer_after (Some s) f flyer = flyer_halted f flyer
 
--- An event of a unit that needs neither a processor nor a word.
+-- The event is one of a unit that needs neither a processor nor a word.
 abbrev pub IsTurn : PairEvent → Type 0
 IsTurn (Fly p u) = ⊥
 IsTurn (Note u p) = ⊥

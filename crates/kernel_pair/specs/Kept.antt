@@ -1,5 +1,5 @@
--- The invariant of each state of each schedule of a pair: the words of each actor by its place, and the places of the
--- actors relative to each other.
+-- The invariant of every state that a schedule of a pair reaches. It relates the words of each actor to the actor's
+-- place, and the places of the actors to each other.
 use Rattle.std.specs.Prelude.{◌≡◌, ℕ, suc, ◌+◌, ◌*◌, ◌<◌, ◌≤◌, true, Option, Some, None, if◌then◌else◌, nat_lt}
 use Rattle.fail_stop.specs.Flights.{Flight, word_in, mark_before, end_before, image_before}
 use Rattle.fail_stop.specs.Events.{Place, At, Halted}
@@ -7,14 +7,14 @@ use Rattle.fail_stop.specs.Kept.{mark_at, end_at, bank_at, kernel_at, release_at
 use Rattle.kernel_pair.specs.declared.events.UnitHalt.{UnitHalt}
 use Rattle.kernel_pair.specs.Pairs.{Processor, KernelUnit, Pair, other_unit, frame_to_make}
 
--- Processor `p` may be at the beginning of frame `f`: it is up in the frame and done with the frame before.
+-- Processor `p` may be at the beginning of frame `f`, since it is up in the frame and done with the preceding frame.
 pub record Waiting (m : Flight) (p f n : ℕ) : Type 0 where
   pub fresh : n ≡ 0
   pub within : f ≤ m.frames
   pub up : m.up p f ≡ true
   pub done : end_before m p f ≡ 2 * f
 
--- Processor p may have halted in frame h.
+-- Processor `p` may have halted in frame `h`, since it is up and has a halt in that frame.
 pub record Down (m : Flight) (p h : ℕ) : Type 0 where
   pub step : ℕ
   pub up : m.up p h ≡ true
@@ -25,33 +25,34 @@ abbrev pub IsStanding : Flight → ℕ → Place → Type 0
 IsStanding m p (At f n) = Waiting m p f n
 IsStanding m p (Halted h) = Down m p h
 
--- Processor `p` has the mark, the end word and the banks of its place.
+-- The mark, the end word and the banks of processor `p` are those of its place, at which it may be.
 pub record IsProcessor (m : Flight) (p : ℕ) (x : Processor) : Type 0 where
   pub place : IsStanding m p x.place
   pub mark : x.mark ≡ mark_at m p x.place
   pub end : x.end ≡ end_at m p x.place
   pub bank : (b i : ℕ) → b < 2 → i < m.width → x.bank b i ≡ bank_at m p x.place b i
 
--- The number of frames in which a unit in frame `k` after `j` steps has been ready.
+-- The number of frames in which a unit has been ready, if it is in frame `k` after `j` steps.
 abbrev pub readies : Flight → ℕ → ℕ → ℕ
 readies m k j = if nat_lt (m.procs + 20) j then suc k else k
 
--- The number of frames in which a unit in frame `k` after `j` steps has met the other unit.
+-- The number of frames in which a unit has met the other unit, if it is in frame `k` after `j` steps.
 abbrev pub meetings : Flight → ℕ → ℕ → ℕ
 meetings m k j = if nat_lt (m.procs + 21) j then suc k else k
 
--- The ready word of a unit in frame `k` after `j` steps, given the frame of its halt if it has halted.
+-- The ready word of a unit that is in frame `k` after `j` steps, or has halted in frame `t`.
 abbrev pub ready_at : Flight → Option ℕ → ℕ → ℕ → ℕ
 ready_at m None k j = 2 * readies m k j
 ready_at m (Some t) k j = 2 * t + 1
 
--- Unit u is the one that the halt names.
+-- Unit `u` is the unit that the halt names.
 pub record IsNamed (halt : Option UnitHalt) (u : ℕ) : Type 0 where
   pub named : UnitHalt
   pub is : halt ≡ Some named
   pub unit : u ≡ named.unit
 
--- Unit `u` has the words of its place. If the flight has no frame, the unit makes no step.
+-- The words of unit `u`, and the marks and images that it has noted, are those of its place. If the flight has no
+-- frame, the unit makes no step.
 pub record IsUnit (m : Flight) (halt : Option UnitHalt) (u : ℕ) (x : KernelUnit) : Type 0 where
   pub below : 0 < m.frames → x.frame < m.frames
   pub still : m.frames ≡ 0 → (x.frame ≡ 0) × (x.step ≡ 0)
@@ -64,27 +65,27 @@ pub record IsUnit (m : Flight) (halt : Option UnitHalt) (u : ℕ) (x : KernelUni
   pub marks : (p : ℕ) → p < m.procs → p < x.step → x.marks p ≡ mark_before m p (suc x.frame)
   pub images : (p i : ℕ) → p < m.procs → p < x.step → i < m.width → x.images p i ≡ word_in (image_before m p (suc x.frame)) i
 
--- Frame `f` of processor `p` is not below that of a unit in frame `k` after `j` steps, and is above it if the unit has
--- noted `p`.
+-- Frame `f` of processor `p` is at least frame `k` of a unit. If the unit has noted `p` within its first `j` steps, `f`
+-- is above `k`.
 abbrev pub NotBelow : ℕ → ℕ → ℕ → ℕ → Type 0
 NotBelow k j p f = (k ≤ f) × (p < j → k < f)
 
--- The frame that processor `p` makes next is not below that of a unit, which may have halted.
+-- The frame that processor `p` makes next is at least the frame of a unit, and above it if the unit has noted `p`.
 abbrev pub IsAhead : Flight → ℕ → Place → KernelUnit → Type 0
 IsAhead m p place x = (f : ℕ) → frame_to_make (m.restart p) place ≡ Some f → NotBelow x.frame x.step p f
 
--- The number of frames before the place of a processor, including the frame in which it has halted.
+-- The number of frames that a processor at a place has left behind, including a frame in which it has halted.
 abbrev pub frames_past : Place → ℕ
 frames_past (At f n) = f
 frames_past (Halted h) = suc h
 
--- Some unit has released all frames before the place of a processor, including the frame in which it has halted.
+-- Some unit has released every frame that a processor at this place has left behind.
 pub record IsReached (units : ℕ → KernelUnit) (place : Place) : Type 0 where
   pub unit : ℕ
   pub there : unit < 2
   pub high : frames_past place ≤ suc (units unit).frame
 
--- Unit `x` has met unit `y` in at most the number of frames in which `y` has been ready, unless `y` has halted.
+-- Unless unit `y` has halted, unit `x` has met it in at most as many frames as `y` has been ready in.
 abbrev pub HasMet : Flight → KernelUnit → KernelUnit → Type 0
 HasMet m x y = y.stopped ≡ None → meetings m x.frame x.step ≤ readies m y.frame y.step
 

@@ -1,4 +1,4 @@
--- The laws of every pair of a script that fits its specification, for any order of events, and with or without a halt
+-- The laws of every pair whose script fits its specification. They hold for any order of events, with or without a halt
 -- of one unit.
 use Rattle.std.specs.Prelude.{◌≡◌, ◌⊎◌, ℕ, suc, ◌<◌, List, length, Option, None, if◌then◌else◌, nat_le}
 use Rattle.scram_types.specs.declared.ids.ProcId.{ProcId}
@@ -25,8 +25,8 @@ abbrev pub BothHaveNoted : Flight → Pair → Type 0
 BothHaveNoted m s = (u k : ℕ) → u < 2 → suc k < (s.unit u).release
     → (k < noted_frames m (s.unit u)) × ((s.unit (other_unit u)).stopped ≡ None → k < noted_frames m (s.unit (other_unit u)))
 
--- The words of unit `u` are those of the kernel image of frame `f`, and the bank that a reader picks of each processor
--- holds its image before the frame.
+-- A reader by the words of unit `u` finds the kernel image of frame `f`, and each processor's image before the frame in
+-- the bank that the reader picks.
 pub record FindsBy (spec : Parts) (script : ScriptParts) (s : Pair) (u f : ℕ) : Type 0 where
   pub kernel : (i : ℕ) → i < 20 → (s.unit u).kernel i ≡ word_in (kernel_words spec script f) i
   pub picked : (q : ℕ) → q < length spec.procs → pick (s.proc q).mark f ≡ image_bank_after spec script q f
@@ -37,16 +37,17 @@ pub record FindsBy (spec : Parts) (script : ScriptParts) (s : Pair) (u f : ℕ) 
 abbrev pub ProcessorsFind : Parts → ScriptParts → Option UnitHalt → Pair → Type 0
 ProcessorsFind spec script halt s = (p : ProcId) (u : ℕ) → (next : IsPairNext (flight_of spec script) halt s (Fly p u)) → FindsBy spec script s u next.2.0
 
--- Unit `x` has noted the mark and the image of processor `p` after the unit's frame in the one-thread trace.
+-- The mark and the image of processor `p` that unit `x` has noted are those after the unit's frame in the one-thread
+-- trace.
 pub record HasNoted (spec : Parts) (script : ScriptParts) (x : KernelUnit) (p : ℕ) : Type 0 where
   pub mark : x.marks p ≡ mark_after spec script p (suc x.frame)
   pub image : (i : ℕ) → i < width_of spec → x.images p i ≡ word_in (image_words_after spec script p (suc x.frame)) i
 
--- Each unit has noted marks and images of the end of its frame.
+-- The marks and images that each unit has noted are those after the unit's frame in the one-thread trace.
 abbrev pub UnitsHaveNoted : Parts → ScriptParts → Pair → Type 0
 UnitsHaveNoted spec script s = (u p : ℕ) → u < 2 → p < length spec.procs → p < (s.unit u).step → HasNoted spec script (s.unit u) p
 
--- Some unit has not halted. If the pair is over, each such unit has noted all frames.
+-- Some unit has not halted. If the pair is over, each unit that has not halted has noted all frames.
 pub record OneUnitStays (m : Flight) (s : Pair) : Type 0 where
   pub stays : ((s.unit 0).stopped ≡ None) ⊎ ((s.unit 1).stopped ≡ None)
   pub noted_all : IsPairOver m s → (u : ℕ) → u < 2 → (s.unit u).stopped ≡ None → noted_frames m (s.unit u) ≡ m.frames
@@ -55,7 +56,7 @@ pub record OneUnitStays (m : Flight) (s : Pair) : Type 0 where
 abbrev pub HasNext : Flight → Option UnitHalt → Pair → Type 0
 HasNext m halt s = (event : PairEvent) × IsPairNext m halt s event
 
--- The facts that hold in a state.
+-- The facts that hold in each state of a pair.
 pub record PairHolds (spec : Parts) (script : ScriptParts) (halt : Option UnitHalt) (s : Pair) : Type 0 where
   pub both_noted : BothHaveNoted (flight_of spec script) s
   pub found : ProcessorsFind spec script halt s
@@ -63,13 +64,13 @@ pub record PairHolds (spec : Parts) (script : ScriptParts) (halt : Option UnitHa
   pub one_stays : OneUnitStays (flight_of spec script) s
   pub goes_on : IsPairOver (flight_of spec script) s ⊎ HasNext (flight_of spec script) halt s
 
--- The facts hold in each state of each schedule from each opening, for every halt of one unit.
+-- The facts hold in each state that a schedule reaches from an opening, for every halt of one unit.
 abbrev pub PairsHold : Type 0
 PairsHold = (spec : Parts) (script : ScriptParts) → IsSpec spec → Fits spec script
     → (halt : Option UnitHalt) (first : Pair) (events : List PairEvent) (state : Pair)
     → IsPairOpening (flight_of spec script) first → IsPairSchedule (flight_of spec script) halt first events state → PairHolds spec script halt state
 
--- Each state of each schedule has the invariant.
+-- The invariant holds in each state that a schedule reaches from an opening, for every halt of one unit.
 abbrev pub PairsKeep : Type 0
 PairsKeep = (spec : Parts) (script : ScriptParts) → Fits spec script → (halt : Option UnitHalt) (first : Pair) (events : List PairEvent) (state : Pair)
     → IsPairOpening (flight_of spec script) first → IsPairSchedule (flight_of spec script) halt first events state → PairKept (flight_of spec script) halt state

@@ -1,4 +1,4 @@
--- A pair with its events, as its callers see it, and its invariant.
+-- A pair with the list of its events, and the invariant of the two.
 use Rattle.std.specs.Prelude.{◌≡◌, ℕ, suc, ◌+◌, ◌++◌, ◌≤◌, List, [], ◌∷◌, Option, Some, slice_index_or}
 use Rattle.scram_types.specs.Scripts.{ScriptParts}
 use Rattle.scram_types.specs.Specification.{IsSpec, Parts}
@@ -13,7 +13,7 @@ use Rattle.kernel_pair.specs.Pairs.{IsPairReplay, Pair, frame_to_make, pair_afte
 use Rattle.kernel_pair.specs.Rooms.{pair_left}
 use Rattle.kernel_pair.specs.States.{pair_of}
 
--- The specification, the script and the halt of a unit of a pair, its state, and the events so far.
+-- A pair: its specification, its script, the halt of a unit, if there is one, its state, and the events so far.
 pub record PairParts : Type 0 where
   pub spec : Parts
   pub script : ScriptParts
@@ -25,7 +25,7 @@ pub record PairParts : Type 0 where
 abbrev pub parts_of : Parts → ScriptParts → Option UnitHalt → PairState → List PairEvent → PairParts
 parts_of spec script halt state events = record { spec = spec; script = script; halt = halt; state = state; events = events }
 
--- The flight of the machine that a pair flies.
+-- The flight of a pair's mission.
 abbrev pub pair_flight : PairParts → Flight
 pair_flight k = flight_of k.spec k.script
 
@@ -37,7 +37,7 @@ pair_in k = pair_of k.state
 abbrev pub pair_with : PairParts → PairEvent → Pair
 pair_with k event = pair_after (pair_flight k) k.halt (pair_in k) event
 
--- The invariant of a pair: its events are a schedule from the opening to its state, and there is room for every
+-- The invariant of a pair. Its events are a schedule from the opening to its state, and there is room for every
 -- remaining event.
 pub record PairKeeps (spec : Parts) (script : ScriptParts) (halt : Option UnitHalt) (state : PairState) (events : List PairEvent)
     (room count : ℕ) : Type 0 where
@@ -46,7 +46,7 @@ pub record PairKeeps (spec : Parts) (script : ScriptParts) (halt : Option UnitHa
   pub replay : IsPairReplay (flight_of spec script) halt events (pair_of state)
   pub room_left : count + pair_left (flight_of spec script) halt (pair_of state) ≤ room
 
--- A frame has the words of its draft, and a store has its word.
+-- If the event is a frame, `draft` holds the words of the frame's draft. If it is a store, `word` is the word to store.
 abbrev pub AreEventWords : Flight → Pair → PairEvent → List ℕ → ℕ → Type 0
 AreEventWords m s (Fly p u) draft word =
     (f : ℕ) → frame_to_make (m.restart p.0) (s.proc p.0).place ≡ Some f → (i : ℕ) → slice_index_or draft i 0 ≡ word_in (m.draft p.0 f) i

@@ -10,13 +10,13 @@ abbrev pub frames_below : Flight → (ℕ → Processor) → ℕ → ℕ
 frames_below m proc zero = 0
 frames_below m proc (suc n) = frames_below m proc n + (m.frames - frames_past (proc n).place)
 
--- The number of halts of unit `u` that remain, which is at most one.
+-- The number of halts of unit `u` that remain, which is 0 or 1.
 abbrev pub halt_left : Option UnitHalt → ℕ → KernelUnit → ℕ
 halt_left None u x = 0
 halt_left (Some h) u x = if nat_eq u h.unit && is_none x.stopped then 1 else 0
 
--- The number of steps of unit `u` that remain: in each frame a note of each processor, twenty stores and three turns,
--- and its halt.
+-- The number of steps of unit `u` that remain. A frame has a note of each processor, twenty stores and three turns, and
+-- the unit may halt.
 abbrev pub steps_left : Flight → Option UnitHalt → ℕ → KernelUnit → ℕ
 steps_left m halt u x = (m.frames - x.frame) * (m.procs + 23) - x.step + halt_left halt u x
 

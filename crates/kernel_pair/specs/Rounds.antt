@@ -1,4 +1,4 @@
--- A pair whose flight goes on.
+-- The progress of a pair's flight.
 use Rattle.std.specs.Prelude.{◌≡◌, ◌≤◌, ℕ}
 use Rattle.kernel_pair.specs.Machines.{PairParts, pair_flight, pair_in}
 use Rattle.kernel_pair.specs.Rooms.{pair_left}
@@ -7,7 +7,7 @@ use Rattle.kernel_pair.specs.Rooms.{pair_left}
 abbrev pub left_in : PairParts → ℕ
 left_in k = pair_left (pair_flight k) k.halt (pair_in k)
 
--- The flight of a pair goes on: fewer events remain, or the state has not changed and `Stuck` holds in it.
+-- The flight of a pair has gone on. Fewer events remain, or the state is unchanged and `Stuck` holds.
 pub record IsFlownOn (old new : PairParts) (Stuck : Type 0) : Type 0 where
   pub spec : new.spec ≡ old.spec
   pub script : new.script ≡ old.script

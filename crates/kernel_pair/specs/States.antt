@@ -1,4 +1,4 @@
--- The state of a pair as the state of its machine.
+-- The state of a machine that the state of a pair represents.
 use Rattle.std.specs.Prelude.{ℕ, ℤ, pos, List, [], None, nat_lt, slice_index_or, if◌then◌else◌}
 use Rattle.scram_types.specs.Specification.{Parts}
 use Rattle.bank_words.specs.Numbers.{decode}
@@ -15,12 +15,12 @@ use Rattle.fail_stop.specs.ScriptFlights.{flight_of}
 use Rattle.fail_stop.specs.Flights.{Flight}
 use Rattle.bank_words.specs.Marks.{pick}
 
--- The place of a processor.
+-- The place that a processor's state between two frames represents.
 abbrev pub stand_place : Stand → Place
 stand_place (stand.Before f) = At f 0
 stand_place (stand.Halted h) = Halted h
 
--- Word i of bank b.
+-- Word `i` of bank `b`.
 abbrev pub bank_word : List (List ℕ) → ℕ → ℕ → ℕ
 bank_word banks b i = slice_index_or (slice_index_or banks b []) i 0
 
@@ -41,11 +41,11 @@ unit_of x = record {
   images = λ p i. slice_index_or (slice_index_or x.images p []) i 0;
 }
 
--- The state that is read past the last processor.
+-- The state that a lookup past the last processor yields.
 abbrev pub blank_processor : ProcessorState
 blank_processor = record { stand = stand.Before 0; mark = 0; end = 0; banks = [] }
 
--- The state that is read past the last unit.
+-- The state that a lookup past the last unit yields.
 abbrev pub blank_unit : UnitState
 blank_unit = record { frame = 0; step = 0; stopped = None; release = 0; ready = 0; words = []; marks = []; images = [] }
 
@@ -61,11 +61,11 @@ word_decoded spec words i = if nat_lt i (width_of spec) then decode (slice_index
 abbrev pub flight_by : Setup → Flight
 flight_by setup = flight_of setup.spec.now setup.script.now
 
--- The end word of processor p.
+-- The end word of processor `p`.
 abbrev pub end_word_in : List ProcessorState → ℕ → ℕ
 end_word_in procs p = (processor_of (slice_index_or procs p blank_processor)).end
 
--- Word `i` of the image of processor `q` that is seen as a frame begins.
+-- Word `i` of the image of processor `q` that a reader in a frame finds.
 abbrev pub word_seen : Parts → List ProcessorState → ℕ → ℕ → ℕ → ℤ
 word_seen spec procs q frame i =
     let x = slice_index_or procs q blank_processor in word_decoded spec (slice_index_or x.banks (pick x.mark frame) []) i

@@ -47,9 +47,9 @@ impl<'a> PairCore<'a> {
     ghost use Rattle.kernel_pair.specs.Pairs.{IsPairNext, IsPairOpening, IsPairOver, IsPairReplay, frame_to_make, next_unit};
     ghost use Rattle.kernel_pair.specs.declared.events.PairEvent.TheVariants.{Fly, Note, Store};
 
-    /// Returns a flight before the first event, with `racks[p]` as the boxes of processor `p` and `spares[p]` as its
-    /// boxes after a restart. All memory of the flight is allocated here: the rows and reports of both units, and room
-    /// for every possible event.
+    /// Creates a flight before its first event. `racks[p]` holds the boxes of processor `p`, and `spares[p]` its boxes
+    /// after a restart. All memory of the flight is allocated here: the rows and reports of both units, and room for
+    /// every possible event.
     ///
     /// # Errors
     ///
@@ -85,8 +85,8 @@ impl<'a> PairCore<'a> {
         })
     }
 
-    /// Returns the next event of unit 0 or 1. Returns `None` if and only if the unit waits for a processor or for the
-    /// other unit, has halted or has made its last note, or the flight has no frame.
+    /// Returns the next event of unit 0 or 1. It returns `None` if and only if the unit waits for a processor or for
+    /// the other unit, has halted or has made its last note, or the flight has no frame.
     pub fn next(&self, unit: u8) -> Option<PairEvent>
         requires { unit < 2 }
         ensures { result ≡ next_unit (pair_flight self.now) self.now.halt (pair_in self.now) unit }
@@ -94,11 +94,11 @@ impl<'a> PairCore<'a> {
         self.machine.next(unit)
     }
 
-    /// Makes an event if it is next of its actor. Otherwise nothing changes.
+    /// Makes an event if it is a next event of its actor. Otherwise nothing changes.
     ///
     /// # Errors
     ///
-    /// Returns the event if and only if it is not next of its actor, whatever its numbers are.
+    /// Returns the event if and only if it is not a next event of its actor, whatever its numbers are.
     pub fn step(&mut self, event: PairEvent) -> Result<(), PairEvent>
         ensures next { IfOk result (λ _. IsPairNext (pair_flight self.old) self.old.halt (pair_in self.old) event) }
         ensures step { IfOk result (λ _. IsPairStep self.old event self.new) }
@@ -121,7 +121,7 @@ impl<'a> PairCore<'a> {
         Ok(())
     }
 
-    // Makes the next frame of a processor by the words of a unit.
+    // Makes the next frame of processor `p` by the words of unit `u`.
     fn fly(&mut self, p: ProcId, u: u8)
         requires { IsPairNext (pair_flight self.old) self.old.halt (pair_in self.old) (Fly p u) }
         ensures { IsPairStep self.old (Fly p u) self.new }
@@ -130,7 +130,7 @@ impl<'a> PairCore<'a> {
         self.machine.make(PairEvent::Fly(p, u), &words, 0);
     }
 
-    // Notes a processor in a unit, and ends the unit's frame with the last processor.
+    // Notes processor `p` in unit `u`. If this is the last note of the unit's frame, the unit's kernel ends the frame.
     fn note(&mut self, u: u8, p: ProcId)
         requires { IsPairNext (pair_flight self.old) self.old.halt (pair_in self.old) (Note u p) }
         ensures { IsPairStep self.old (Note u p) self.new }
@@ -144,7 +144,7 @@ impl<'a> PairCore<'a> {
         }
     }
 
-    // Stores a word of the kernel image of the next frame in a unit.
+    // Stores word `i` of the kernel image of the next frame in unit `u`.
     fn store(&mut self, u: u8, i: u8)
         requires { IsPairNext (pair_flight self.old) self.old.halt (pair_in self.old) (Store u i) }
         ensures { IsPairStep self.old (Store u i) self.new }
@@ -155,7 +155,7 @@ impl<'a> PairCore<'a> {
             .make(PairEvent::Store(u, i), &[0; 64], words[usize::from(i)]);
     }
 
-    // Makes an event of a unit that needs neither a processor nor a word.
+    // Makes an event of a unit that needs no processor and no word.
     fn turn(&mut self, event: PairEvent)
         requires turn { IsTurn event }
         requires next { IsPairNext (pair_flight self.old) self.old.halt (pair_in self.old) event }
@@ -165,7 +165,7 @@ impl<'a> PairCore<'a> {
         self.machine.make(event, &[0; 64], 0);
     }
 
-    // Returns the kernel of a unit. The kernel has ended the frames in which the unit has noted every processor.
+    // Returns the kernel of unit `u`, which has ended the frames in which the unit has noted every processor.
     fn kernel(&self, u: u8) -> &Kernel<'a>
         requires { u < 2 }
         ensures { result.now ≡ kernel_after self.now.spec self.now.script (noted_frames (pair_flight self.now) ((pair_in self.now).unit u)) }
@@ -173,7 +173,7 @@ impl<'a> PairCore<'a> {
         if u == 0 { &self.first } else { &self.second }
     }
 
-    /// Returns the events so far, which are a schedule from the opening to the present state.
+    /// Returns the events so far. They are a schedule from the opening to the current state.
     pub fn events(&self) -> &[PairEvent]
         ensures events { result.now ≡ self.now.events }
         ensures replay { IsPairReplay (pair_flight self.now) self.now.halt self.now.events (pair_in self.now) }
@@ -190,8 +190,8 @@ impl<'a> PairCore<'a> {
         self.kernel(unit).rows()
     }
 
-    /// Returns the snapshot of a processor that may make a frame by the words of a unit: the kernel image of that
-    /// frame, and every processor's image before the frame.
+    /// Returns the snapshot of a processor that may make a frame by the words of a unit. It holds the kernel image of
+    /// that frame, and every processor's image before the frame.
     pub fn snapshot(&self, p: ProcId, unit: u8, frame: u32) -> Snapshot
         requires next { IsPairNext (pair_flight self.now) self.now.halt (pair_in self.now) (Fly p unit) }
         requires frame { frame_to_make (restart_of self.now.script p.0) ((pair_in self.now).proc p.0).place ≡ Some frame }
@@ -200,9 +200,9 @@ impl<'a> PairCore<'a> {
         self.machine.snapshot(p, unit, frame)
     }
 
-    /// States what holds in each state of a flight, and has no effect. Both units have noted a frame before either
-    /// releases the next, unless one has halted. Each processor finds the words and the images of its frame. One unit
-    /// has not halted. If the pair is not over, some processor or unit has a next event.
+    /// States the facts that hold in each state of a flight, and has no effect. Both units have noted a frame before
+    /// either releases the next, unless one has halted. Each processor finds the words and the images of its frame. At
+    /// least one unit has not halted. If the pair is not over, some processor or unit has a next event.
     pub fn holds(&self)
         ensures facts { IsSpec self.now.spec }
         ensures holds { PairHolds self.now.spec self.now.script self.now.halt (pair_in self.now) }
@@ -218,8 +218,8 @@ impl<'a> PairCore<'a> {
         self.machine.over()
     }
 
-    /// Returns the rows and reports of a unit that has not halted, in a flight that is over. They are those of the
-    /// one-thread trace.
+    /// Returns the rows and reports of a unit that has not halted. The flight is over. The rows and reports are those
+    /// of the one-thread trace.
     pub fn finish(self) -> Flown
         requires { IsPairOver (pair_flight self) (pair_in self) }
         ensures rows { result.rows ≡ rows_of self.entry.spec self.entry.script }

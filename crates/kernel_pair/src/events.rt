@@ -2,8 +2,9 @@
 
 use scram_types::ProcId;
 
-/// The halt of unit 0 or 1 in a frame, after `step` of its steps there. The unit does not halt if the flight has no
-/// such frame, if the frame has fewer steps, or if these steps end with the last note of the flight.
+/// The halt of unit 0 or 1 in a frame, after `step` of the unit's steps in the frame. The unit does not halt if the
+/// flight has no such frame or the frame has fewer steps. It does not halt either if these steps include the last note
+/// of the flight.
 #[derive(Clone, Copy, Debug, PartialEq, Eq)]
 pub struct UnitHalt {
     pub unit: u8,
@@ -11,7 +12,7 @@ pub struct UnitHalt {
     pub step: u8,
 }
 
-/// The next action of a processor or of a unit.
+/// An event of a processor or of a unit.
 #[derive(Clone, Copy, Debug, PartialEq, Eq)]
 pub enum PairEvent {
     /// The processor makes its frame by the words of this unit, whole or up to its halt.
@@ -20,7 +21,7 @@ pub enum PairEvent {
     Note(u8, ProcId),
     /// The unit stores this word of the kernel image of the next frame.
     Store(u8, u8),
-    /// The unit has stored all its words, and signals this to the other unit.
+    /// The unit, which has stored all its words, signals this to the other unit.
     Ready(u8),
     /// The unit finds that the other unit is ready too, or has halted.
     Meet(u8),

@@ -1,4 +1,4 @@
-//! The kernel on two units, one of which may halt. For any order of events, each unit keeps the log of the one-thread
+//! The kernel on two units, one of which may halt. For any order of events, each unit's log is that of the one-thread
 //! trace, and each processor reads the kernel image of its frame.
 #![tactic(auto)]
 

@@ -8,7 +8,7 @@ ghost use Rattle.kernel_pair.specs.Machines.{pair_flight, pair_in};
 use crate::machines::PairMachine;
 use scram_kernel::Kernel;
 
-/// Ends the frame of a unit that has just made a note, if the note was the last one of the frame.
+/// Ends the frame in a unit's kernel if the note that the unit has just made was the last one of the frame.
 pub(crate) fn end_frame(machine: &PairMachine, u: u8, kernel: &mut Kernel)
     requires u { u < 2 }
     requires steps { ((pair_in machine.now).unit u).step ≤ length machine.now.spec.procs }

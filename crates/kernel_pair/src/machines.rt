@@ -12,7 +12,7 @@ use fail_stop::Snapshot;
 use scram_types::{Image, NoMemory, ProcId};
 use std::alloc::Global;
 
-/// A state with its specification, its script, the halt of a unit and the events that led to the state.
+/// A state of a pair with its specification, its script, the halt of a unit, and the events that led to the state.
 #[derive(Drop)]
 pub(crate) struct PairMachine<'a> {
     setup: Setup<'a>,
@@ -47,7 +47,7 @@ impl<'a> PairMachine<'a> {
     ghost use Rattle.kernel_pair.specs.Pairs.{IsPairNext, IsPairOpening, IsPairOver, IsPairReplay, frame_to_make, next_unit};
     ghost use Rattle.kernel_pair.specs.declared.events.PairEvent.TheVariants.{Fly};
 
-    /// Returns the opening, with the kernel's words of the first frame and with room for every possible event.
+    /// Creates a pair at its opening, with the kernel's words of the first frame and room for every possible event.
     ///
     /// # Errors
     ///
@@ -75,7 +75,7 @@ impl<'a> PairMachine<'a> {
         })
     }
 
-    /// States what holds in the state of the machine.
+    /// States the facts that hold in the current state, and has no effect.
     pub(crate) fn holds(&self)
         ensures facts { IsSpec self.now.spec }
         ensures fits { Fits self.now.spec self.now.script }
@@ -96,7 +96,7 @@ impl<'a> PairMachine<'a> {
         self.setup
     }
 
-    /// Returns the next event of a unit.
+    /// Returns the next event of unit `u`, or `None` if it has none.
     pub(crate) fn next(&self, u: u8) -> Option<PairEvent>
         requires { u < 2 }
         ensures { result ≡ next_unit (pair_flight self.now) self.now.halt (pair_in self.now) u }
@@ -104,14 +104,14 @@ impl<'a> PairMachine<'a> {
         next_unit(&self.setup, &self.state, u)
     }
 
-    /// Returns whether an event is next of its actor.
+    /// Returns whether an event is a next event of its actor.
     pub(crate) fn is_next(&self, event: PairEvent) -> bool
         ensures { IsTrue result ↔ IsPairNext (pair_flight self.now) self.now.halt (pair_in self.now) event }
     {
         is_next(&self.setup, &self.state, event)
     }
 
-    /// Makes an event that is next of its actor.
+    /// Makes a next event of an actor. `draft` is the draft of a frame, and `word` the word of a store.
     pub(crate) fn make(&mut self, event: PairEvent, draft: &[u64; 64], word: u64)
         requires next { IsPairNext (pair_flight self.old) self.old.halt (pair_in self.old) event }
         requires words { AreEventWords (pair_flight self.old) (pair_in self.old) event draft.now word }
@@ -121,7 +121,7 @@ impl<'a> PairMachine<'a> {
         self.events.push_reserved(event);
     }
 
-    /// Returns the frame that a processor makes next.
+    /// Returns the frame that a processor makes next, or `None` if it has halted for good.
     pub(crate) fn frame_of(&self, p: ProcId) -> Option<u32>
         requires { p.0 < 8 }
         ensures { result ≡ frame_to_make (restart_of self.now.script p.0) ((pair_in self.now).proc p.0).place }
@@ -157,7 +157,7 @@ impl<'a> PairMachine<'a> {
         self.state.units[usize::from(u)].stopped.is_some()
     }
 
-    /// Returns the marks of the processors after the frame of a unit that has noted all of them.
+    /// Returns the noted marks of a unit that has noted all processors in its frame.
     pub(crate) fn marks(&self, u: u8) -> [u64; 8]
         requires u { u < 2 }
         requires noted { length self.now.spec.procs ≤ ((pair_in self.now).unit u).step }
@@ -167,7 +167,7 @@ impl<'a> PairMachine<'a> {
         self.state.units[usize::from(u)].marks
     }
 
-    /// Returns the images of the processors after the frame of a unit that has noted all of them.
+    /// Returns the noted images of a unit that has noted all processors in its frame.
     pub(crate) fn images(&self, u: u8) -> [Image; 8]
         requires u { u < 2 }
         requires noted { length self.now.spec.procs ≤ ((pair_in self.now).unit u).step }
@@ -198,7 +198,7 @@ impl<'a> PairMachine<'a> {
 ghost use Rattle.std.specs.Prelude.{◌≡◌, ◌+◌, ◌*◌, length};
 ghost use Rattle.scram_types.specs.Specification.{IsSpec};
 
-// Returns the maximum number of events.
+// Returns the maximum number of events of a pair.
 fn events_of(setup: &Setup) -> usize
     ensures known { IsSpec setup.now.spec.now }
     ensures events { result ≡ setup.now.script.now.frames * (3 * length setup.now.spec.now.procs + 46) + 1 }

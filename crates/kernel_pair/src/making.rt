@@ -1,4 +1,4 @@
-//! Events that are next of their actors, and the end of a pair.
+//! The effect of a next event on a state, and the end of a pair.
 
 ghost use Rattle.std.specs.Prelude.{◌≡◌, ◌<◌, ◌≤◌, ◌+◌, ◌*◌, ◌^◌, Some, None, IsTrue, ◌↔◌};
 ghost use Rattle.scram_types.specs.Specification.{IsSpec};
@@ -18,7 +18,7 @@ use crate::states::PairState;
 use crate::units::UnitState;
 use scram_types::{ProcId, Script, Spec};
 
-/// Makes an event that is next of its actor, with the words of its draft for a frame, or with its word for a store.
+/// Makes a next event of an actor. `draft` is the draft of a frame, and `word` the word of a store.
 pub(crate) fn make(
     setup: &Setup,
     state: &mut PairState,

@@ -1,4 +1,4 @@
-//! The events that are next.
+//! The next events of the actors.
 
 ghost use Rattle.std.specs.Prelude.{◌≡◌, ℕ, ◌<◌, ◌≤◌, ◌+◌, ◌^◌, length, [], nat_lt, ◌&&◌, if◌then◌else◌, Some, None, IsTrue, ◌↔◌};
 ghost use Rattle.scram_types.specs.Lookups.{proc_id};
@@ -18,7 +18,7 @@ use fail_stop::notes;
 use fault_script::restart_of;
 use scram_types::{ProcId, Script};
 
-/// Returns whether an event is next of its actor, whatever its numbers are.
+/// Returns whether an event is a next event of its actor, whatever its numbers are.
 pub(crate) fn is_next(setup: &Setup, state: &PairState, event: PairEvent) -> bool
     ensures { IsTrue result ↔ IsPairNext (flight_by setup.now) setup.now.halt (pair_of state.now) event }
 {
@@ -49,7 +49,7 @@ fn may_fly(script: &Script, state: &PairState, p: ProcId, u: u8) -> bool
     is_below(frame_of(script, state, p), release_of(state, u))
 }
 
-/// Returns the frame that a processor makes next.
+/// Returns the frame that a processor makes next, or `None` if it has halted for good.
 pub(crate) fn frame_of(script: &Script, state: &PairState, p: ProcId) -> Option<u32>
     requires { p.0 < 8 }
     ensures { result ≡ frame_to_make (restart_of script.now p.0) ((pair_of state.now).proc p.0).place }
@@ -103,7 +103,7 @@ fn is_event(next: Option<PairEvent>, event: PairEvent) -> bool
     next == Some(event)
 }
 
-/// Returns the next event of a unit.
+/// Returns the next event of unit `u`, or `None` if it has none.
 pub(crate) fn next_unit(setup: &Setup, state: &PairState, u: u8) -> Option<PairEvent>
     requires { u < 2 }
     ensures { result ≡ next_unit (flight_by setup.now) setup.now.halt (pair_of state.now) u }
@@ -134,7 +134,8 @@ fn stops_at(setup: &Setup, u: u8, frame: u32, step: u8) -> bool
     }
 }
 
-// Returns whether the halt is possible in the flight, and the unit has made exactly the steps before it.
+// Returns whether the flight allows the halt and a unit in `frame` after `step` steps has made exactly the steps before
+// the halt.
 fn is_halt_here(setup: &Setup, halt: UnitHalt, frame: u32, step: u8) -> bool
     ensures { result ≡ (nat_lt halt.step (halts_below (flight_by setup.now) halt.frame) && is_at_halt (flight_by setup.now) halt frame step) }
 {

@@ -1,4 +1,4 @@
-//! The state at the opening.
+//! The opening state of a pair.
 
 ghost use Rattle.std.specs.Prelude.{◌≡◌, ◌<◌, ℕ, IfOk, length, slice_index_or};
 ghost use Rattle.scram_types.specs.Specification.{IsSpec};
@@ -19,8 +19,8 @@ use frame_model::Sys;
 use scram_types::{NoMemory, ProcId, Script, Spec};
 use std::alloc::Global;
 
-/// Returns the state before the first event, with the kernel's words of the first frame. The list of all words, from
-/// which the banks are read, is freed at the end.
+/// Returns the state before the first event, with the kernel's words of the first frame. It reads the banks from a list
+/// of all words, and frees the list before it returns.
 ///
 /// # Errors
 ///

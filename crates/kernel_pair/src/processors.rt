@@ -14,7 +14,7 @@ use bank_words::words;
 use fault_script::halt_in;
 use scram_types::{HaltAt, ProcId};
 
-/// The state of a processor between two of its frames: at the beginning of a frame, or halted in one.
+/// The state of a processor between two of its frames. It is at the beginning of a frame or has halted in one.
 #[derive(Clone, Copy, Debug, PartialEq, Eq)]
 pub enum Stand {
     Before(u32),
@@ -31,7 +31,7 @@ pub struct ProcessorState {
 }
 
 impl ProcessorState {
-    /// Makes this frame of the processor with the words of a draft, up to its halt in the frame, if there is one.
+    /// Makes a frame of the processor with the words of `draft`, up to its halt if it has one in the frame.
     #[tactic(auto, using(crate::proofs::Flying::made_as))]
     pub(crate) fn fly(&mut self, setup: &Setup, p: ProcId, frame: u32, draft: &[u64; 64])
         requires narrow { 8 * length setup.now.spec.now.apps ≤ 64 }
@@ -101,7 +101,7 @@ fn mark_made(width: u32, frame: u32, halt: Option<HaltAt>, mark: u64) -> u64
     }
 }
 
-// Copies the first words of a draft to one of two banks.
+// Copies the first `count` words of a draft to bank `side`.
 #[tactic(auto, using(crate::proofs::Flying::laid_on))]
 fn copy_prefix_to_bank(banks: &mut [[u64; 64]; 2], side: usize, draft: &[u64; 64], count: u32)
     requires count { count ≤ 64 }
@@ -111,7 +111,7 @@ fn copy_prefix_to_bank(banks: &mut [[u64; 64]; 2], side: usize, draft: &[u64; 64
     copy_prefix(&mut banks[side], draft, count);
 }
 
-// Copies the first words of a draft to a bank.
+// Copies the first `count` words of a draft to a bank.
 fn copy_prefix(bank: &mut [u64; 64], draft: &[u64; 64], count: u32)
     requires { count ≤ 64 }
     ensures { (i : ℕ) → slice_index_or bank.new i 0 ≡ (if nat_lt i count then slice_index_or draft.now i 0 else slice_index_or bank.old i 0) }

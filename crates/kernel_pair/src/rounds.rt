@@ -10,7 +10,8 @@ use crate::cores::PairCore;
 use crate::events::PairEvent;
 use scram_types::ProcId;
 
-/// Makes all remaining events, in rounds: each processor, then unit 0 for as long as it has a next event, then unit 1.
+/// Makes all remaining events in rounds. In a round, each processor makes its next frame if it can. Then unit 0 makes
+/// its events for as long as it has one, and then unit 1 does.
 pub fn fly_on(core: &mut PairCore)
     ensures spec { core.new.spec ≡ core.old.spec }
     ensures script { core.new.script ≡ core.old.script }
@@ -35,7 +36,7 @@ fn fly_round(core: &mut PairCore)
     run_unit(core, 1);
 }
 
-// Makes the next frame of a processor, if some unit has released it.
+// Makes the next frame of a processor if some unit has released it.
 fn fly_processor(core: &mut PairCore, p: ProcId)
     ensures { IsFlownOn core.old core.new ((u : ℕ) → u < 2 → IsPairNext (pair_flight core.old) core.old.halt (pair_in core.old) (Fly p u) → ⊥) }
 {
@@ -43,7 +44,7 @@ fn fly_processor(core: &mut PairCore, p: ProcId)
     attempt(core, PairEvent::Fly(p, 1));
 }
 
-// Makes an event, if it is next of its actor.
+// Makes an event if it is a next event of its actor.
 fn attempt(core: &mut PairCore, event: PairEvent)
     ensures { IsFlownOn core.old core.new (IsPairNext (pair_flight core.old) core.old.halt (pair_in core.old) event → ⊥) }
 {

@@ -19,7 +19,7 @@ use fail_stop::Snapshot;
 use fail_stop::law::kernel_images_come_back;
 use scram_types::{Image, Script, Spec};
 
-/// Returns the snapshot of a processor that makes this frame by the words of a unit.
+/// Returns the snapshot of a processor that makes `frame` by the words of unit `u`.
 pub(crate) fn snapshot(
     spec: &Spec,
     script: &Script,
@@ -41,7 +41,7 @@ pub(crate) fn snapshot(
     }
 }
 
-// Returns the words of a unit.
+// Returns the kernel's words that unit `u` has stored.
 fn words_of(state: &PairState, u: u8) -> [u64; 20]
     requires { u < 2 }
     ensures words { result ≡ (slice_index_or state.now.units u blank_unit).words }
@@ -64,7 +64,7 @@ fn copied(words: &[u64; 20]) -> [u64; 20]
     *words
 }
 
-// Returns the images of the processors that a reader finds in a frame.
+// Returns the image of each processor that a reader in a frame finds.
 fn images_picked(spec: &Spec, procs: &[ProcessorState; 8], frame: u32) -> [Image; 8]
     ensures words { (q : ℕ) → q < 8 → (i : ℕ) → i < 64 → slice_index_or (image_in result q) i (pos 0) ≡ word_seen spec.now procs.now q frame i }
     ensures long { (q : ℕ) → q < 8 → length (image_in result q) ≡ 64 }
@@ -90,7 +90,7 @@ fn image_picked(spec: &Spec, procs: &[ProcessorState; 8], q: usize, frame: u32) 
     image_decoded(spec, &y.banks[usize::from(pick(y.mark, frame))])
 }
 
-/// Returns the images of the words that a unit has noted.
+/// Returns the images that the noted words of a unit encode.
 pub(crate) fn images_decoded(spec: &Spec, images: &[[u64; 64]; 8]) -> [Image; 8]
     ensures words { (p : ℕ) → p < 8 → (i : ℕ) → i < 64
         → slice_index_or (image_in result p) i (pos 0) ≡ word_decoded spec.now (slice_index_or images.now p []) i }
@@ -120,7 +120,7 @@ fn image_decoded(spec: &Spec, words: &[u64; 64]) -> Image
     image
 }
 
-/// Returns the words of an image.
+/// Returns the words that encode an image.
 pub(crate) fn image_encoded(image: &Image) -> [u64; 64]
     ensures { (i : ℕ) → slice_index_or result i 0 ≡ word_in (image_words image.now) i }
 {

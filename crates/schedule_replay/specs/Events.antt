@@ -6,7 +6,7 @@ use Rattle.bank_words.specs.declared.events.Event.{Event}
 use Rattle.bank_words.specs.declared.events.Event.TheVariants.{Start, Look, Store, Flip, Done, Halt, KNote, KStore, Release}
 use Rattle.fault_script.specs.Times.{words as width_of}
 
--- The specification has an event. The event's processors exist, and its number is that of a word.
+-- The specification has an event. The event's processors exist, and its number is the index of a word.
 abbrev pub HasEvent : Parts → Event → Type 0
 HasEvent spec (Start p) = p.0 < length spec.procs
 HasEvent spec (Look p q) = (p.0 < length spec.procs) × (q.0 < length spec.procs)
@@ -34,7 +34,7 @@ event_text spec (KNote p) = codes "note " ++ proc_name spec p.0
 event_text spec (KStore i) = codes "kstore " ++ decimal i
 event_text spec Release = codes "release"
 
--- The line of an event.
+-- The line of an event, with its line feed.
 abbrev pub event_line : Parts → Event → List ℕ
 event_line spec event = event_text spec event ++ codes "\n"
 

@@ -13,15 +13,15 @@ use Rattle.schedule_replay.specs.declared.verbs.Verb.TheVariants.{Start, Look, S
 use Rattle.schedule_replay.specs.Reading.{event_read, is_legible, verb_of}
 use Rattle.schedule_replay.specs.Verbs.{word_count}
 
--- The words are not empty, and their number is that of an event of a kind.
+-- Whether no word is empty and the number of words is that of an event of a kind.
 abbrev pub has_words : List (List ℕ) → Verb → Bool
 has_words words verb = list_all is_filled words && (length words == word_count verb)
 
--- The kind of event whose form the words of a line have, or none.
+-- The kind of event whose form the words of a line have, or none if they have no form.
 abbrev pub event_form : List ℕ → Option Verb
 event_form line = option_and_then (λ (verb : Verb). if has_words (words_of line) verb then Some verb else None) (verb_of line)
 
--- Rule 4. Each processor is known, and a number is that of a word of an image or of one of the kernel's words.
+-- Whether rule 4 is kept. Each processor is known, and a number is the index of a word of an image or of the kernel.
 abbrev pub names_event : Parts → List (List ℕ) → Verb → Bool
 names_event spec words Start = is_some (proc_named spec (word_at words 1))
 names_event spec words Look = is_some (proc_named spec (word_at words 1)) && is_some (proc_named spec (word_at words 2))
@@ -33,7 +33,7 @@ names_event spec words Note = is_some (proc_named spec (word_at words 1))
 names_event spec words KernelStore = is_some (spelled_number 20 (word_at words 1))
 names_event spec words Release = true
 
--- A line, without its line feed, breaks the rule of this number. A line that has no form does not break rule 4.
+-- Whether a line, without its line feed, breaks the rule of this number. A line that has no form does not break rule 4.
 abbrev pub breaks_event_rule : Parts → List ℕ → ℕ → Bool
 breaks_event_rule spec line rule =
     if rule == BROKEN_LINE then not (is_legible line)
@@ -41,6 +41,6 @@ breaks_event_rule spec line rule =
     else (if rule == NO_FORM then not (is_some (event_form line))
     else (if rule == UNKNOWN_EVENT then not (keeps (event_form line) (names_event spec (words_of line))) else false)))
 
--- A line that breaks no rule is read, and for any other line the first rule that it breaks, by number, is reported.
+-- A line that breaks no rule is read. For any other line, the rule with the lowest number that it breaks is reported.
 abbrev pub LeastEventRuleIsReported : Type 0
 LeastEventRuleIsReported = (spec : Parts) (line : List ℕ) → ReportsLeast (breaks_event_rule spec line) (event_read spec line)

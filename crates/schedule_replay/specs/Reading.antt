@@ -1,4 +1,5 @@
--- The schedule that bytes encode, or the first line that breaks a rule, with the first rule that it breaks.
+-- The reading of a schedule from bytes. Its result is the schedule, or the first line that breaks a rule and the first
+-- rule that the line breaks.
 use Rattle.std.specs.Prelude.{◌≡◌, ℕ, ◌+◌, ◌==◌, ◌&&◌, Bool, List, [], ◌∷◌, ◌++◌, length, nat_le, nat_lt, Option, Some, None, option_map, option_and_then, ⊤, Result, Ok, Err, Vec, if◌then◌else◌}
 use Rattle.std.specs.List.{list_all}
 use Rattle.scram_types.specs.Specification.{Parts}
@@ -20,28 +21,28 @@ use Rattle.schedule_replay.specs.declared.verbs.Verb.{Verb}
 use Rattle.schedule_replay.specs.declared.verbs.Verb.TheVariants.{Start, Look, Store, Flip, Done, Halt, Note, KernelStore, Release}
 use Rattle.schedule_replay.specs.Verbs.{verb_named, word_count}
 
--- Rule 1 for a line that has its line feed. Its bytes are printable, and it is not too long.
+-- Whether a line that has its line feed keeps rule 1: its bytes are printable, and it is not too long.
 abbrev pub is_legible : List ℕ → Bool
 is_legible line = nat_le (length line) MAX_EVENT_BYTES && list_all is_printable line
 
--- The kind of event that the first word of a line names, or none. Rule 2 requires one.
+-- The kind of event that the first word of a line names, or none. A line without a kind breaks rule 2.
 abbrev pub verb_of : List ℕ → Option Verb
 verb_of line = verb_named (word_at (words_of line) 0)
 
--- The words of a line if their number is that of an event of a kind, else none.
+-- The words of a line if their number is that of an event of the kind, or none.
 abbrev pub words_counted : Verb → List (List ℕ) → Option (List (List ℕ))
 words_counted verb words = if length words == word_count verb then Some words else None
 
--- The words of a line for an event of a kind, or none. Rule 3 requires that no word is empty and that their number is
--- that of the kind.
+-- The words of a line for an event of a kind. If a word is empty or their number is not that of the kind, there are
+-- none, and the line breaks rule 3.
 abbrev pub words_for : Verb → List ℕ → Option (List (List ℕ))
 words_for verb line = option_and_then (words_counted verb) (words_in line)
 
--- The processor that the second word names.
+-- The processor that the second word names, or none.
 abbrev pub proc_in : Parts → List (List ℕ) → Option ProcId
 proc_in spec words = proc_named spec (word_at words 1)
 
--- The event that the words of a line of a kind encode, or none. Rule 4 requires one.
+-- The event of a kind that the words of a line encode, or none. A line without an event breaks rule 4.
 abbrev pub event_told : Parts → Verb → List (List ℕ) → Option Event
 event_told spec Start words = option_map event.Start (proc_in spec words)
 event_told spec Look words =
@@ -66,27 +67,29 @@ line_event spec line =
 abbrev pub event_read : Parts → List ℕ → Result Event ℕ
 event_read spec line = if is_legible line then line_event spec line else Err BROKEN_LINE
 
--- The fault of a rule in a line, whose number is counted from 1.
+-- The fault of line `k`, counted from 0, that breaks the rule of this number. The fault counts lines from 1.
 abbrev pub schedule_fault : ℕ → ℕ → ScheduleFault
 schedule_fault line rule = record { line = line; rule = rule }
 
--- The reading continues after a line that is read, and ends at line `k` if that line breaks a rule.
+-- If a line is read, the reading continues with its event. If the line breaks a rule, the reading ends with the fault
+-- of line `k`.
 abbrev pub read_on : ℕ → Result Event ℕ → (Event → Result (List Event) ScheduleFault) → Result (List Event) ScheduleFault
 read_on k (Ok event) next = next event
 read_on k (Err rule) next = Err (schedule_fault k rule)
 
--- The events of the preceding lines and of the lines from line `k` on. The text after the last line feed must be empty.
+-- The events of the preceding lines followed by those of the lines from line `k` on, or a fault. The text after the
+-- last line feed must be empty.
 abbrev pub events_from : Parts → ℕ → List Event → List (List ℕ) → Result (List Event) ScheduleFault
 events_from spec k so_far [] = Ok so_far
 events_from spec k so_far (last ∷ []) = if is_filled last then Err (schedule_fault k BROKEN_LINE) else Ok so_far
 events_from spec k so_far (line ∷ next ∷ lines) =
     read_on k (event_read spec line) (λ (event : Event). events_from spec (k + 1) (so_far ++ event ∷ []) (next ∷ lines))
 
--- The events that the lines encode, or a fault. A file that is too long breaks its rule at line 0.
+-- The events that the lines encode, or a fault. A file that is too long breaks rule 5 at line 0.
 abbrev pub schedule_of : Parts → List ℕ → Result (List Event) ScheduleFault
 schedule_of spec bytes = if nat_lt MAX_SCHEDULE_BYTES (length bytes) then Err (schedule_fault 0 TOO_LONG) else events_from spec 1 [] (pieces_of 10 bytes)
 
--- An answer of the reader is the result of the reading, or out of memory.
+-- The reader answers with the result of the reading, or with out of memory.
 abbrev pub AnswersSchedule : {A : Type 0} → Result (List Event) ScheduleFault → Result (Vec Event A) ScheduleError → Type 0
 AnswersSchedule reading (Ok list) = reading ≡ Ok list.items
 AnswersSchedule reading (Err (Fault fault)) = reading ≡ Err fault

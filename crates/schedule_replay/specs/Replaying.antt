@@ -1,4 +1,4 @@
--- The result of events that are flown as a schedule.
+-- The results of flying a list of events as a schedule.
 use Rattle.std.specs.Prelude.{◌≡◌, ◌≢◌, ℕ, zero, suc, List, length, take, slice_get, Option, Some, None, Result, Ok, Err, ⊤}
 use Rattle.bank_words.specs.declared.events.Event.{Event}
 use Rattle.event_core.specs.Replays.{IsReplay}
@@ -13,17 +13,17 @@ use Rattle.scram_types.specs.declared.rows.Flown.{Flown}
 use Rattle.schedule_replay.specs.declared.replays.ReplayError.{ReplayError}
 use Rattle.schedule_replay.specs.declared.replays.ReplayError.TheVariants as error
 
--- The first of two events if there is one, else the second.
+-- The first of two optional events if there is one, or the second.
 abbrev pub first_of_two : Option Event → Option Event → Option Event
 first_of_two (Some event) other = Some event
 first_of_two None other = other
 
--- The next event of the first processor below `n` that has one.
+-- The next event of the first processor below `n` that has one, or none.
 abbrev pub next_below : Flight → Places → (Word → ℕ) → ℕ → Option Event
 next_below m at words zero = None
 next_below m at words (suc n) = first_of_two (next_below m at words n) (next_of m at words n)
 
--- The next event of the first processor that has one, else that of the kernel.
+-- The next event of the first processor that has one, or the next event of the kernel if no processor has one.
 abbrev pub first_next : Flight → Places → (Word → ℕ) → Option Event
 first_next m at words = first_of_two (next_below m at words m.procs) (next_kernel m at words)
 
@@ -34,7 +34,8 @@ pub record IsWholeSchedule (m : Flight) (list : List Event) : Type 0 where
   pub replay : IsReplay m list at words
   pub over : IsOver m at
 
--- The events before index `index` are a schedule, and the event at that index is not the next of its actor after them.
+-- The events before index `index` are a schedule. The event `given` at that index is not the next of its actor after
+-- them, which is `next`.
 pub record IsIllegal (m : Flight) (list : List Event) (index : ℕ) (given : Event) (next : Option Event) : Type 0 where
   pub at : Places
   pub words : Word → ℕ
@@ -43,7 +44,8 @@ pub record IsIllegal (m : Flight) (list : List Event) (index : ℕ) (given : Eve
   pub next_is : next ≡ next_of_actor m at words given
   pub not_next : next ≢ Some given
 
--- The events are a schedule at whose end the flight is not over.
+-- The list is a schedule of `events` events at whose end the flight is not over, and `next` is the event that would
+-- come next.
 pub record IsShort (m : Flight) (list : List Event) (events : ℕ) (next : Event) : Type 0 where
   pub at : Places
   pub words : Word → ℕ
@@ -52,8 +54,8 @@ pub record IsShort (m : Flight) (list : List Event) (events : ℕ) (next : Event
   pub count : events ≡ length list
   pub next_is : first_next m at words ≡ Some next
 
--- An answer to a list. It is the one-thread trace if the list is a whole schedule, the first event that is out of turn,
--- or the next event if the list ends too early.
+-- An answer to a list of events. It is the one-thread trace, the first event that is not the next of its actor, the
+-- event that would come next if the list ends too early, or out of memory.
 abbrev pub AnswersReplay : Parts → ScriptParts → List Event → Result Flown ReplayError → Type 0
 AnswersReplay spec script list (Ok flown) = IsWholeSchedule (flight_of spec script) list × (flown.rows ≡ rows_of spec script)
     × (flown.reports ≡ reports_of spec script)

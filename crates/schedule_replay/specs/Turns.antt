@@ -13,33 +13,34 @@ use Rattle.fail_stop.specs.Schedules.{IsSchedule, Machine, opening}
 use Rattle.fail_stop.specs.ScriptFlights.{flight_of}
 use Rattle.fault_script.specs.Fits.{Fits}
 
--- The steps of processor `p` in a frame after its stores: the flip and the end of the frame, or its halt, which may
--- come before the flip.
+-- The steps of processor `p` in a frame after its stores. They are the flip and the end of the frame, or its halt,
+-- before which a flip may come.
 abbrev pub ending : Flight → ℕ → Option ℕ → List Event
 ending m p None = Flip (proc_id p) ∷ Done (proc_id p) ∷ []
 ending m p (Some step) = if nat_lt m.width step then Flip (proc_id p) ∷ Halt (proc_id p) ∷ [] else Halt (proc_id p) ∷ []
 
--- All steps of processor `p` in a frame, given its halt there: the start, a look at each processor, the stores and the
--- last steps.
+-- All steps of processor `p` in a frame, given its halt there, if any. They are the start, a look at each processor,
+-- the stores and the last steps.
 abbrev pub steps_by : Flight → ℕ → Option ℕ → List Event
 steps_by m p halt =
     Start (proc_id p) ∷ (listed_below (λ (q : ℕ). Look (proc_id p) (proc_id q)) m.procs
     ++ (listed_below (λ (i : ℕ). Store (proc_id p) i) (stores_by m.width halt) ++ ending m p halt))
 
--- All steps of processor `p` in frame `f`, of which there are none if the processor is down.
+-- All steps of processor `p` in frame `f`, or none if the processor is down.
 abbrev pub turn_of_proc : Flight → ℕ → ℕ → List Event
 turn_of_proc m p f = if m.up p f then steps_by m p (m.halt p f) else []
 
--- The turns of the processors below `n` in frame `f`.
+-- All steps of the processors below `n` in frame `f`, by processor.
 abbrev pub turns_of_procs : Flight → ℕ → ℕ → List Event
 turns_of_procs m f zero = []
 turns_of_procs m f (suc n) = turns_of_procs m f n ++ turn_of_proc m n f
 
--- The steps of the kernel after its notes in frame `f`, of which there are none in the last frame.
+-- The steps of the kernel in frame `f` after its notes, or none if the frame is the last.
 abbrev pub releasing : Flight → ℕ → List Event
 releasing m f = if nat_lt (suc f) m.frames then listed_below KStore 20 ++ Release ∷ [] else []
 
--- All steps of the kernel in frame `f`: a note of each processor, its stores and the release.
+-- All steps of the kernel in frame `f`: a note of each processor and, unless the frame is the last, its stores and the
+-- release.
 abbrev pub turn_of_kernel : Flight → ℕ → List Event
 turn_of_kernel m f = listed_below (λ (p : ℕ). KNote (proc_id p)) m.procs ++ releasing m f
 
@@ -52,7 +53,7 @@ frames_in_turns m (suc f) = frames_in_turns m f ++ (turns_of_procs m f m.procs +
 abbrev pub in_turns : Parts → ScriptParts → List Event
 in_turns spec script = frames_in_turns (flight_of spec script) script.frames
 
--- A list is another one with some events appended.
+-- The list `new` is `old` with some events appended.
 abbrev pub Adds : List Event → List Event → List Event → Type 0
 Adds old new events = new ≡ old ++ events
 
@@ -62,6 +63,6 @@ pub record LeadsToTheEnd (m : Flight) (events : List Event) : Type 0 where
   pub schedule : IsSchedule m (opening m) events state
   pub over : IsOver m state.at
 
--- The round-robin schedule of every script that fits ends with the flight over.
+-- If a script fits its specification, the flight is over at the end of the round-robin schedule.
 abbrev pub TurnsLeadToTheEnd : Type 0
 TurnsLeadToTheEnd = (spec : Parts) (script : ScriptParts) → Fits spec script → LeadsToTheEnd (flight_of spec script) (in_turns spec script)

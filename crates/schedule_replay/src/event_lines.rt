@@ -1,4 +1,4 @@
-//! One event, as a line of a schedule.
+//! The reading and the writing of an event as a line of a schedule.
 
 ghost use Rattle.std.specs.Prelude.{◌≡◌, ◌+◌, ◌≤◌, ◌<◌, ◌*◌, ◌++◌, IfOk, IfSome, length, decimal};
 ghost use Rattle.scram_types.specs.declared.limits.TheConstants.{MAX_LINE_BYTES};
@@ -47,7 +47,7 @@ pub fn add_event(line: &mut Line, spec: &Spec, event: Event)
     }
 }
 
-// Appends a short text and the name of a processor.
+// Appends the text `text` and the name of processor `p`.
 fn add_proc(line: &mut Line, text: &[u8], spec: &Spec, p: ProcId)
     requires short { length text.now ≤ 8 }
     requires room { length line.old + 24 ≤ MAX_LINE_BYTES }
@@ -68,8 +68,8 @@ pub fn make_event_line(spec: &Spec, event: Event) -> Line
     line
 }
 
-/// Returns the event that a line encodes, or the first rule that the line breaks, by number. The line has no line feed
-/// here.
+/// Returns the event that a line encodes, or the number of the first rule that the line breaks. The line is given
+/// without its line feed.
 pub fn read_event(spec: &Spec, line: &[u8]) -> Result<Event, u8>
     ensures event { result ≡ event_read spec.now line.now }
     ensures known { IfOk result (λ event. HasEvent spec.now event) }
@@ -132,7 +132,7 @@ fn event_told(spec: &Spec, verb: Verb, words: &Words<'_>) -> Option<Event>
     }
 }
 
-// Returns the processor that a word names, or `None`.
+// Returns the processor that word `at` names, or `None` if it names none.
 fn proc_at(spec: &Spec, words: &Words<'_>, at: usize) -> Option<ProcId>
     ensures proc { result ≡ proc_named spec.now (word_at words.now at) }
     ensures below { IfSome result (λ p. p.0 < length spec.now.procs) }
@@ -140,7 +140,7 @@ fn proc_at(spec: &Spec, words: &Words<'_>, at: usize) -> Option<ProcId>
     spec.proc_named(words.word_at(at))
 }
 
-// Returns the number below a limit that a word spells, or `None`.
+// Returns the number that word `at` spells, or `None` if it spells no number below the limit.
 fn word_below(limit: u32, words: &Words<'_>, at: usize) -> Option<u8>
     requires { limit ≤ 256 }
     ensures value { result ≡ spelled_number limit (word_at words.now at) }

@@ -9,24 +9,24 @@ ghost use Rattle.schedule_replay.specs.Turns.{TurnsLeadToTheEnd};
 use event_core::Core;
 use scram_types::Spec;
 
-/// The round-robin sequence of a script that fits is a schedule, and at its end the flight is over.
+/// If a script fits its specification, its round-robin sequence is a schedule, at whose end the flight is over.
 pub fn turns_lead_to_the_end()
     ensures { TurnsLeadToTheEnd }
 {}
 
-/// A line that breaks no rule is read, and for any other line the first rule that it breaks, by number, is reported.
+/// A line that breaks no rule is read. For any other line, the rule with the lowest number that it breaks is reported.
 /// Each rule is stated on its own, without an order of tests.
 pub fn least_rule_is_reported()
     ensures { LeastEventRuleIsReported }
 {}
 
-/// Apart from out of memory, a list of events has one answer. It is that of a whole schedule, the first event that is
-/// out of turn, or the next event if the list ends too early.
+/// Apart from out of memory, a list of events has one answer. The answer is the trace of a whole schedule, the first
+/// event that is not the next of its actor, or the event that would come next if the list ends too early.
 pub fn a_list_has_one_answer()
     ensures { OneAnswer }
 {}
 
-/// The specification of a core has each event of the core's history, so the history can be written.
+/// The specification of a core has each event of the core's history, so the history can be written as text.
 pub fn history_is_known(core: &Core, spec: &Spec)
     requires { core.now.spec ≡ spec.now }
     ensures { HasEvents spec.now core.now.history }

@@ -1,4 +1,4 @@
-//! The lines with which a schedule is refused, made without allocation.
+//! The refusals of schedules as lines, made without allocation.
 
 ghost use Rattle.std.specs.Prelude.{◌≡◌, ◌+◌, ◌≤◌, ◌++◌, length, codes, decimal};
 ghost use Rattle.scram_types.specs.declared.limits.TheConstants.{MAX_LINE_BYTES};
@@ -11,7 +11,7 @@ use bank_words::Event;
 use scram_types::Spec;
 use trace_text::lines::Line;
 
-/// Returns the line for a schedule's text that breaks a rule.
+/// Returns the refusal of a schedule's text that breaks a rule.
 pub fn make_fault_line(fault: ScheduleFault) -> Line
     ensures { result ≡ fault_line fault }
 {
@@ -24,8 +24,8 @@ pub fn make_fault_line(fault: ScheduleFault) -> Line
     line
 }
 
-/// Returns the line for an event that is not the next of its actor. The line has the event's index, counted from 0, and
-/// the actor's next event, or `-` if there is none.
+/// Returns the refusal of an event that is not the next of its actor. The line has the event's index, counted from 0,
+/// and the actor's next event, or `-` if there is none.
 pub fn make_illegal_line(spec: &Spec, index: u32, given: Event, next: Option<Event>) -> Line
     ensures { result ≡ illegal_line spec.now index given next }
 {
@@ -40,8 +40,8 @@ pub fn make_illegal_line(spec: &Spec, index: u32, given: Event, next: Option<Eve
     line
 }
 
-/// Returns the line for a schedule that ends after this number of events, before the flight is over. The line has the
-/// event that would come next.
+/// Returns the refusal of a schedule of `events` events that ends before the flight is over. The line has the event
+/// that would come next.
 pub fn make_short_line(spec: &Spec, events: u32, next: Event) -> Line
     ensures { result ≡ short_line spec.now events next }
 {

@@ -1,4 +1,4 @@
-//! A schedule flown on one thread.
+//! The flight of a schedule on one thread.
 
 ghost use Rattle.std.specs.Prelude.{◌≡◌, ◌++◌, ◌∷◌, [], List, Err, IfErr, IfOk, IfSome, None, Some, length, slice_get, take, vec_len};
 ghost use Rattle.event_core.specs.Cores.{IsNextIn, IsWordIn, core_places, core_words, flown};
@@ -20,18 +20,18 @@ use event_core::flyers::Flyers;
 use scram_types::{Flown, NoMemory, ProcId, Script, Spec};
 use std::alloc::Global;
 
-/// The reasons why a list was not flown as a schedule to the end.
+/// The reason why a list was not flown as a schedule to the end.
 #[derive(Clone, Copy, Debug)]
 pub enum ReplayError {
-    /// The event at this index, counted from 0, is the first that is not the next of its actor. `next` is that actor's
-    /// next event, if it has one.
+    /// The event at this index, counted from 0, is the first that is not the next of its actor. `next` is the actor's
+    /// next event, or `None` if it has none.
     Illegal {
         index: u32,
         given: Event,
         next: Option<Event>,
     },
     /// All events of the list were made, and the flight is not over. The next event is that of the first processor that
-    /// has one, else that of the kernel.
+    /// has one, or that of the kernel if no processor has one.
     Short {
         events: u32,
         next: Event,
@@ -48,14 +48,14 @@ impl From<NoMemory> for ReplayError {
     }
 }
 
-/// Flies a list of events as a schedule, on one thread. If the list is a schedule at whose end the flight is over, the
-/// rows and reports are those of the one-thread trace. Rack `p` is that of processor `p`, and spare rack `p` is for its
-/// restart. It does not block.
+/// Flies a list of events as a schedule, on one thread, and returns the rows and reports. If the list is a schedule at
+/// whose end the flight is over, they are those of the one-thread trace. Rack `p` is the rack of processor `p`, and
+/// spare rack `p` is for its restart. It does not block.
 ///
 /// # Errors
 ///
-/// The first event that is not the next of its actor, the event that would come next if the list ends before the flight
-/// does, or out of memory.
+/// The error is the first event that is not the next of its actor, the event that would come next if the list ends
+/// before the flight is over, or out of memory.
 pub fn replay(
     alloc: Global,
     spec: &Spec,
@@ -132,7 +132,7 @@ fn events_made(core: &Core) -> u32
     core.history().len() as u32
 }
 
-// Returns the word with which an event is made if it is the next of its actor.
+// Returns the word with which an event is made. The word is right if the event is the next of its actor.
 fn word_where_next(core: &Core, spec: &Spec, flyers: &mut Flyers, event: Event) -> u64
     requires spec { core.now.spec ≡ spec.now }
     requires fits { FlyBy core.now flyers.old }
@@ -146,7 +146,7 @@ fn word_where_next(core: &Core, spec: &Spec, flyers: &mut Flyers, event: Event) 
     }
 }
 
-// Returns the flight's rows and reports if it is over, else the event that would come next.
+// Returns the flight's rows and reports if it is over. Otherwise the error is the event that would come next.
 fn land(core: Core, spec: &Spec, events: &[Event]) -> Result<Flown, ReplayError>
     requires spec { core.spec ≡ spec.now }
     requires history { core.history ≡ events.now }
@@ -161,7 +161,8 @@ fn land(core: Core, spec: &Spec, events: &[Event]) -> Result<Flown, ReplayError>
     }
 }
 
-// Returns the next event of the first processor that has one, else that of the kernel, or `None` if the flight is over.
+// Returns the next event of the first processor that has one, or that of the kernel if no processor has one, or `None`
+// if the flight is over.
 fn pending(core: &Core, spec: &Spec) -> Option<Event>
     requires spec { core.now.spec ≡ spec.now }
     ensures over { result ≡ None → IsOver (flown core.now) (core_places core.now) }

@@ -6,11 +6,11 @@ pub const BROKEN_LINE: u8 = 1;
 /// The line's first word is not the first word of any event.
 pub const UNKNOWN_WORD: u8 = 2;
 
-/// The line's words, their number or the spaces between them are wrong.
+/// The line has an empty word, or not the number of words of its kind of event.
 pub const NO_FORM: u8 = 3;
 
-/// A processor is unknown, or a number is not spelled as printed or leaves its range.
+/// A processor is unknown, or a number is out of range or not spelled as it is printed.
 pub const UNKNOWN_EVENT: u8 = 4;
 
-/// The schedule is too long.
+/// The text of the schedule is too long.
 pub const TOO_LONG: u8 = 5;

@@ -14,23 +14,23 @@ use scram_types::Spec;
 use std::alloc::Global;
 use trace_text::pieces::split_once;
 
-/// The first line, counted from 1, that breaks a rule, and the first rule, 1 to 5, that it breaks. A schedule that is
-/// too long breaks rule 5 at line 0.
+/// The number of the first line that breaks a rule, counted from 1, and of the first rule that it breaks, 1 to 5. A
+/// schedule that is too long breaks rule 5 at line 0.
 #[derive(Clone, Copy, Debug, PartialEq, Eq)]
 pub struct ScheduleFault {
     pub line: u32,
     pub rule: u8,
 }
 
-/// The reasons why bytes were not read as a schedule.
+/// The reason why bytes were not read as a schedule.
 #[derive(Clone, Copy, Debug, PartialEq, Eq)]
 pub enum ScheduleError {
     Fault(ScheduleFault),
     NoMemory,
 }
 
-/// Returns the events that the lines encode, in order, or the first line that breaks a rule, with the first rule that
-/// it breaks. The specification has each event that is read.
+/// Returns the events that the lines encode, in order. The specification has each of them. The error is the first line
+/// that breaks a rule and the first rule that it breaks, or out of memory.
 pub fn read_schedule(alloc: Global, bytes: &[u8], spec: &Spec) -> Result<Vec<Event>, ScheduleError>
     ensures read { AnswersSchedule (schedule_of spec.now bytes.now) result }
     ensures known { IfOk result (λ list. HasEvents spec.now list.items) }

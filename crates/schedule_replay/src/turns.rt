@@ -18,7 +18,7 @@ use scram_types::{HaltAt, NoMemory, ProcId, Script, Spec};
 use std::alloc::Global;
 
 /// Returns the round-robin schedule. In each frame, each processor in order makes all its steps, and then the kernel
-/// makes its own. A processor that is down makes none, and a processor that restarts does so in its turn.
+/// makes its own. A processor that is down makes no step. A processor that restarts does so in its turn.
 ///
 /// # Errors
 ///

@@ -1,9 +1,9 @@
-//! The first words of lines of a schedule.
+//! The kinds of events, and the words that begin their lines.
 
 ghost use Rattle.std.specs.Prelude.{◌≡◌, bytes_eq};
 ghost use Rattle.schedule_replay.specs.Verbs.{verb_named, word_count};
 
-/// The kind of an event, given by the first word of its line.
+/// The kind of an event, which the first word of its line names.
 #[derive(Clone, Copy, Debug, PartialEq, Eq)]
 pub enum Verb {
     Start,
@@ -17,7 +17,7 @@ pub enum Verb {
     Release,
 }
 
-/// Returns the kind of event that a word names, or `None`.
+/// Returns the kind of event that a word names, or `None` if it names none.
 pub fn verb_named(word: &[u8]) -> Option<Verb>
     ensures { result ≡ verb_named word.now }
 {
@@ -44,7 +44,7 @@ pub fn verb_named(word: &[u8]) -> Option<Verb>
     }
 }
 
-/// Returns the number of words of a line of this kind.
+/// Returns the number of words of a line of this kind, including the first.
 pub fn word_count(verb: Verb) -> usize
     ensures { result ≡ word_count verb }
 {

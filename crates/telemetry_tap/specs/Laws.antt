@@ -1,4 +1,4 @@
--- Laws on the definitions in this crate's contracts.
+-- Laws about the definitions in this crate's contracts.
 use Rattle.std.specs.Prelude.{◌≡◌, ℕ, ◌+◌, ◌-◌, ◌<◌, ◌≤◌, ◌^◌, List, [], ◌∷◌, length}
 use Rattle.scram_types.specs.Specification.{Parts}
 use Rattle.scram_types.specs.declared.rows.Row.{Row}
@@ -20,22 +20,22 @@ abbrev pub last_up : ℕ → List Row → ℕ
 last_up before [] = before
 last_up before (row ∷ rows) = last_up row.env.up rows
 
--- The summary of the rows from frame 0 on, where `before` is the set of processors that are up before the first row.
+-- The summary of the rows from frame 0 on. `before` is the set of processors that are up if there is no row.
 abbrev pub summary_of : Parts → ℕ → List Row → Summary
 summary_of spec before rows =
     record { frames = length rows; running = last_running spec NONE_RUNNING rows; up = last_up before rows; begun = length (reports spec rows) }
 
--- The summary after `m` frames is the summary of the first `m` rows, whatever rows follow.
+-- The summary after `m` frames is the summary of the first `m` rows.
 abbrev pub SummariesTellRows : Type 0
 SummariesTellRows = (mission : MissionParts) (m : ℕ) → m ≤ mission.script.frames
     → summary_after mission m ≡ summary_of mission.spec (summary_up mission 0) (first_rows mission m)
 
--- The number of reconfigurations that have begun never falls, and rises by at most one with each frame.
+-- The number of reconfigurations that have begun never falls, and rises by at most 1 with each frame.
 abbrev pub SummariesGoOn : Type 0
 SummariesGoOn = (mission : MissionParts) (m n : ℕ) → m ≤ n → n ≤ mission.script.frames
     → (summary_begun mission m ≤ summary_begun mission n) × (summary_begun mission n ≤ summary_begun mission m + (n - m))
 
--- Encoding and decoding are inverse, for each summary that fits the word and for each word of 48 bits.
+-- Encoding and decoding are inverse, for each summary whose parts fit the word and for each word of 48 bits.
 abbrev pub SummariesComeBack : Type 0
 SummariesComeBack =
     ((s : Summary) → FitsWord s → summary_decode (summary_encode s) ≡ s)

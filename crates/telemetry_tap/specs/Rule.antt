@@ -1,4 +1,4 @@
--- The rule of the table, and the relations of its steps.
+-- The rule of the tap's table, and the effects of its steps.
 use Rattle.std.specs.Prelude.{◌≡◌, ◌≤◌, ℕ, suc, true, false, [], length, slice_index, Some, IfSome}
 use mathlib.Core.Option.{some}
 use lib.ListN.{get_elem?}
@@ -8,14 +8,14 @@ use Rattle.telemetry_tap.specs.declared.views.TapView.{TapView}
 use Rattle.telemetry_tap.specs.Summaries.{summary_after}
 use Rattle.telemetry_tap.specs.Words.{FitsWord, summary_encode}
 
--- View `j` keeps the rule of a table whose writer has view number `writer` and has published `m` rows.
+-- View `j` keeps the rule of a table whose writer has view `writer` and has published `m` rows.
 pub record IsTapView (mission : MissionParts) (m writer j : ℕ) (v : TapView) : Type 0 where
   pub planned : v.mission ≡ Some mission
   pub writing : v.writes ≡ true → (j ≡ writer) × (v.seen ≡ m)
   pub reading : v.writes ≡ false → v.seen ≤ m
 
--- Exactly one view is the writer's, and the word is that of the summary after the rows that the writer has published.
--- No reader has seen more rows than that.
+-- Exactly one view is the writer's, and the word is the encoded summary of the rows that the writer has published. No
+-- reader has seen more rows.
 pub record IsTapState (mission : MissionParts) (s : State (Unit {0}) TapView) : Type 0 where
   pub m : ℕ
   pub writer : ℕ
@@ -32,28 +32,27 @@ pub record IsTapState (mission : MissionParts) (s : State (Unit {0}) TapView) : 
 abbrev pub writer_view : MissionParts → TapView
 writer_view mission = record { mission = Some mission; writes = true; seen = 0; loads = 0 }
 
--- A seat in the table: its view, and its slots, which are none.
+-- A seat in the table, which has a view and no slots.
 abbrev pub TapSeat : Type 0
 TapSeat = Me (Unit {0}) TapView
 
--- The writer's view after the next row.
+-- The writer's view after it has published one more row.
 abbrev pub row_later : TapView → TapView
 row_later v = record { mission = v.mission; writes = v.writes; seen = suc v.seen; loads = v.loads }
 
--- A reader's view after a load that showed the summary of `m` rows.
+-- A reader's view after a load that found the summary of `m` rows.
 abbrev pub view_loaded : TapView → ℕ → TapView
 view_loaded v m = record { mission = v.mission; writes = v.writes; seen = m; loads = suc v.loads }
 
--- The view of a new reader, which has seen the rows that the writer has published.
+-- The view of a new reader, which has seen all rows of the writer's view `v`.
 abbrev pub reader_view : TapView → TapView
 reader_view v = record { mission = v.mission; writes = false; seen = v.seen; loads = 0 }
 
--- The step of the writer's store.
+-- A store by the writer publishes one more row.
 abbrev pub publishes_row : Step (Unit {0}) → TapSeat → ℕ → TapSeat → Type 0
 publishes_row s me n after = (after.0 ≡ row_later me.0) × (after.1 ≡ [])
 
--- A load with view `v` found `n` and left view `w`, and `n` is the word of the summary after the rows that `w` has
--- seen.
+-- A load with view `v` found `n` and left view `w`. The word `n` is the encoded summary of the rows that `w` has seen.
 pub record ShowsSummary (mission : MissionParts) (v : TapView) (n : ℕ) (w : TapView) : Type 0 where
   pub same : w ≡ view_loaded v w.seen
   pub low : v.seen ≤ w.seen
@@ -61,6 +60,6 @@ pub record ShowsSummary (mission : MissionParts) (v : TapView) (n : ℕ) (w : Ta
   pub word : n ≡ summary_encode (summary_after mission w.seen)
   pub fits : FitsWord (summary_after mission w.seen)
 
--- The step of a reader's load.
+-- A load by a reader finds the summary of at least as many rows as the reader has seen.
 abbrev pub reads_summary : Step (Unit {0}) → TapSeat → ℕ → TapSeat → Type 0
 reads_summary s me n after = (after.1 ≡ []) × IfSome me.0.mission (λ mission. ShowsSummary mission me.0 n after.0)

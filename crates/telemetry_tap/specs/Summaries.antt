@@ -15,16 +15,16 @@ use Rattle.frame_model.specs.Runs.{running, runs}
 use Rattle.telemetry_tap.specs.declared.summaries.TheConstants.{NONE_RUNNING}
 use Rattle.telemetry_tap.specs.declared.summaries.Summary.{Summary}
 
--- The number by which a summary names the configuration that a row runs, if any.
+-- The number by which a summary names the configuration that a row runs, or `NONE_RUNNING` if the row runs none.
 abbrev pub running_number : Option ConfId → ℕ
 running_number None = NONE_RUNNING
 running_number (Some conf) = conf.0
 
--- The configuration that a summary names by this number, or none.
+-- The configuration that a summary names by this number, or none if the number is `NONE_RUNNING`.
 abbrev pub running_conf : ℕ → Option ConfId
 running_conf number = if number == NONE_RUNNING then None else Some (conf_id number)
 
--- The number of the configuration that the last of the first `m` rows runs, or `NONE_RUNNING`.
+-- The number of the configuration that the last of the first `m` rows runs, or `NONE_RUNNING` if there is none.
 abbrev pub summary_running : MissionParts → ℕ → ℕ
 summary_running mission zero = NONE_RUNNING
 summary_running mission (suc k) = running_number (running mission.spec (row_at mission.spec mission.script k).acts)
@@ -46,7 +46,8 @@ summary_after mission m = record { frames = m; running = summary_running mission
 abbrev pub first_rows : MissionParts → ℕ → List Row
 first_rows mission m = take m (rows_of mission.spec mission.script)
 
--- The number of reconfigurations that begin with a row, given what has been read off the preceding rows.
+-- The number of reconfigurations that begin with a row, which is 0 or 1. `Reading` is what the preceding rows have
+-- told.
 abbrev pub begun_with : Parts → Reading → List Act → ℕ
 begun_with spec (Steady c) acts = if runs spec acts c then 0 else 1
 begun_with spec (Leaving c begin) acts = 0

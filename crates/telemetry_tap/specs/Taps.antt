@@ -1,4 +1,4 @@
--- Taps and their seats.
+-- Taps, their writers and their readers.
 use Rattle.std.specs.Prelude.{All, List, ◌≡◌, ℕ, true, false, [], Some}
 use Rattle.coverage_check.specs.Missions.{MissionParts}
 use Rattle.frame_model.specs.Readings.{reading_of}
@@ -15,7 +15,7 @@ tap_mission tap = tap.table.shared.key
 abbrev pub rows_published : Writer → ℕ
 rows_published writer = writer.published
 
--- The number of rows in the last summary that a reader has seen.
+-- The number of rows in the last summary that a reader has loaded.
 abbrev pub rows_seen : Reader → ℕ
 rows_seen reader = reader.inner.me.0.seen
 
@@ -23,7 +23,7 @@ rows_seen reader = reader.inner.me.0.seen
 abbrev pub loads_of : Reader → ℕ
 loads_of reader = reader.inner.me.0.loads
 
--- A writer belongs to the tap, and keeps what its next summary needs.
+-- A writer belongs to the tap and has what it needs for its next summary.
 pub record IsWriterOf (tap : Tap) (writer : Writer) : Type 0 where
   pub table : writer.inner.table_id ≡ tap.table.shared.table_id
   pub mission : writer.inner.me.0.mission ≡ Some (tap_mission tap)
@@ -40,6 +40,6 @@ pub record IsReaderOf (tap : Tap) (reader : Reader) : Type 0 where
   pub reads : reader.inner.me.0.writes ≡ false
   pub empty : reader.inner.me.1 ≡ []
 
--- Each reader belongs to the tap and has seen the summary of no row.
+-- Each reader belongs to the tap and has seen no row.
 abbrev pub AreNewReaders : Tap → List Reader → Type 0
 AreNewReaders tap readers = All (λ (reader : Reader). IsReaderOf tap reader × (rows_seen reader ≡ 0)) readers

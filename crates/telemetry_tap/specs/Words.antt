@@ -1,16 +1,16 @@
--- The word of a summary.
+-- The encoding of a summary in one word.
 use Rattle.std.specs.Prelude.{ℕ, ◌+◌, ◌*◌, ◌/◌, ◌%◌, ◌<◌}
 use Rattle.telemetry_tap.specs.declared.summaries.Summary.{Summary}
 
--- The parts of a summary, each in its bits of one word.
+-- The word that holds each part of a summary in bits of its own.
 abbrev pub summary_encode : Summary → ℕ
 summary_encode s = s.frames + 65536 * s.begun + 4294967296 * s.running + 1099511627776 * s.up
 
--- The summary whose parts are in the bits of a word.
+-- The summary whose parts are the bits of a word.
 abbrev pub summary_decode : ℕ → Summary
 summary_decode word = record { frames = word % 65536; running = word / 4294967296 % 256; up = word / 1099511627776 % 256; begun = word / 65536 % 65536 }
 
--- Each part of a summary fits its bits of the word.
+-- Each part of a summary fits its bits in the word.
 pub record FitsWord (s : Summary) : Type 0 where
   pub frames : s.frames < 65536
   pub begun : s.begun < 65536

@@ -1,4 +1,4 @@
-//! Opening a tap.
+//! The opening of a tap.
 
 ghost use Rattle.std.specs.Prelude.{◌≡◌, ◌≤◌, IfOk, OnOk, [], length};
 ghost use Rattle.telemetry_tap.specs.Taps.{AreNewReaders, IsWriterOf, rows_published, tap_mission};
@@ -15,12 +15,12 @@ use scram_types::NoMemory;
 use std::alloc::Global;
 
 impl<'a> Tap<'a> {
-    /// Opens a tap for the flight of a mission. The writer has published no row, and the 0 to 8 readers have seen the
-    /// summary of no row.
+    /// Opens a tap for the flight of a mission, with a writer that has published no row and 0 to 8 readers that have
+    /// seen no row.
     ///
     /// # Errors
     ///
-    /// Out of memory.
+    /// The only error is out of memory.
     pub fn open(
         alloc: Global,
         mission: &'a Mission,
@@ -67,7 +67,7 @@ impl<'a> Tap<'a> {
         Ok((Tap { mission, table }, writer))
     }
 
-    // Gives each reader a seat of its own.
+    // Creates the readers, each with a seat of its own.
     fn deal(
         &self,
         readers: u32,

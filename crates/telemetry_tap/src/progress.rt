@@ -1,4 +1,4 @@
-//! The change of a summary with a row.
+//! The parts of a summary that change with a row.
 
 ghost use Rattle.std.specs.Prelude.{◌≡◌, ◌≤◌};
 ghost use Rattle.telemetry_tap.specs.Summaries.{begun_with, running_number};
@@ -7,7 +7,8 @@ use crate::summaries::NONE_RUNNING;
 use frame_model::{Reading, runs};
 use scram_types::{Act, ConfId, Row, Spec};
 
-/// Returns the number of reconfigurations that begin with a row, given what has been read off the preceding rows.
+/// Returns the number of reconfigurations that begin with a row, which is 0 or 1. `reading` is what the preceding rows
+/// have told.
 pub(crate) fn begun_with(spec: &Spec, reading: Reading, acts: &[Act; 8]) -> u32
     ensures same { result ≡ begun_with spec.now reading acts.now }
     ensures few { result ≤ 1 }
@@ -18,7 +19,7 @@ pub(crate) fn begun_with(spec: &Spec, reading: Reading, acts: &[Act; 8]) -> u32
     }
 }
 
-/// Returns the number by which a summary names the configuration that a row runs, or `NONE_RUNNING`.
+/// Returns the number by which a summary names a configuration, or `NONE_RUNNING` if `conf` is `None`.
 pub(crate) fn running_number(conf: Option<ConfId>) -> u8
     ensures { result ≡ running_number conf }
 {
@@ -28,7 +29,7 @@ pub(crate) fn running_number(conf: Option<ConfId>) -> u8
     }
 }
 
-/// Returns the processors that are up in a row. The type of the result bounds it for the proof of `publish`.
+/// Returns the set of processors that are up in a row. The type of the result bounds it for the proof of `publish`.
 pub(crate) fn up_in(row: &Row) -> u8
     ensures { result ≡ row.now.env.up }
 {

@@ -1,4 +1,4 @@
-//! The steps at a tap.
+//! The steps of writers and readers at a tap.
 
 ghost use Rattle.std.specs.Prelude.{◌≡◌, ◌≤◌, ◌+◌, Some, slice_get};
 ghost use Rattle.frame_model.specs.Flights.{rows_of};
@@ -16,7 +16,7 @@ use frame_model::{read_row, running};
 use scram_types::Row;
 
 impl<'a> Tap<'a> {
-    /// Returns the mission of the flight.
+    /// Returns the mission whose flight the tap shows.
     pub fn mission(&self) -> &Mission
         ensures { result.now ≡ tap_mission self.now }
     {
@@ -49,8 +49,8 @@ impl<'a> Tap<'a> {
         writer.reading = reading;
     }
 
-    /// Returns the summary that the word holds, which has at least as many rows as this reader has seen. It does not
-    /// allocate and does not block.
+    /// Loads the word and returns its summary, which has at least as many rows as the last one that this reader has
+    /// seen. It does not allocate and does not block.
     pub fn read(&self, reader: &mut Reader) -> Summary
         requires reader { IsReaderOf self.now reader.old }
         ensures reader { IsReaderOf self.now reader.new }
@@ -65,8 +65,8 @@ impl<'a> Tap<'a> {
         summary_decode(word)
     }
 
-    /// Returns a new reader, which has seen the summary of all rows that the writer has published. It does not allocate
-    /// and does not block.
+    /// Returns a new reader, which has seen all rows that the writer has published. It does not allocate and does not
+    /// block.
     pub fn note(&self, writer: &mut Writer) -> Reader
         requires writer { IsWriterOf self.now writer.old }
         ensures writer { IsWriterOf self.now writer.new }

@@ -1,4 +1,4 @@
-//! Summaries of a flight, and the word that holds one.
+//! Summaries of a flight, and the words that encode them.
 
 ghost use Rattle.std.specs.Prelude.{◌≡◌};
 ghost use Rattle.telemetry_tap.specs.Summaries.{running_conf};
@@ -6,24 +6,25 @@ ghost use Rattle.telemetry_tap.specs.Words.{summary_decode, summary_encode};
 
 use scram_types::ConfId;
 
-/// The value of `running` in a summary before the first row, or of a last row that runs no configuration.
+/// The value of `running` in a summary if there is no row or the last row runs no configuration.
 pub const NONE_RUNNING: u8 = 255;
 
-/// The state of a flight after some of its frames, as a reader sees it.
+/// A summary of a flight after some of its frames.
 #[derive(Clone, Copy, Debug, PartialEq, Eq)]
 pub struct Summary {
     /// The number of frames that have ended, 0 to 20,000.
     pub frames: u32,
-    /// The number of the configuration that the last row runs, or `NONE_RUNNING`.
+    /// The number of the configuration that the last row runs, or `NONE_RUNNING` if there is none.
     pub running: u8,
-    /// The processors that are up in the last row, or in frame 0 if there is no row. Bit `p` is for processor `p`.
+    /// The set of processors that are up in the last row, or in frame 0 if there is no row. Bit `p` is for processor
+    /// `p`.
     pub up: u8,
-    /// The number of reconfigurations that have begun, 0 to 20,000, including one that is under way.
+    /// The number of reconfigurations that have begun, 0 to 20,000, including the one that is under way, if any.
     pub begun: u32,
 }
 
 impl Summary {
-    /// Returns the configuration that the last row runs, or `None`.
+    /// Returns the configuration that the last row runs, or `None` if there is none.
     pub fn running_conf(&self) -> Option<ConfId>
         ensures { result ≡ running_conf self.now.running }
     {
@@ -35,8 +36,8 @@ impl Summary {
     }
 }
 
-/// Returns the word of a summary. It has `frames` in bits 0 to 15, `begun` in bits 16 to 31, `running` in bits 32 to 39
-/// and `up` in bits 40 to 47.
+/// Returns the word that encodes a summary. It has `frames` in bits 0 to 15, `begun` in bits 16 to 31, `running` in
+/// bits 32 to 39 and `up` in bits 40 to 47.
 pub fn summary_encode(summary: &Summary) -> u64
     ensures { result ≡ summary_encode summary.now }
 {
@@ -46,7 +47,7 @@ pub fn summary_encode(summary: &Summary) -> u64
         + 1_099_511_627_776 * u64::from(summary.up)
 }
 
-/// Returns the summary of a word.
+/// Returns the summary that a word encodes.
 pub fn summary_decode(word: u64) -> Summary
     ensures { result ≡ summary_decode word }
 {

@@ -3,8 +3,8 @@
 use atomic_table::{Play, Split, TableRule};
 use coverage_check::Mission;
 
-/// The mission, whether this is the writer's view, the number of rows that the seat has published or has seen in a
-/// summary, and the number of its loads.
+/// The mission, whether the view is the writer's, the number of rows that the seat has published or seen, and the
+/// number of its loads.
 pub struct TapView {
     pub mission: Option<Mission>,
     pub writes: bool,
@@ -12,8 +12,8 @@ pub struct TapView {
     pub loads: u64,
 }
 
-/// The rule of the table. One view is the writer's, the word is that of the summary of the rows that the writer has
-/// published, and no reader has seen more rows.
+/// The rule of the table. Exactly one view is the writer's, and the word encodes the summary of the rows that the
+/// writer has published. No reader has seen more rows.
 pub struct TapRule;
 
 impl TableRule<(), TapView, Mission> for TapRule {
@@ -24,7 +24,7 @@ impl TableRule<(), TapView, Mission> for TapRule {
     ghost first = { writer_view };
 }
 
-/// The writer's store of the summary with the next row.
+/// A store by the writer, which publishes the summary after one more row.
 pub struct PublishesRow;
 
 impl Play<(), TapView> for PublishesRow {
@@ -33,7 +33,7 @@ impl Play<(), TapView> for PublishesRow {
     ghost then = { publishes_row };
 }
 
-/// A reader's load.
+/// A load by a reader.
 pub struct ReadsSummary;
 
 impl Play<(), TapView> for ReadsSummary {
@@ -42,7 +42,8 @@ impl Play<(), TapView> for ReadsSummary {
     ghost then = { reads_summary };
 }
 
-/// A split of the writer's seat, which stays as it is. The new reader has seen the rows that the writer has published.
+/// A split of the writer's seat into the same seat and a new reader's. The reader has seen all rows that the writer has
+/// published.
 pub struct GivesReader;
 
 impl Split<TapView> for GivesReader {

@@ -25,7 +25,7 @@ pub trait Watch: Drop {
         ensures taken { taken self.new ≡ taken self.old + 1 };
 }
 
-/// A watch that publishes each row at a tap.
+/// A watch that publishes the summary after each row at a tap.
 #[derive(Drop)]
 pub struct Publisher<'t, 'a> {
     pub tap: &'t Tap<'a>,

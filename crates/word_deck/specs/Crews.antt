@@ -1,4 +1,4 @@
--- Processors with the values that they need in a flight, and the change of a processor's place by a turn.
+-- Processors with the values that they need in a flight, and the effect of a turn on a processor's place.
 use Rattle.std.specs.Prelude.{◌≡◌, ℕ, suc, Bool, false, not, Option, Some, None, if◌then◌else◌, nat_eq, nat_lt}
 use Rattle.fail_stop.specs.Events.{At, Halted, Place, after_frame, frame_of}
 use Rattle.fail_stop.specs.Flights.{Flight}
@@ -11,12 +11,12 @@ use Rattle.word_deck.specs.declared.turns.Turn.{Turn}
 use Rattle.word_deck.specs.declared.turns.Turn.TheVariants.{Worked, NotYet, Finished}
 use Rattle.word_deck.specs.Frames.{IsAfter}
 
--- A restart exists and comes after frame `h`.
+-- Whether there is a restart and its frame comes after frame `h`.
 abbrev pub comes_back : ℕ → Option ℕ → Bool
 comes_back h None = false
 comes_back h (Some r) = nat_lt h r
 
--- Processor `p` has flown all frames, or has halted for good.
+-- Whether processor `p` has flown all frames or has halted for good.
 abbrev pub is_done : Flight → ℕ → Place → Bool
 is_done m p (At f n) = nat_eq f m.frames
 is_done m p (Halted h) = not (comes_back h (m.restart p))
@@ -25,13 +25,13 @@ is_done m p (Halted h) = not (comes_back h (m.restart p))
 abbrev pub place_flown : Flight → ℕ → Place → Place
 place_flown m p place = after_frame (frame_awaited m p place) (m.halt p (frame_awaited m p place))
 
--- The place of processor `p` after a turn with this result that begins at a place.
+-- The place of processor `p` after a turn, given the result of the turn and the place before it.
 abbrev pub place_after : Turn → Flight → ℕ → Place → Place
 place_after NotYet m p place = place
 place_after Worked m p place = place_flown m p place
 place_after Finished m p place = if is_done m p place then place else place_flown m p place
 
--- The number of loads that found nothing ready, after a turn with this result.
+-- The number of loads that found nothing ready, after a turn with this result and `tries` such loads before it.
 abbrev pub tries_after : Turn → ℕ → ℕ
 tries_after NotYet tries = suc tries
 tries_after Worked tries = tries

@@ -11,11 +11,11 @@ use Rattle.word_deck.specs.declared.scopes.Boarding.TheVariants.{Threaded, Own, 
 use Rattle.word_deck.specs.Crews.{CrewFits}
 use Rattle.word_deck.specs.Landing.{IsLanded}
 
--- These are seats of a table's processors, in the order of their numbers, each at its opening place.
+-- Each of these seats belongs to the table, to the processor whose number is its index, and is at its opening place.
 abbrev pub AreOpen : WordTable → List Seat → Type 0
 AreOpen words seats = (p : ℕ) (seat : Seat) → slice_get seats p ≡ Some seat → IsSeatOf words seat × (proc_of seat ≡ p) × (seat_place seat ≡ At 0 0)
 
--- Each of these seats belongs to the table with its mission, is that of the processor with its index, and is at its
+-- Each of these seats has the table and its mission, belongs to the processor whose number is its index, and is at its
 -- opening place.
 abbrev pub AreAtTable : WordTable → List Seat → Type 0
 AreAtTable words seats = (p : ℕ) (seat : Seat) → slice_get seats p ≡ Some seat
@@ -30,27 +30,28 @@ AllCrewsFit {X = X} {Y = Y} words crews = All (λ (crew : Crew X Y). CrewFits wo
 abbrev pub numbers_in : {X : Type 0} {Y : X → Type 0} → List (Crew X Y) → List ℕ
 numbers_in {X = X} {Y = Y} crews = map (λ (crew : Crew X Y). proc_of crew.seat) crews
 
--- These are the seats of processors that have landed, in the order of their numbers.
+-- Each of these seats belongs to the processor whose number is its index, and that processor has landed.
 abbrev pub AreLanded : WordTable → List Seat → Type 0
 AreLanded words seats = (p : ℕ) (seat : Seat) → slice_get seats p ≡ Some seat → IsLanded words p seat
 
--- The numbers of the processors that fly in the caller's turns after processor `p` has started.
+-- The numbers of the processors that fly in the caller's turns after processor `p` has boarded in this way.
 abbrev pub numbers_boarded : Boarding → ℕ → List ℕ → List ℕ
 numbers_boarded (Threaded flying) p numbers = numbers
 numbers_boarded Own p numbers = numbers ++ p ∷ []
 numbers_boarded (Landed seat) p numbers = numbers
 
--- The numbers of the processors that fly in the caller's turns. Processor `p` is the last of them if it flies there.
+-- These are the numbers of the processors that fly in the caller's turns. If processor `p` flies there, it is the last.
 pub record IsBoardedLast (boarding : Boarding) (p : ℕ) (numbers : List ℕ) : Type 0 where
   pub front : List ℕ
   pub same : numbers ≡ numbers_boarded boarding p front
 
--- The promise, or the landed seat, of a started processor is that of the processor that had this seat.
+-- The thread promises the landing of the processor that had this seat, or the landed seat is that processor's. Nothing
+-- is required of a processor in the caller's turns.
 abbrev pub IsBoarded : WordTable → Seat → Boarding → Type 0
 IsBoarded words was (Threaded flying) = (flying.handle.promise.0.value ≡ words) × (flying.handle.promise.1.value ≡ was)
 IsBoarded words was Own = Unit {0}
 IsBoarded words was (Landed seat) = IsLanded words (proc_of was) seat
 
--- The kernel's seat belongs to the table with its mission.
+-- The kernel's seat has the table and its mission.
 abbrev pub IsAtTable : WordTable → KSeat → Type 0
 IsAtTable words kseat = (kseat.inner.table_id ≡ words.table.shared.table_id) × (kseat.inner.me.0.mission ≡ Some (mission_in words))

@@ -15,7 +15,7 @@ use Rattle.word_deck.specs.declared.turns.Turn.TheVariants.{Worked, NotYet, Fini
 abbrev pub frames_noted : ℕ → KSeat → ℕ
 frames_noted procs kseat = if nat_lt (kernel_steps kseat) procs then kernel_frame kseat else suc (kernel_frame kseat)
 
--- The marks and images of the first `n` processors are those after frame `k`, in which the kernel has noted them.
+-- The noted marks and images of the first `n` processors are those that they have committed by the end of frame `k`.
 pub record AreNoted (mission : MissionParts) (k n : ℕ) (noted : Noted) : Type 0 where
   pub marks : (p : ℕ) → p < n → mark_in noted.marks p ≡ mark_after mission.spec mission.script p (suc k)
   pub images : (p : ℕ) → p < n → image_in noted.images p ≡ image_after mission.spec mission.script p (suc k)
@@ -31,15 +31,15 @@ pub record IsKernelBetween (procs frames : ℕ) (kseat : KSeat) : Type 0 where
   pub steps : kernel_steps kseat ≤ procs
   pub last : kernel_steps kseat ≡ procs → suc (kernel_frame kseat) ≡ frames
 
--- The invariant of a kernel with its seat between two turns.
+-- The invariant of a kernel between two turns, with its seat, its log and what it has noted.
 pub record KernelCrewKeeps (mission : MissionParts) (kseat : KSeat) (kernel : KernelParts) (noted : Noted) : Type 0 where
   pub between : IsKernelBetween (length mission.spec.procs) mission.script.frames kseat
   pub log : kernel ≡ kernel_after mission.spec mission.script (frames_noted (length mission.spec.procs) kseat)
   pub noted_are : AreNoted mission (kernel_frame kseat) (kernel_steps kseat) noted
 
--- The change of the kernel's seat by a turn. After `NotYet` it is the same and counts another try. After `Worked` the
--- kernel has noted more processors of its frame, or is at the begin of the next frame. After `Finished` it is in the
--- same frame and has made no fewer steps.
+-- The change of the kernel's seat by a turn. After `NotYet` the kernel is where it was and has counted another try.
+-- After `Worked` it has noted more processors of its frame, or is at the start of the next frame. After `Finished` it
+-- is in the same frame and has made no fewer steps than before.
 abbrev pub IsKernelMoved : Turn → ℕ → ℕ → KSeat → KSeat → Type 0
 IsKernelMoved NotYet procs frames before after =
     (kernel_frame after ≡ kernel_frame before) × (kernel_steps after ≡ kernel_steps before) × (kernel_tries after ≡ suc (kernel_tries before))

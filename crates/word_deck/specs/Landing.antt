@@ -1,4 +1,4 @@
--- The landing of a processor that flies on a thread, and the processor's place then.
+-- The landing of a processor that flies on a thread.
 use Rattle.std.specs.Prelude.{◌≡◌, ℕ, true, false}
 use Rattle.fail_stop.specs.Ends.{IsDone}
 use Rattle.word_table.specs.declared.seats.Seat.{Seat}
@@ -6,13 +6,13 @@ use Rattle.word_table.specs.declared.tables.WordTable.{WordTable}
 use Rattle.word_table.specs.Tables.{IsSeatOf, flight_in, seat_place, proc_of}
 use Rattle.word_deck.specs.declared.landings.Landing.{Landing}
 
--- The seat is that of processor `p`, which has flown all frames or has halted for good.
+-- The seat belongs to processor `p`, which has flown all frames or has halted for good.
 pub record IsLanded (words : WordTable) (p : ℕ) (seat : Seat) : Type 0 where
   pub seated : IsSeatOf words seat
   pub proc : proc_of seat ≡ p
   pub done : IsDone (flight_in words) p (seat_place seat)
 
--- The processor that had this seat has landed, or has not flown and still has the seat.
+-- The processor that had this seat has landed, or has not flown and gives back the same seat.
 pub record Lands (words : WordTable) (was : Seat) (landing : Landing) : Type 0 where
   pub landed : landing.flown ≡ true → IsLanded words (proc_of was) landing.seat
   pub stayed : landing.flown ≡ false → landing.seat ≡ was

@@ -1,5 +1,5 @@
-//! Processors at their seats. The type guarantees that the unit is that of the seat's processor, and has halted if and
-//! only if that processor has. The fields are public so that clauses can name them.
+//! Processors at their seats. The type guarantees that the unit is the seat's processor, and that both have halted or
+//! neither has. The fields are public so that clauses can name them.
 
 ghost use Rattle.std.specs.Prelude.{◌≡◌, ◌<◌, IfSome, Some, false};
 ghost use Rattle.fail_stop.specs.Flyers.{IsUnitAt};
@@ -16,7 +16,7 @@ use fault_script::{halt_in, restart_of};
 use scram_types::Image;
 use word_table::{Seat, WordTable};
 
-/// A processor of a flight on words, at its seat, with the images that it looked at and drafted last.
+/// A processor of a flight at its seat, with the images of its last looks and its last draft.
 #[derive(Drop)]
 pub struct Crew {
     pub seat: Seat,
@@ -41,7 +41,7 @@ impl Crew {
     ghost use Rattle.word_table.specs.declared.tables.WordTable as word_tables;
     ghost use Rattle.word_deck.specs.declared.turns.Turn.TheVariants.{Finished, Worked};
 
-    /// Returns a processor at its opening place, with its boxes and the boxes for its restart.
+    /// Returns a processor at its opening place, with the boxes `rack`, and `spare` for its restart.
     pub fn processor(seat: Seat, rack: Rack, spare: Rack) -> Crew
         requires opening { seat_place seat ≡ At 0 0 }
         requires few { proc_of seat < 8 }
@@ -63,10 +63,10 @@ impl Crew {
         }
     }
 
-    /// Tries to fly the frame that the processor waits for, whole or up to its halt in it. A processor that has halted
-    /// lives again from the start of the frame of its restart, with its spare rack. It returns `NotYet` only if the
-    /// release that this call loads does not show the frame. It returns `Finished` if and only if the processor has
-    /// then flown all frames or has halted for good. It does not block.
+    /// Tries to fly the frame for which the processor waits, whole or up to its halt in it. A processor that has halted
+    /// restarts with its spare rack at the start of the frame of its restart. The call returns `NotYet` only if the
+    /// release that it loads does not show the frame. It returns `Finished` if and only if the processor has then flown
+    /// all frames or has halted for good. It does not block.
     #[tactic(auto, using(crate::proofs::Places::waits, crate::proofs::Places::done_by, crate::proofs::Places::flown_after, crate::proofs::Places::finished_by, crate::proofs::Places::tried_by))]
     pub fn turn(&mut self, mission: &Mission, words: &WordTable) -> Turn
         requires mission { mission_in words.now ≡ mission.now }
@@ -103,7 +103,7 @@ impl Crew {
         }
     }
 
-    // Returns the result of a turn in which the processor has flown a frame.
+    // Returns the result of a turn in which the processor has flown a frame: `Finished` or `Worked`.
     fn outcome(&self, mission: &Mission) -> Turn
         ensures { result ≡ (if is_done (mission_flight mission.now) (proc_of self.now.seat) (seat_place self.now.seat) then Finished else Worked) }
     {
@@ -114,8 +114,8 @@ impl Crew {
         }
     }
 
-    // Starts the frame that the processor waits for if it is released. A processor that had halted lives again from
-    // then on.
+    // Starts the frame for which the processor waits, and returns its kernel image, or `None` if the frame is not
+    // released. A processor that had halted restarts.
     #[tactic(auto, using(crate::proofs::Places::spare_there, crate::proofs::Places::spare_begun, crate::proofs::Units::few))]
     fn begin(&mut self, words: &WordTable) -> Option<KernelImage>
         requires fits { CrewFits words.now self.old }
@@ -132,7 +132,8 @@ impl Crew {
         Some(image)
     }
 
-    // Flies the frame that has been started: the looks, the draft, and the steps up to the halt or the end.
+    // Flies the frame that has been started. It makes the looks and the draft, and then the steps up to the halt or the
+    // end.
     fn fly(&mut self, mission: &Mission, words: &WordTable, kernel: KernelImage)
         requires mission { mission_in words.now ≡ mission.now }
         requires flies { CrewFlies words.now 1 self.old }
@@ -150,7 +151,7 @@ impl Crew {
         self.end(mission, words);
     }
 
-    // Sets the image to the draft that the unit, which is up, makes in the frame of its last snapshot.
+    // Sets the image to the draft of the unit in the frame of its last snapshot. The unit is up.
     #[tactic(auto, using(crate::proofs::Steps::drafted_by))]
     fn draft(&mut self, mission: &Mission)
         requires lives { is_halted (seat_place self.old.seat) ≡ false }
@@ -165,7 +166,8 @@ impl Crew {
             .draft(mission.spec(), &self.snap, &mut self.image);
     }
 
-    // Ends the frame that the processor has drafted. It commits the frame, or halts if the script has a halt in it.
+    // Ends the frame that the processor has drafted. It commits the frame, or halts if the script has a halt in the
+    // frame.
     fn end(&mut self, mission: &Mission, words: &WordTable)
         requires mission { mission_in words.now ≡ mission.now }
         requires flies { CrewFlies words.now (length mission.now.spec.procs + 1) self.old }

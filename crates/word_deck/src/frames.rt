@@ -11,8 +11,8 @@ use bank_words::encode;
 use scram_types::{Image, ProcId};
 use word_table::{Seat, WordTable};
 
-/// Looks at each processor, and fills the images with those as of the begin of the seat's frame. The images past the
-/// last processor are unchanged.
+/// Looks at each processor, and sets the images to those as of the start of the seat's frame. The images past the last
+/// processor are unchanged.
 #[tactic(auto, using(crate::proofs::Steps::looks_on, crate::proofs::Noting::set_more))]
 pub(crate) fn look_at_all(words: &WordTable, procs: u8, seat: &mut Seat, images: &mut [Image; 8])
     requires seat { IsSeatOf words.now seat.old }
@@ -30,7 +30,7 @@ pub(crate) fn look_at_all(words: &WordTable, procs: u8, seat: &mut Seat, images:
     }
 }
 
-/// Stores the first words of the processor's draft in the seat's frame.
+/// Stores the first `count` words of the draft of the seat's frame.
 #[tactic(auto, using(crate::proofs::Steps::stores_on, crate::proofs::Steps::word_drafted))]
 pub(crate) fn store_words(words: &WordTable, seat: &mut Seat, image: &Image, count: u32)
     requires seat { IsSeatOf words.now seat.old }
@@ -68,7 +68,7 @@ pub(crate) fn commit(words: &WordTable, seat: &mut Seat, image: &Image, width: u
     words.done(seat);
 }
 
-/// Makes the steps of a frame up to the halt, which comes after `step` of them, and halts.
+/// Halts after `step` stores, or after all stores and the flip if `step` is above the number of words.
 #[tactic(auto, using(crate::proofs::Steps::halts_on, crate::proofs::Steps::stopped))]
 pub(crate) fn halt_after(words: &WordTable, seat: &mut Seat, image: &Image, width: u32, step: u32)
     requires seat { IsSeatOf words.now seat.old }
@@ -87,7 +87,7 @@ pub(crate) fn halt_after(words: &WordTable, seat: &mut Seat, image: &Image, widt
     words.halt(seat);
 }
 
-// Makes `step` stores, or all stores and the flip.
+// Makes `step` stores, or all stores and the flip if `step` is above the number of words.
 #[tactic(auto, using(crate::proofs::Steps::flips_on, crate::proofs::Steps::halts_then, crate::proofs::Steps::flipped))]
 fn make_steps(words: &WordTable, seat: &mut Seat, image: &Image, width: u32, step: u32)
     requires seat { IsSeatOf words.now seat.old }

@@ -1,5 +1,5 @@
-//! The choice of the thread that makes the kernel's turns. The functions that start threads take the kernel as a type
-//! parameter, since nothing is known of the result of a closure if it holds a type with a lifetime.
+//! The kernel as a type parameter of the functions that start threads. They cannot name a kernel's type with a
+//! lifetime, since nothing is known about the result of a closure that holds one.
 
 ghost use Rattle.std.specs.Prelude.{◌≡◌};
 ghost use Rattle.word_table.specs.Tables.{mission_in};
@@ -22,8 +22,8 @@ pub(crate) trait KernelActor: Drop {
 
     ghost done: { WordTable → Self → Type 0 };
 
-    // The ghost name of a reference that the kernel holds, so that the lender of the reference knows that it is still
-    // the same.
+    // The ghost name of a reference that the kernel holds. It lets the lender of the reference know that the kernel
+    // still holds the same one.
     ghost lent: { Self → ℕ };
 
     /// Makes a turn of the kernel, and returns its result.
@@ -35,7 +35,7 @@ pub(crate) trait KernelActor: Drop {
         ensures done { result ≡ Finished → done words.now self.new }
         ensures lent { lent self.new ≡ lent self.old };
 
-    /// Spins and then parks while the next note is not possible.
+    /// Spins and then parks until the next note is possible. It may return earlier, without a cause.
     fn rest<R: Wait>(&self, rt: &R, words: &WordTable);
 }
 

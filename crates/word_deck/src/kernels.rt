@@ -14,15 +14,16 @@ use scram_kernel::Kernel;
 use scram_types::{Image, ProcId, Row};
 use word_table::{KSeat, WordTable};
 
-/// The marks and images of the processors that the kernel has noted in its frame, after that frame.
+/// The marks and images that the processors have committed by the end of the kernel's frame, for the processors noted
+/// so far.
 #[derive(Clone, Copy)]
 pub(crate) struct Noted {
     pub(crate) marks: [u64; 8],
     pub(crate) images: [Image; 8],
 }
 
-/// The kernel of a flight on words, at its seat, with the marks and images that it has noted in its frame. Its rows are
-/// those of the frames in which it has noted every processor.
+/// The kernel of a flight at its seat, with the marks and images that it has noted in its frame. It has a row for each
+/// frame in which it has noted every processor.
 #[derive(Drop)]
 pub struct KernelCrew<'a> {
     pub mission: &'a Mission,
@@ -63,10 +64,10 @@ impl<'a> KernelCrew<'a> {
         self.kernel.rows()
     }
 
-    /// Tries to make the next steps of the kernel. It notes the processors, in order, that are done with its frame or
-    /// have halted. Once all are noted it ends the frame, and if there is a next frame, publishes and releases it. It
-    /// returns `NotYet` only if the end word that this call loads does not allow the next note. It returns `Finished`
-    /// if and only if the kernel has then made its last note, or no frame is flown. It does not block.
+    /// Tries to make the next steps of the kernel. It notes, in order, the processors that are done with its frame or
+    /// have halted. Once all are noted it ends the frame. If there is a next frame, it publishes and releases that
+    /// frame. The call returns `NotYet` only if the end word that it loads does not allow the next note. It returns
+    /// `Finished` if and only if the kernel has then made its last note, or no frame is flown. It does not block.
     #[tactic(auto, using(crate::proofs::Noting::below, crate::proofs::Noting::all))]
     pub fn turn(&mut self, words: &WordTable) -> Turn
         requires mission { mission_in words.now ≡ self.old.mission.now }
@@ -97,7 +98,7 @@ impl<'a> KernelCrew<'a> {
         Turn::Worked
     }
 
-    /// Returns the seat, and the kernel's log.
+    /// Returns the kernel's seat and its log.
     #[tactic(auto, using(crate::proofs::Noting::done_log))]
     pub(crate) fn into_parts(self) -> (KSeat, Kernel<'a>)
         ensures seat { result.0 ≡ self.entry.kseat }
@@ -138,7 +139,7 @@ fn note_all(words: &WordTable, procs: u32, kseat: &mut KSeat, noted: &mut Noted)
     }
 }
 
-// Ends the frame all of whose processors have been noted, and returns the kernel image of the next frame.
+// Ends the kernel's frame, in which all processors have been noted, and returns the kernel image of the next frame.
 fn end_frame(mission: &Mission, noted: &Noted, kernel: &mut Kernel) -> KernelImage
     requires frame { kernel.old.past < mission.now.script.frames }
     requires kernel { kernel.old ≡ kernel_after mission.now.spec mission.now.script kernel.old.past }

@@ -1,6 +1,6 @@
-//! Processors that fly on threads of their own. A thread gives back only the seat, since no thread handle is accepted
-//! that gives back boxes. So the boxes of each processor are in a cell. The processor's thread takes them from there,
-//! or the caller if no thread can be created.
+//! Processors that fly on threads of their own. A thread gives back only the seat, since a thread handle may not give
+//! back boxes. So the boxes of each processor are in a cell. The processor's thread takes them from the cell, or the
+//! caller does if no thread can be created.
 
 ghost use Rattle.std.specs.Prelude.{◌≡◌, IfErr, IfOk};
 ghost use Rattle.fail_stop.specs.Events.{At};
@@ -19,14 +19,14 @@ use std::sync::{Mutex, Wait};
 use std::thread::{Promise, PromisedHandle, Scope, Threads};
 use word_table::{Seat, WordTable};
 
-/// The boxes of a processor, and those for its restart.
+/// The boxes of a processor, and the boxes for its restart.
 #[derive(Drop)]
 pub(crate) struct RackPair {
     pub(crate) rack: Rack,
     pub(crate) spare: Rack,
 }
 
-/// A cell for the boxes of a processor until the processor flies.
+/// A cell that holds the boxes of a processor until the processor flies.
 #[derive(Drop)]
 pub(crate) struct RackCell {
     pair: Mutex<Option<RackPair>>,
@@ -34,7 +34,7 @@ pub(crate) struct RackCell {
 }
 
 impl RackCell {
-    /// Returns a cell with this pair, if there is one.
+    /// Returns a cell with this pair, or an empty cell if `pair` is `None`.
     pub(crate) fn new(alloc: Global, pair: Option<RackPair>) -> RackCell {
         RackCell {
             pair: Mutex::new(pair),
@@ -42,12 +42,12 @@ impl RackCell {
         }
     }
 
-    // Takes the pair out of the cell, or returns `None` if the cell is empty.
+    // Takes the pair out of the cell and returns it, or returns `None` if the cell is empty.
     fn take<R: Wait>(&self, rt: &R) -> Option<RackPair> {
         self.pair.lock(rt).take()
     }
 
-    // Puts a pair into the cell.
+    // Sets the content of the cell, which is empty if `pair` is `None`.
     fn put<R: Wait>(&self, rt: &R, pair: Option<RackPair>) {
         *self.pair.lock(rt) = pair;
     }
@@ -60,7 +60,7 @@ pub(crate) struct Landing {
     pub(crate) flown: bool,
 }
 
-/// The promise of a thread that the processor that had this seat at this table has landed, or has not flown.
+/// The promise of a thread: the processor that had this seat at this table has landed, or has not flown.
 #[derive(Drop)]
 pub(crate) struct Lander(Snapshot<WordTable>, Snapshot<Seat>);
 
@@ -68,8 +68,8 @@ impl Promise<Landing> for Lander {
     ghost kept_by = { λ promise landing. Lands promise.0.value promise.1.value landing };
 }
 
-/// The values that the actors of a flight share: the words, a cell for each processor, and the processors for which a
-/// thread is asked.
+/// The values that the actors of a flight share: the words, a cell for each processor, and which processors are to fly
+/// on threads.
 #[derive(Drop)]
 pub(crate) struct Resources {
     pub(crate) words: WordTable,
@@ -84,8 +84,8 @@ pub(crate) struct Shared<'a> {
     pub(crate) resources: &'a Resources,
 }
 
-/// The values with which one processor flies: the mission, the words, the cell of its racks, and whether a thread is
-/// asked for it.
+/// The values with which one processor flies: the mission, the words, the cell with its boxes, and whether it is to fly
+/// on a thread.
 #[derive(Clone, Copy)]
 pub(crate) struct Site<'a> {
     pub(crate) mission: &'a Mission,
@@ -94,7 +94,7 @@ pub(crate) struct Site<'a> {
     pub(crate) asked: bool,
 }
 
-/// Runs a processor until its turn is `Finished`, and returns its seat.
+/// Makes the turns of a processor until one is `Finished`, and returns the processor's seat.
 pub(crate) fn fly_crew<R: Wait>(
     rt: &R,
     mission: &Mission,
@@ -123,8 +123,8 @@ pub(crate) fn fly_crew<R: Wait>(
     unreachable!()
 }
 
-/// Starts a thread for a processor. If no thread can be created, the landing says that the processor has not flown, and
-/// its pair is in the cell.
+/// Starts a thread for a processor. If no thread can be created, it returns a landing that has not flown, and the boxes
+/// are in the cell.
 pub(crate) fn start<'s, E, R: Wait + Threads + Sync>(
     scope: &Scope<'s, E>,
     rt: &'s R,
@@ -156,7 +156,7 @@ pub(crate) fn start<'s, E, R: Wait + Threads + Sync>(
     match spawned {
         Ok(handle) => Ok(handle),
         Err(refused) => {
-            // This call gives back the seat and flies nothing, since it finds no pair.
+            // This call finds no pair, so it gives back the seat and flies nothing.
             let pair = cell.take(rt);
             let landing = (refused.value)();
             cell.put(rt, pair);
@@ -165,7 +165,7 @@ pub(crate) fn start<'s, E, R: Wait + Threads + Sync>(
     }
 }
 
-// Flies a processor with the pair from its cell, or leaves it where it is if the cell is empty.
+// Flies a processor with the boxes from its cell. If the cell is empty, it gives back the seat unchanged.
 #[tactic(auto, using(crate::proofs::Units::few))]
 fn fly_seat<R: Wait>(
     rt: &R,
@@ -192,8 +192,8 @@ fn fly_seat<R: Wait>(
     }
 }
 
-/// Returns the processor of this seat, with the pair from its cell. No proof says that the pair is there. If it is not,
-/// the processor flies with racks without boxes.
+/// Returns the processor of this seat, with the boxes from its cell. No proof says that the cell holds them. If it is
+/// empty, the processor flies with racks without boxes.
 #[tactic(auto, using(crate::proofs::Units::few))]
 pub(crate) fn crew_from<R: Wait>(rt: &R, words: &WordTable, cell: &RackCell, seat: Seat) -> Crew
     requires seat { IsSeatOf words.now seat }
@@ -210,8 +210,8 @@ pub(crate) fn crew_from<R: Wait>(rt: &R, words: &WordTable, cell: &RackCell, sea
     }
 }
 
-/// Returns the seat of a processor that has landed. A processor that has not flown is flown by the caller, with the
-/// pair from the cell.
+/// Returns the seat of a processor that has landed. If the processor has not flown, the caller flies it with the boxes
+/// from the cell.
 pub(crate) fn land<R: Wait>(rt: &R, site: &Site<'_>, landing: Landing, was: Snapshot<Seat>) -> Seat
     requires mission { mission_in site.now.words.now ≡ site.now.mission.now }
     requires lands { Lands site.now.words.now was.value landing }

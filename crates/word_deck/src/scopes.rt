@@ -18,7 +18,7 @@ use std::thread::{PromisedHandle, Scope, Threads};
 use word_table::{Seat, WordTable};
 
 /// The processors of a flight: the seats of those that have not started, the processors that fly in the caller's turns,
-/// and the seats of those that have landed.
+/// and the seats of the landed ones.
 #[derive(Drop)]
 pub(crate) struct Roster {
     pub(crate) waiting: Vec<Seat>,
@@ -32,7 +32,7 @@ pub(crate) struct Flying {
     pub(crate) handle: PromisedHandle<Landing, Lander>,
 }
 
-/// The way in which a processor flies: on a thread, as the last of those in the caller's turns, or not any more.
+/// The way in which a processor flies: on a thread, as the last of the processors in the caller's turns, or no longer.
 #[derive(Drop)]
 pub(crate) enum Boarding {
     Threaded(Flying),
@@ -93,7 +93,7 @@ pub(crate) fn fly<K: KernelActor, R: Threads + Wait + Sync>(
     )
 }
 
-// Starts the processors that have not started, the last one first, flies the kernel, and then lands the processors.
+// Starts the processors that have not started, the last one first. Then it flies the kernel, and lands the processors.
 fn fly_rest<'s, E, K: KernelActor, R: Threads + Wait + Sync>(
     scope: &Scope<'s, E>,
     rt: &'s R,
@@ -139,8 +139,8 @@ fn fly_rest<'s, E, K: KernelActor, R: Threads + Wait + Sync>(
     kernel
 }
 
-// Returns the seat of a processor that has started, once it has landed. The caller waits for the processor's thread, or
-// flies the processor to its end.
+// Returns the seat of a started processor, once the processor has landed. The caller waits for the processor's thread,
+// or flies the processor to its end.
 fn land_boarded<R: Threads + Wait>(
     rt: &R,
     site: &Site<'_>,
@@ -171,8 +171,8 @@ fn land_boarded<R: Threads + Wait>(
     }
 }
 
-// Makes the kernel's turns, and those of the processors that fly in the caller's turns, until the kernel is done. It
-// sleeps only if no processor flies in the caller's turns.
+// Makes the turns of the kernel and of the processors that fly in the caller's turns, until the kernel is done. The
+// caller sleeps only if no processor flies in its turns.
 fn fly_kernel<K: KernelActor, R: Wait>(
     rt: &R,
     shared: &Shared<'_>,
@@ -218,7 +218,8 @@ fn turn_all(mission: &Mission, words: &WordTable, own: &mut Vec<Crew>)
     }
 }
 
-// Starts a processor on a thread of its own if one is asked for and can be created, else in the caller's turns.
+// Starts a thread for a processor if one is asked for and can be created. Otherwise the processor flies in the caller's
+// turns.
 fn board<'s, E, R: Threads + Wait + Sync>(
     scope: &Scope<'s, E>,
     rt: &'s R,

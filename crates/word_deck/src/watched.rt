@@ -1,4 +1,4 @@
-//! The kernel of a flight, with a watch that takes its rows.
+//! The kernel of a flight with a watch, which takes the kernel's rows.
 
 ghost use Rattle.std.specs.Prelude.{◌≡◌, ◌≤◌, ◌+◌, length};
 ghost use Rattle.scram_kernel.specs.Kernels.{rows_below};
@@ -46,7 +46,8 @@ impl<'a, 'w, W: Watch> KernelActor for WatchedKernel<'a, 'w, W> {
     }
 }
 
-// Hands the last of these rows to a watch that has taken `before` of them, unless it has taken all.
+// Hands the last of these rows to a watch that has taken `before` rows. If there are only `before` rows, it does
+// nothing.
 #[tactic(auto, using(crate::proofs::Watching::next_row))]
 fn hand_row<W: Watch>(mission: &Mission, rows: &[Row], before: usize, watch: &mut W)
     requires watched { W.watched watch.old ≡ mission.now }

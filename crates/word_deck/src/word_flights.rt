@@ -1,4 +1,4 @@
-//! Flights on words.
+//! Flights of missions on shared words.
 
 ghost use Rattle.std.specs.Prelude.{◌≡◌, ◌≤◌, IfOk, length, vec_capacity, vec_len};
 ghost use Rattle.trace_props.specs.Missions.{IsTraceOf};
@@ -23,8 +23,8 @@ use telemetry_tap::Watch;
 use trace_props::missions::reconfigurations_are_assured;
 use word_table::{KSeat, Seat, WordTable, Words};
 
-/// A flight of a mission that is ready to start, with all memory that it needs. It has the words, the kernel, the seats
-/// and the boxes of all processors, and room for the seats that come back.
+/// A flight of a mission that is ready to start and has all memory that it needs. It has the words, the kernel, the
+/// seats and the boxes of all processors, and room for the seats that come back.
 #[derive(Drop)]
 pub struct WordFlight<'a> {
     mission: &'a Mission,
@@ -44,8 +44,8 @@ pub struct WordFlight<'a> {
     ghost room: { vec_len roster.waiting ≤ vec_capacity roster.landed },
 }
 
-/// The result of a flight: the trace, and the words with all their seats, whose actors have no more steps. The seats of
-/// the processors are in the order of their numbers.
+/// The result of a flight: the trace, and the words with all seats, whose actors have no more steps. The processors'
+/// seats are in the order of their numbers.
 #[derive(Drop)]
 pub struct Landed<'a> {
     pub flown: Flown,
@@ -55,8 +55,8 @@ pub struct Landed<'a> {
 }
 
 impl<'a> WordFlight<'a> {
-    /// Returns a flight of a mission with racks of boxes and spare racks for restarts. Rack `p` is that of processor
-    /// `p`. All memory of the flight is allocated here, and the only error is out of memory.
+    /// Creates a flight of a mission with racks of boxes and spare racks for restarts. Rack `p` is the rack of
+    /// processor `p`. All memory of the flight is allocated here. The only error is out of memory.
     #[tactic(auto, using(crate::proofs::Outcomes::at_table))]
     pub fn open(
         alloc: Global,
@@ -103,7 +103,7 @@ impl<'a> WordFlight<'a> {
         self.run_on(rt, [true; 8])
     }
 
-    /// Flies as `run` does, but asks for threads only for the processors that are set in `asked`.
+    /// Flies as `run` does, but asks for a thread for processor `p` only if `asked[p]` is true.
     pub fn run_on<R: Threads + Wait + Sync>(self, rt: &R, asked: [bool; 8]) -> Landed<'a>
         ensures flown { IsTraceOf self.entry.mission.now result.flown }
         ensures mission { result.words.mission ≡ self.entry.mission }
@@ -123,8 +123,8 @@ impl<'a> WordFlight<'a> {
         land_all(mission, resources, kernel, seats)
     }
 
-    /// Flies as `run` does, and hands each row to a watch as the kernel writes it. In the end the watch has taken all
-    /// rows.
+    /// Flies as `run` does, and hands each row to a watch when the kernel writes it. When the call returns, the watch
+    /// has taken all rows.
     pub fn run_watched<W: Watch, R: Threads + Wait + Sync>(
         self,
         rt: &R,
@@ -150,7 +150,7 @@ impl<'a> WordFlight<'a> {
             resources: &resources,
         };
         let (kernel, seats) = fly(rt, &shared, kernel, roster);
-        // The reference gets a name, since the proof otherwise does not learn the value that it refers to.
+        // The reference has a name, since the proof otherwise does not learn the value to which it refers.
         let WatchedKernel {
             kernel,
             watch: _last,
@@ -158,7 +158,7 @@ impl<'a> WordFlight<'a> {
         land_all(mission, resources, kernel, seats)
     }
 
-    // Returns the values with which a flight starts, if threads are asked for these processors.
+    // Returns the values with which a flight starts. A thread is to be asked for processor `p` if `asked[p]` is true.
     fn prepare<R: Threads>(self, rt: &R, asked: [bool; 8]) -> (Resources, KernelCrew<'a>, Roster)
         ensures table { result.0.words.table ≡ self.entry.words.table }
         ensures mission { mission_in result.0.words ≡ self.entry.mission.now }
@@ -227,10 +227,10 @@ fn land_all<'a>(
     }
 }
 
-// The smallest of the measured numbers (docs/PERFORMANCE.md) at which no thread parks if each thread has a processor.
+// The smallest measured number of spins (docs/PERFORMANCE.md) at which no thread parks if each thread has a processor.
 const SPINS: u32 = 10_000;
 
-// Returns how many times a wait spins before it parks, which is 0 on a machine with one processor.
+// Returns the number of spins before a wait parks, which is 0 on a machine with one processor.
 fn spins_of<R: Threads>(rt: &R) -> u32 {
     match thread::available_parallelism(rt) {
         Ok(count) if count.get() > 1 => SPINS,
@@ -238,7 +238,8 @@ fn spins_of<R: Threads>(rt: &R) -> u32 {
     }
 }
 
-// Returns a cell for each processor, with its racks.
+// Returns the cells of the processors. Cell `p` holds rack `p` and spare rack `p`, or is empty if there are no such
+// racks.
 fn cells(alloc: Global, racks: Vec<Rack>, spares: Vec<Rack>) -> [RackCell; 8] {
     let mut racks = racks.into_iter();
     let mut spares = spares.into_iter();

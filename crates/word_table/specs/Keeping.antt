@@ -1,4 +1,4 @@
--- The facts that a table keeps about its mission.
+-- Invariants of a mission and of its table.
 use Rattle.std.specs.Prelude.{◌≡◌, ◌≤◌, ℕ, List, length, Option}
 use Rattle.scram_types.specs.Eights.{eight}
 use Rattle.scram_types.specs.Specification.{IsSpec}
@@ -13,7 +13,7 @@ pub record IsFlown (mission : MissionParts) : Type 0 where
   pub facts : IsSpec mission.spec
   pub fits : Fits mission.spec mission.script
 
--- The table has a place for each word, and its numbers are those of the mission.
+-- The table has a place for each word and no slots, and its numbers are those of the mission.
 pub record TableKeeps (mission : MissionParts) (table : TableId) (frames procs width : ℕ) (restarts : List (Option ℕ)) : Type 0 where
   pub places : table.words ≡ word_index_count
   pub slots : table.slots ≡ 0

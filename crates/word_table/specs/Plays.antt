@@ -11,25 +11,24 @@ use Rattle.word_table.specs.declared.actors.Actor.TheVariants.{Runs, Stopped, Ke
 use Rattle.word_table.specs.declared.actors.View.{View}
 use Rattle.word_table.specs.Actors.{StandsAt, Waits, awaited, begun, halted_actor, mission_flight, next_frame, one_more, tried, with_actors}
 
--- A seat in the table: its view, and its slots, which are none.
+-- A seat in the table, which has a view and no slots.
 abbrev pub Sat : Type 0
 Sat = Me (Unit {0}) View
 
--- A step of the table.
+-- A step at the table.
 abbrev pub Stepped : Type 0
 Stepped = Step (Unit {0})
 
--- A seat has view `v` and no slot.
+-- The seat has view `v` and no slots.
 abbrev pub Has : Sat → View → Type 0
 Has me v = (me.0 ≡ v) × (me.1 ≡ [])
 
--- Each of these actors is at its place.
+-- Each of these actors is where `at` says that it is.
 abbrev pub AllStand : Places → List Actor → Type 0
 AllStand at [] = Unit {0}
 AllStand at (a ∷ rest) = StandsAt at a × AllStand at rest
 
--- Number `n` is the word at place `i` in some state that the law of events allows, in which these actors are at their
--- places.
+-- In some state that the law of events allows, these actors are at their places and `n` is the word at place `i`.
 pub record IsFound (m : Flight) (actors : List Actor) (i n : ℕ) : Type 0 where
   pub at : Places
   pub list : List ℕ
@@ -37,11 +36,11 @@ pub record IsFound (m : Flight) (actors : List Actor) (i n : ℕ) : Type 0 where
   pub value : n ≡ slice_index list i
   pub stand : AllStand at actors
 
--- The number that a load shows to a seat with view `v` is a word found at place `i`.
+-- A load at place `i` by a seat with view `v` may find `n`.
 abbrev pub ShowsWord : View → ℕ → ℕ → Type 0
 ShowsWord v i n = IfSome v.mission (λ mission. IsFound (mission_flight mission) v.actors i n)
 
--- A view after each of its actors has moved.
+-- The view `v` after each of its actors has moved by `go`.
 abbrev pub each_actor : (Actor → Actor) → View → View
 each_actor go v = with_actors v (map go v.actors)
 
@@ -59,31 +58,31 @@ AwaitsEnd m i (Runs p f n ∷ rest) = ⊥
 AwaitsEnd m i (Stopped p h ∷ rest) = ⊥
 AwaitsEnd m i (Kernel k j ∷ rest) = (k < m.frames) × (j < m.procs) × (i ≡ index_of (EndWord j))
 
--- The first actor may start, by the value of the release word.
+-- Whether the first actor may start its frame, if the release word is `release`.
 abbrev pub may_start : Flight → List Actor → ℕ → Bool
 may_start m [] release = false
 may_start m (a ∷ rest) release = nat_lt (awaited m a) release
 
--- The first actor is the kernel and may note its next processor, by the value of that processor's end word.
+-- Whether the first actor is the kernel and may note its next processor, if that processor's end word is `end`.
 abbrev pub can_note : Flight → List Actor → ℕ → Bool
 can_note m [] end = false
 can_note m (Runs p f n ∷ rest) end = false
 can_note m (Stopped p h ∷ rest) end = false
 can_note m (Kernel k j ∷ rest) end = may_note m j k end
 
--- The actors move by `go` if they are ready, and otherwise the view counts another try.
+-- If `ready` is true, the actors move by `go`. Otherwise the view counts another try.
 abbrev pub GoesOrTries : Bool → (Actor → Actor) → View → Sat → Type 0
 GoesOrTries ready go v after = MatchBool ready (Has after (each_actor go v)) (Has after (tried v))
 
--- If the actor waits for the word, the seat moves by `go` or counts another try. Otherwise the seat stays as it is.
+-- If the actor waits for the word, it moves by `go` or the view counts another try. Otherwise the seat stays as it is.
 abbrev pub GoesWhereItWaits : Type 0 → Bool → (Actor → Actor) → View → Sat → Type 0
 GoesWhereItWaits waits ready go v after = (waits → GoesOrTries ready go v after) × (¬ waits → Has after v)
 
--- The seat after a load of word `i` that may be a start.
+-- The seat after a load at place `i` that found `n` and starts a frame if it can.
 abbrev pub TellsStart : Flight → ℕ → ℕ → View → Sat → Type 0
 TellsStart m i n v after = GoesWhereItWaits (AwaitsRelease m i v.actors) (may_start m v.actors n) (begun m) v after
 
--- The seat after a load of word `i` that may be a note.
+-- The seat after a load at place `i` that found `n` and notes a processor if it can.
 abbrev pub TellsNote : Flight → ℕ → ℕ → View → Sat → Type 0
 TellsNote m i n v after = GoesWhereItWaits (AwaitsEnd m i v.actors) (can_note m v.actors n) one_more v after
 
@@ -94,15 +93,15 @@ word_due m (Runs p f n ∷ rest) = word_in (m.draft p f) (n - (m.procs + 1))
 word_due m (Stopped p h ∷ rest) = 0
 word_due m (Kernel k j ∷ rest) = word_in (m.kernel_image (suc k)) (j - m.procs)
 
--- The seat makes a step if the condition holds, and otherwise stays.
+-- If the condition holds, the actors make a step. Otherwise the seat stays as it is.
 abbrev pub StepsIf : Bool → View → Sat → Type 0
 StepsIf condition v after = MatchBool condition (Has after (each_actor one_more v)) (Has after v)
 
--- A load that is no event shows a word and leaves the seat as it is.
+-- A load that is no event finds a word and leaves the seat as it is.
 abbrev pub reads : Stepped → Sat → ℕ → Sat → Type 0
 reads s me n after = Has after me.0 × ShowsWord me.0 s.word n
 
--- A load that is a look shows a word and is a step of the actor.
+-- A load that is a look finds a word and is a step of the actor.
 abbrev pub looks : Stepped → Sat → ℕ → Sat → Type 0
 looks s me n after = Has after (each_actor one_more me.0) × ShowsWord me.0 s.word n
 
@@ -111,11 +110,11 @@ abbrev pub starts : Stepped → Sat → ℕ → Sat → Type 0
 starts s me n after = IfSome me.0.mission (λ mission. TellsStart (mission_flight mission) s.word n me.0 after)
 
 -- A load of the end word for which the kernel waits is a note or a try. Any other load leaves the seat as it is. The
--- load shows the word.
+-- load finds the word that it shows.
 abbrev pub notes : Stepped → Sat → ℕ → Sat → Type 0
 notes s me n after = IfSome me.0.mission (λ mission. TellsNote (mission_flight mission) s.word n me.0 after) × ShowsWord me.0 s.word n
 
--- A store into a bank, of a mark, or of one of the kernel's words.
+-- A store into a bank, of a mark, or of one of the kernel's words is a step of the actor.
 abbrev pub stores : Stepped → Sat → ℕ → Sat → Type 0
 stores s me n after = Has after (each_actor one_more me.0)
 
@@ -123,15 +122,15 @@ stores s me n after = Has after (each_actor one_more me.0)
 abbrev pub confirms : Stepped → Sat → ℕ → Sat → Type 0
 confirms s me n after = IfSome me.0.mission (λ mission. StepsIf (nat_eq n (word_due (mission_flight mission) me.0.actors)) me.0 after)
 
--- A store of the end word of a finished frame, or of the release. After it the actor is at the begin of the next frame.
+-- A store of the end word of a finished frame, or of the release, puts the actor at the start of the next frame.
 abbrev pub finishes_frame : Stepped → Sat → ℕ → Sat → Type 0
 finishes_frame s me n after = Has after (each_actor next_frame me.0)
 
--- A store of the end word of a frame in which the processor halts.
+-- A store of the end word of a frame in which the processor halts leaves the actor halted.
 abbrev pub halts : Stepped → Sat → ℕ → Sat → Type 0
 halts s me n after = Has after (each_actor halted_actor me.0)
 
--- The first actor of a list, as a list.
+-- The list that holds only the first actor of a list, or the empty list if there is none.
 abbrev pub first_of : List Actor → List Actor
 first_of [] = []
 first_of (a ∷ rest) = a ∷ []
@@ -141,15 +140,15 @@ abbrev pub others_of : List Actor → List Actor
 others_of [] = []
 others_of (a ∷ rest) = rest
 
--- The view that a split leaves, with all actors but the first.
+-- The view that remains after a split: all actors but the first.
 abbrev pub other_actors : View → View
 other_actors v = with_actors v (others_of v.actors)
 
--- The view of the new seat of a split, with the first actor.
+-- The view of the new seat after a split: the first actor only.
 abbrev pub first_actor : View → View
 first_actor v = with_actors v (first_of v.actors)
 
--- The view after a join, with its own actors followed by those of the other view.
+-- The view after a join: the actors of `v` followed by those of `w`.
 abbrev pub all_actors : View → View → View
 all_actors v w = with_actors v (v.actors ++ w.actors)
 

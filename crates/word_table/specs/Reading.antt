@@ -1,4 +1,4 @@
--- Images and the kernel's words, as they are read word by word.
+-- Images, and the kernel's words, read one word at a time.
 use Rattle.std.specs.Prelude.{◌≡◌, ◌+◌, ◌<◌, ◌≤◌, ℕ, suc, ℤ, pos, List, [], ◌∷◌, length, slice_index_or}
 use Rattle.bank_words.specs.Numbers.{decode}
 use Rattle.fail_stop.specs.Flights.{Flight}

@@ -1,4 +1,4 @@
--- The rule of the table, on words and views.
+-- The rule of the table, which relates its words and views.
 use Rattle.std.specs.Prelude.{◌≡◌, ◌≢◌, ◌⊎◌, ◌<◌, ℕ, zero, suc, List, [], ◌∷◌, length, Option, Some, None}
 use mathlib.Core.Option.{some}
 use lib.ListN.{get_elem?}
@@ -13,12 +13,12 @@ use Rattle.word_table.specs.declared.actors.Actor.TheVariants.{Runs, Kernel}
 use Rattle.word_table.specs.declared.actors.View.{View}
 use Rattle.word_table.specs.Actors.{StandsAt, mission_flight, who}
 
--- The home of each actor of view `j` is `j`, and each of these actors is at its place.
+-- The home of each of these actors is view `j`, and each actor is where `at` says that it is.
 abbrev pub Hosts : Places → (Option ℕ → ℕ) → ℕ → List Actor → Type 0
 Hosts at home j [] = Unit {0}
 Hosts at home j (a ∷ rest) = (home (who a) ≡ j) × StandsAt at a × Hosts at home j rest
 
--- An actor is not in a list.
+-- Actor `o` is not in a list.
 abbrev pub IsNotIn : Option ℕ → List Actor → Type 0
 IsNotIn o [] = Unit {0}
 IsNotIn o (a ∷ rest) = (who a ≢ o) × IsNotIn o rest
@@ -28,24 +28,24 @@ abbrev pub AreApart : List Actor → Type 0
 AreApart [] = Unit {0}
 AreApart (a ∷ rest) = IsNotIn (who a) rest × AreApart rest
 
--- An actor is in a list.
+-- Actor `o` is in a list.
 abbrev pub IsAmong : Option ℕ → List Actor → Type 0
 IsAmong o [] = ⊥
 IsAmong o (a ∷ rest) = (who a ≡ o) ⊎ IsAmong o rest
 
--- An actor belongs to a flight: it is one of its processors, or the kernel.
+-- An actor belongs to a flight. It is one of the flight's processors, or the kernel.
 abbrev pub IsActorOf : Flight → Option ℕ → Type 0
 IsActorOf m (Some p) = p < m.procs
 IsActorOf m None = Unit {0}
 
--- View `j` exists and has the actor.
+-- View `j` exists and has actor `o`.
 pub record IsViewOf (views : List View) (o : Option ℕ) (j : ℕ) : Type 0 where
   pub view : View
   pub there : get_elem? views j ≡ some view
   pub among : IsAmong o view.actors
 
--- The rule, by the flight of a mission. The law of events holds for words and places. Each actor of the flight has
--- exactly one view, which is its home, and is at its place. Each view with an actor knows the mission.
+-- The rule for a flight and its mission. The law of events holds for words and places. Each actor of the flight is at
+-- its place and in exactly one view, its home. Each view with an actor knows the mission.
 pub record Ruled (m : Flight) (mission : MissionParts) (s : State (Unit {0}) View) : Type 0 where
   pub at : Places
   pub home : Option ℕ → ℕ
@@ -56,15 +56,15 @@ pub record Ruled (m : Flight) (mission : MissionParts) (s : State (Unit {0}) Vie
   pub apart : (j : ℕ) (v : View) → get_elem? s.views j ≡ some v → AreApart v.actors
   pub has_view : (o : Option ℕ) → IsActorOf m o → IsViewOf s.views o (home o)
 
--- The rule of a mission's table.
+-- The rule for the table of a mission.
 abbrev pub IsRuled : MissionParts → State (Unit {0}) View → Type 0
 IsRuled mission s = Ruled (mission_flight mission) mission s
 
--- The `n` processors from `p` on at their opening places, followed by the kernel.
+-- The kernel and the `n` processors from `p` on, each at its opening place. The kernel is last.
 abbrev pub opening_actors : ℕ → ℕ → List Actor
 opening_actors p zero = Kernel 0 0 ∷ []
 opening_actors p (suc n) = Runs p 0 0 ∷ opening_actors (suc p) n
 
--- The first view, which has all actors.
+-- The view of the first seat, which has all actors.
 abbrev pub first_view : MissionParts → View
 first_view mission = record { mission = Some mission; tries = 0; actors = opening_actors 0 (length mission.spec.procs) }

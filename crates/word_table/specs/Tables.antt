@@ -1,4 +1,4 @@
--- Tables and their seats.
+-- Tables, their seats, and the values of a mission at a table.
 use Rattle.std.specs.Prelude.{◌≡◌, ◌<◌, ℕ, ℤ, Bool, not, ◌&&◌, List, [], length, slice_get, slice_index, slice_index_or, Option, Some, is_none}
 use Rattle.bank_words.specs.declared.events.Event.{Event}
 use Rattle.bank_words.specs.declared.images.KernelImage.{KernelImage}
@@ -32,7 +32,7 @@ proc_of seat = seat.proc.0
 abbrev pub seat_place : Seat → Place
 seat_place seat = place_at seat.frame seat.step seat.halted
 
--- The number of loads of a seat that found nothing ready.
+-- The number of loads by a seat that found nothing ready.
 abbrev pub tries_of : Seat → ℕ
 tries_of seat = seat.inner.me.0.tries
 
@@ -44,11 +44,11 @@ kernel_frame kseat = kseat.frame
 abbrev pub kernel_steps : KSeat → ℕ
 kernel_steps kseat = kseat.step
 
--- The number of loads of the kernel's seat that found nothing ready.
+-- The number of loads by the kernel's seat that found nothing ready.
 abbrev pub kernel_tries : KSeat → ℕ
 kernel_tries kseat = kseat.inner.me.0.tries
 
--- A seat belongs to a table, for a processor of its mission.
+-- A seat belongs to a table. Its processor is one of the mission's, and its place is within the flight.
 pub record IsSeatOf (words : WordTable) (seat : Seat) : Type 0 where
   pub holds : IsFlown (mission_in words)
   pub table : seat.inner.table_id ≡ words.table.shared.table_id
@@ -62,16 +62,16 @@ pub record IsKernelSeatOf (words : WordTable) (kseat : KSeat) : Type 0 where
   pub table : kseat.inner.table_id ≡ words.table.shared.table_id
   pub mission : kseat.inner.me.0.mission ≡ Some (mission_in words)
 
--- A list has the seats of all processors of a table, in the order of their numbers.
+-- The list holds the seats of all processors of a table, in the order of their numbers.
 pub record AreSeatsOf (words : WordTable) (seats : List Seat) : Type 0 where
   pub count : length seats ≡ length (mission_in words).spec.procs
   pub each : (p : ℕ) (seat : Seat) → slice_get seats p ≡ Some seat → IsSeatOf words seat × (proc_of seat ≡ p)
 
--- Each seat is at the begin of frame 0.
+-- Each seat is at the start of frame 0.
 abbrev pub AreOpening : List Seat → Type 0
 AreOpening seats = (p : ℕ) (seat : Seat) → slice_get seats p ≡ Some seat → seat_place seat ≡ At 0 0
 
--- Processor `p` has halted by the end of frame `k`, and is not up again by then.
+-- Whether processor `p` is not up in frame `k`, or halts in frame `k`.
 abbrev pub has_halted_by : Flight → ℕ → ℕ → Bool
 has_halted_by m p k = not (m.up p k && is_none (m.halt p k))
 
@@ -87,11 +87,11 @@ actor_of seat = actor_at (proc_of seat) (seat_place seat)
 abbrev pub awaited_by : WordTable → Seat → ℕ
 awaited_by words seat = frame_awaited (flight_in words) (proc_of seat) (seat_place seat)
 
--- The next step of a seat's processor in its current frame, or none before the frame is started.
+-- The next step of a seat's processor in its frame, or none if it has not started the frame or has halted.
 abbrev pub next_step : WordTable → Seat → Option Event
 next_step words seat = step_at (flight_in words) (proc_of seat) (seat_place seat)
 
--- The place of a seat's processor after its frame: at the next frame, or halted.
+-- The place of a seat's processor after its frame. The processor is at the start of the next frame, or has halted.
 abbrev pub frame_end : WordTable → Seat → Place
 frame_end words seat = after_frame (frame_of (seat_place seat)) ((flight_in words).halt (proc_of seat) (frame_of (seat_place seat)))
 
@@ -123,7 +123,7 @@ committed_mark words p n = mark_after (mission_in words).spec (mission_in words)
 abbrev pub committed_image : WordTable → ℕ → ℕ → List ℤ
 committed_image words p n = image_after (mission_in words).spec (mission_in words).script p n
 
--- The mark at each seat's index is that of the frames that its processor has committed at its place.
+-- The mark at each seat's index is the mark that its processor has committed at its place.
 abbrev pub AreMarksOf : WordTable → List Seat → List ℕ → Type 0
 AreMarksOf words seats marks = (p : ℕ) (seat : Seat) → slice_get seats p ≡ Some seat
     → slice_index marks p ≡ committed_mark words p (frames_marked (mission_in words) (seat_place seat))

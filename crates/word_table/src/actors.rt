@@ -17,12 +17,12 @@ pub enum Actor {
 pub struct View {
     pub mission: Option<Mission>,
     pub tries: u64,
-    /// A clause reads this array as a list of any length.
+    /// A clause reads this array as a list, which may have any length.
     pub actors: [Actor; 0],
 }
 
-/// The rule of the table. The law of events holds for words and places, and each actor has one view and is at its
-/// place.
+/// The rule of the table. The law of events holds for words and places, and each actor is at its place and in exactly
+/// one view.
 pub struct WordRule;
 
 impl TableRule<(), View, Mission> for WordRule {
@@ -51,7 +51,7 @@ impl Play<(), View> for Looks {
     ghost then = { looks };
 }
 
-/// A load that starts a frame if its word is the release for which a processor waits, and the release shows the frame.
+/// A load that starts a frame if it reads the release for which a processor waits and finds the frame released.
 pub struct Starts;
 
 impl Play<(), View> for Starts {
@@ -69,7 +69,7 @@ impl Play<(), View> for Stores {
     ghost then = { stores };
 }
 
-/// A load that takes the place of a store if the word has the value to be stored already.
+/// A load in place of a store. It is a step if it finds the value that the store would write.
 pub struct Confirms;
 
 impl Play<(), View> for Confirms {
@@ -96,8 +96,8 @@ impl Play<(), View> for Halts {
     ghost then = { halts };
 }
 
-/// A load that notes a processor if its word is the end word for which the kernel waits, and the end word allows the
-/// note.
+/// A load that notes a processor if it reads the end word for which the kernel waits and finds that the note is
+/// allowed.
 pub struct Notes;
 
 impl Play<(), View> for Notes {

@@ -1,4 +1,4 @@
-//! Closing a table.
+//! The closing of a table, and the words that it leaves.
 
 ghost use Rattle.std.specs.Prelude.{◌≡◌, ◌+◌, ◌≤◌, ◌<◌, ◌∷◌, [], length, map, slice_index, slice_index_or, ℕ};
 ghost use Rattle.std.specs.Mem.Slots.{IsFull, slots_items, slots_len};
@@ -17,8 +17,8 @@ use fail_stop::words::{bank_index, mark_index};
 use scram_types::{Image, ProcId};
 use std::alloc::Global;
 
-/// The marks of the processors as they were last stored, and the images that the marks name. The entries past the last
-/// processor are zero.
+/// The last stored marks of the processors, and the images that the marks name. The entries past the last processor are
+/// zero.
 #[derive(Clone, Copy, Debug)]
 pub struct LastWords {
     pub images: [Image; 8],
@@ -53,7 +53,7 @@ impl WordTable {
         last
     }
 
-    // Returns one seat with all actors.
+    // Joins all seats, and returns the one seat that has all actors.
     fn gather(&self, kseat: KSeat, seats: Vec<Seat>) -> atomic_table::Seat<(), View>
         requires kernel { IsKernelSeatOf self.now kseat }
         requires seats { AreSeatsOf self.now seats.items }
@@ -79,7 +79,7 @@ impl WordTable {
     }
 }
 
-// Returns the marks in the words, and the images that the marks name.
+// Returns the marks that the words of a closed table hold, and the images that the marks name.
 fn last_words(closed: &Closed<(), Global>, procs: usize, width: usize) -> LastWords
     requires full { IsFull closed.now.words }
     requires places { slots_len closed.now.words ≡ word_index_count }

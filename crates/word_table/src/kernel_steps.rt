@@ -12,7 +12,7 @@ use fail_stop::notes::may_note;
 use fail_stop::words::{bank_index, end_index, kernel_index, mark_index};
 use scram_types::{Image, ProcId};
 
-/// A processor's commitment by the end of a frame: whether the processor has halted, and its mark.
+/// The mark that a processor has committed by the end of a frame, and whether the processor has halted.
 #[derive(Clone, Copy, Debug)]
 pub struct Marked {
     pub halted: bool,
@@ -20,9 +20,10 @@ pub struct Marked {
 }
 
 impl WordTable {
-    /// Tries to note that a processor is done with the kernel's frame or has halted. It returns what the processor has
-    /// committed by the end of that frame, and the image becomes the one that the mark names. It returns `None` only if
-    /// the end word that this call loads does not allow the note, and then the image is unchanged. It does not block.
+    /// Tries to note that processor `p` is done with the kernel's frame or has halted. It returns what the processor
+    /// has committed by the end of that frame, and sets `image` to the image that the mark names. It returns `None`
+    /// only if the end word that this call loads does not allow the note, and then `image` is unchanged. It does not
+    /// block.
     pub fn gone(&self, kseat: &mut KSeat, p: ProcId, image: &mut Image) -> Option<Marked>
         requires seat { IsKernelSeatOf self.now kseat.old }
         requires frame { kernel_frame kseat.old < (mission_in self.now).script.frames }
@@ -53,7 +54,7 @@ impl WordTable {
         })
     }
 
-    /// Returns whether an end word allows a processor to be noted in a frame.
+    /// Returns whether the kernel may note processor `p` in a frame if the processor's end word is `end`.
     pub(crate) fn may_note(&self, p: ProcId, frame: u32, end: u64) -> bool
         requires { p.0 < 8 }
         ensures { result ≡ may_note (flight_in self.now) p.0 frame end }
@@ -74,7 +75,7 @@ impl WordTable {
         ensures tries { kernel_tries kseat.new ≡ kernel_tries kseat.old }
     {
         let at = kernel_index(i as usize);
-        // A load makes the step if the word has the value already, as in `store`.
+        // If the word has that value already, a load makes the step, as in `store`.
         if self.table.shared.load::<Confirms>(&mut kseat.inner, at) != word {
             self.table
                 .shared

@@ -1,4 +1,4 @@
-//! Loads that are no events, and the images and words that are read with them.
+//! Loads that are no events, and the images and words that they read.
 
 ghost use Rattle.std.specs.Prelude.{◌≡◌, ◌+◌, ◌≤◌, ◌<◌, ℕ, [], Some, length, slice_index};
 ghost use Rattle.frame_model.specs.Storage.{image_bank_after};
@@ -29,8 +29,8 @@ impl WordTable {
         self.table.shared.load::<Reads>(seat, i)
     }
 
-    /// Fills an image with the words from word `from` on. The words are stored from place `at` on, and the words past
-    /// the last one become zero.
+    /// Fills an image with the words from index `from` on. The words are stored from place `at` on, and the entries
+    /// past the last word become zero.
     pub(crate) fn read_image(
         &self,
         seat: &mut Seat<(), View>,
@@ -55,7 +55,7 @@ impl WordTable {
         clear_from(image, width);
     }
 
-    /// Returns the bank of a processor that a reader in a frame reads.
+    /// Returns the bank of processor `q` that holds its image as of the start of `frame`.
     pub(crate) fn bank_picked(&self, seat: &mut Seat<(), View>, frame: u32, q: ProcId) -> usize
         requires table { seat.old.table_id ≡ self.now.table.shared.table_id }
         requires holds { IsFlown (mission_in self.now) }
@@ -91,7 +91,7 @@ impl WordTable {
     }
 }
 
-// Makes the numbers of an image from number `from` on zero. A loop of its own compiles to one call of `memset`.
+// Sets the numbers of an image from index `from` on to zero. The separate loop compiles to one call of `memset`.
 fn clear_from(image: &mut Image, from: usize)
     ensures { AreCleared from 64 image.old image.new }
 {

@@ -1,4 +1,4 @@
-//! Opening a table.
+//! The opening of a table.
 
 ghost use Rattle.std.specs.Prelude.{◌≡◌, ◌∷◌, [], IfOk, OnOk, length};
 ghost use Rattle.scram_types.specs.Eights.{eight};
@@ -26,8 +26,8 @@ use scram_types::{NoMemory, ProcId, Script};
 use std::alloc::Global;
 
 impl WordTable {
-    /// Returns the table of a mission before its first frame, the kernel's seat, and the seats of the processors in
-    /// order. Each actor is at its opening place. The only error is out of memory.
+    /// Creates the table of a mission before its first frame. Returns the table, the kernel's seat, and the seats of
+    /// the processors in order. Each actor is at its opening place. The only error is out of memory.
     pub fn open(alloc: Global, mission: &Mission) -> Result<(WordTable, KSeat, Vec<Seat>), NoMemory>
         ensures mission { IfOk result (λ t. mission_in t.0 ≡ mission.now) }
         ensures kernel { IfOk result (λ t. IsKernelSeatOf t.0 t.1) }
@@ -46,7 +46,7 @@ impl WordTable {
         Ok((table, kseat, seats))
     }
 
-    // Returns the table and the first seat, which has all actors.
+    // Creates the table and its first seat, which has all actors.
     fn lay(
         alloc: Global,
         mission: &Mission,

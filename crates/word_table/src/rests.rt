@@ -1,11 +1,10 @@
-//! Waiting until there may be something to do. A wait spins, and then parks. Nothing is promised, and a wait may end
-//! without a cause.
+//! Waits for a word that another actor stores. A wait spins, and then parks. It may end without a cause, and nothing is
+//! promised after it.
 //!
-//! A wake is a system call, so it is made only if a thread sleeps. A sleeper counts itself before it loads its word for
-//! the last time, and the writer of the word loads the count after the store. All these steps are sequentially
-//! consistent. So either the last load comes after the store and finds it, or the count was raised before the store. In
-//! the second case the writer finds it raised and wakes the sleeper. A sleeper parks only while the word has the value
-//! that it loaded.
+//! A wake is a system call, so a writer wakes only if a thread sleeps. A sleeper raises the count before it loads its
+//! word for the last time, and the writer of the word loads the count after the store. All these steps are sequentially
+//! consistent. So the sleeper's last load finds the stored word, or the writer finds the count raised and wakes the
+//! sleeper. A sleeper parks only while the word has the value that the sleeper loaded.
 
 ghost use Rattle.std.specs.Prelude.{◌≡◌, ◌<◌};
 ghost use Rattle.fail_stop.specs.Listed.{word_index_count};
@@ -18,7 +17,8 @@ use scram_types::ProcId;
 use std::sync::Wait;
 use std::sync::atomic::{AtomicU64, Ordering};
 
-/// The number of threads that sleep on words of a table, or are about to: the kernel's, and those of processors.
+/// The numbers of threads that sleep on the words of a table, or are about to. The kernel and the processors are
+/// counted separately.
 #[derive(Drop)]
 pub(crate) struct Sleepers {
     kernel: AtomicU64,
@@ -26,7 +26,7 @@ pub(crate) struct Sleepers {
 }
 
 impl Sleepers {
-    /// Returns the counts of a table on which no thread sleeps.
+    /// Returns the counts for a table on which no thread sleeps.
     pub(crate) fn new() -> Sleepers {
         Sleepers {
             kernel: AtomicU64::new(0),
@@ -36,7 +36,7 @@ impl Sleepers {
 }
 
 impl WordTable {
-    /// Wakes the kernel if it sleeps on the word at place `at`, which has been stored.
+    /// Wakes the kernel if it sleeps on the word at place `at`. The caller has stored the word.
     pub(crate) fn wake_kernel(&self, at: usize)
         requires { at < word_index_count }
     {
@@ -45,15 +45,15 @@ impl WordTable {
         }
     }
 
-    /// Wakes the processors that sleep on the release, which has been stored.
+    /// Wakes the processors that sleep on the release. The caller has stored the release.
     pub(crate) fn wake_processors(&self) {
         if self.sleepers.processors.load(Ordering::SeqCst) != 0 {
             self.table.shared.wake_all(0);
         }
     }
 
-    /// Spins and then parks while the release does not show the frame for which the seat waits. It may return without a
-    /// cause.
+    /// Spins and then parks until the release shows the frame for which the seat waits. It may return earlier, without
+    /// a cause.
     pub fn rest<R: Wait>(&self, rt: &R, seat: &Seat)
         requires { IsSeatOf self.now seat.now }
     {
@@ -73,7 +73,7 @@ impl WordTable {
         self.sleepers.processors.fetch_sub(1, Ordering::SeqCst);
     }
 
-    /// Spins and then parks while the next processor of the kernel may not be noted. It may return without a cause.
+    /// Spins and then parks until the kernel may note its next processor. It may return earlier, without a cause.
     pub fn rest_kernel<R: Wait>(&self, rt: &R, kseat: &KSeat) {
         if kseat.step >= self.procs {
             return;

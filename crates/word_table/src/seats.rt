@@ -1,4 +1,4 @@
-//! Seats. By a seat one actor steps on the words, and the seat knows the actor's place.
+//! The seats of actors. A seat lets one actor make steps on the words, and keeps the actor's place.
 
 ghost use Rattle.std.specs.Prelude.{◌≡◌, [], ◌∷◌, true};
 ghost use Rattle.word_table.specs.Actors.{actor_at, place_at};
@@ -36,14 +36,14 @@ impl Seat {
     ghost use Rattle.word_table.specs.Actors.{steps_of};
     ghost use Rattle.word_table.specs.Tables.{seat_place, proc_of};
 
-    /// Returns the seat's processor.
+    /// Returns the number of the seat's processor.
     pub fn proc(&self) -> ProcId
         ensures { result.0 ≡ proc_of self.now }
     {
         self.proc
     }
 
-    /// Returns the current frame of the processor, or the frame in which it halted if it has halted.
+    /// Returns the processor's current frame, or the frame in which it halted.
     pub fn frame(&self) -> u32
         ensures { result ≡ frame_of (seat_place self.now) }
     {
@@ -68,7 +68,7 @@ impl Seat {
 impl KSeat {
     ghost use Rattle.word_table.specs.Tables.{kernel_frame, kernel_steps};
 
-    /// Returns the current frame of the kernel.
+    /// Returns the kernel's current frame.
     pub fn frame(&self) -> u32
         ensures { result ≡ kernel_frame self.now }
     {

@@ -18,7 +18,7 @@ use scram_types::{Image, ProcId};
 
 impl WordTable {
     /// Tries to start the frame for which the seat waits, and returns the kernel image of that frame. A processor that
-    /// has halted starts the frame of its restart. It returns `None` only if the release that this call loads does not
+    /// has halted starts the frame of its restart. The call returns `None` only if the release that it loads does not
     /// show the frame. It does not block.
     pub fn started(&self, seat: &mut Seat) -> Option<KernelImage>
         requires seat { IsSeatOf self.now seat.old }
@@ -41,7 +41,7 @@ impl WordTable {
         Some(kernel_decode(&self.read_kernel(&mut seat.inner)))
     }
 
-    /// Returns the frame for whose release a seat waits.
+    /// Returns the frame for whose release the seat waits.
     pub(crate) fn frame_awaited(&self, seat: &Seat) -> u32
         requires { proc_of seat.now < 8 }
         ensures { result ≡ awaited_by self.now seat.now }
@@ -55,7 +55,7 @@ impl WordTable {
         }
     }
 
-    /// Fills `image` with the image of a processor as of the begin of the seat's frame. It does not block.
+    /// Fills `image` with the image of processor `q` as of the start of the seat's frame. It does not block.
     pub fn look(&self, seat: &mut Seat, q: ProcId, image: &mut Image)
         requires seat { IsSeatOf self.now seat.old }
         requires q { q.0 < length (mission_in self.now).spec.procs }
@@ -73,8 +73,10 @@ impl WordTable {
         seat.step += 1;
     }
 
-    /// Stores word `i` of the draft of the seat's frame in the bank that the mark does not name. It does not block.
-    // If the word has that value already, a load makes the step. A store would take its line from the readers' caches.
+    /// Stores `word` as word `i` of the frame's draft, in the bank that the processor's mark does not name. It does not
+    /// block.
+    // If the word has that value already, a load makes the step, since a store would take its line from the readers'
+    // caches.
     pub fn store(&self, seat: &mut Seat, i: u32, word: u64)
         requires seat { IsSeatOf self.now seat.old }
         requires next { next_step self.now seat.old ≡ Some (Store (proc_id (proc_of seat.old)) i) }
@@ -92,7 +94,7 @@ impl WordTable {
         seat.step += 1;
     }
 
-    /// Commits the frame of the seat by storing the mark, which names the frame and the bank of its draft. It does not
+    /// Commits the seat's frame by storing the mark, which names the frame and the bank of the draft. It does not
     /// block.
     pub fn flip(&self, seat: &mut Seat)
         requires seat { IsSeatOf self.now seat.old }
@@ -109,7 +111,7 @@ impl WordTable {
         seat.step += 1;
     }
 
-    /// Ends the frame of the seat, and wakes the kernel if it sleeps on the end word. It does not block.
+    /// Ends the seat's frame, and wakes the kernel if it sleeps on the end word. It does not block.
     pub fn done(&self, seat: &mut Seat)
         requires seat { IsSeatOf self.now seat.old }
         requires next { next_step self.now seat.old ≡ Some (Done (proc_id (proc_of seat.old))) }

@@ -1,4 +1,4 @@
-//! The table of words.
+//! The table of a mission's words.
 
 ghost use Rattle.word_table.specs.Keeping.{TableKeeps};
 
@@ -8,8 +8,8 @@ use atomic_table::Table;
 use coverage_check::Mission;
 use std::alloc::Global;
 
-/// The words of a mission, with the numbers of the mission that its steps use. It has no lifetime, so threads can share
-/// it.
+/// The words of a mission, with the mission's numbers that the steps use. The type has no lifetime, so threads can
+/// share it.
 #[derive(Drop)]
 pub struct WordTable {
     pub(crate) table: Table<(), View, Mission, WordRule, Global>,

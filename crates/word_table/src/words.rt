@@ -12,8 +12,7 @@ use scram_types::{Image, NoMemory, ProcId};
 use std::alloc::Global;
 use std::sync::Wait;
 
-/// The shared atomic words of a mission, with the mission. Threads share the table of words in it. The methods forward
-/// to the table.
+/// The shared atomic words of a mission, with the mission. Threads share the table in it, to which the methods forward.
 #[derive(Drop)]
 pub struct Words<'a> {
     pub mission: &'a Mission,
@@ -32,8 +31,8 @@ impl<'a> Words<'a> {
     ghost use Rattle.word_table.specs.Tables.{AreImagesOf, AreMarksOf, AreOpening, AreSeatsOf, IsAwaitedImage, IsKernelSeatOf, IsSeatOf, committed_image, committed_mark, drafted_words, flight_in, has_halted_by, kernel_frame, kernel_steps, kernel_tries, kernel_words_of, mission_in, next_step, proc_of, seat_place, started_place, tries_of};
     ghost use Rattle.word_table.specs.declared.seats.Seat as seat_types;
 
-    /// Returns the words of a mission before its first frame, the kernel's seat, and the seats of the processors in
-    /// order. Each actor is at its opening place. The only error is out of memory.
+    /// Creates the words of a mission before its first frame. Returns them with the kernel's seat and the seats of the
+    /// processors in order. Each actor is at its opening place. The only error is out of memory.
     pub fn open(
         alloc: Global,
         mission: &'a Mission,
@@ -56,7 +55,7 @@ impl<'a> Words<'a> {
     }
 
     /// Tries to start the frame for which the seat waits, and returns the kernel image of that frame. A processor that
-    /// has halted starts the frame of its restart. It returns `None` only if the release that this call loads does not
+    /// has halted starts the frame of its restart. The call returns `None` only if the release that it loads does not
     /// show the frame. It does not block.
     pub fn started(&self, seat: &mut Seat) -> Option<KernelImage>
         requires seat { IsSeatOf self.now.table seat.old }
@@ -70,7 +69,7 @@ impl<'a> Words<'a> {
         self.table.started(seat)
     }
 
-    /// Fills `image` with the image of a processor as of the begin of the seat's frame. It does not block.
+    /// Fills `image` with the image of processor `q` as of the start of the seat's frame. It does not block.
     pub fn look(&self, seat: &mut Seat, q: ProcId, image: &mut Image)
         requires seat { IsSeatOf self.now.table seat.old }
         requires q { q.0 < length (mission_in self.now.table).spec.procs }
@@ -84,7 +83,8 @@ impl<'a> Words<'a> {
         self.table.look(seat, q, image);
     }
 
-    /// Stores word `i` of the draft of the seat's frame in the bank that the mark does not name. It does not block.
+    /// Stores `word` as word `i` of the frame's draft, in the bank that the processor's mark does not name. It does not
+    /// block.
     pub fn store(&self, seat: &mut Seat, i: u32, word: u64)
         requires seat { IsSeatOf self.now.table seat.old }
         requires next { next_step self.now.table seat.old ≡ Some (Store (proc_id (proc_of seat.old)) i) }
@@ -97,7 +97,7 @@ impl<'a> Words<'a> {
         self.table.store(seat, i, word);
     }
 
-    /// Commits the frame of the seat by storing the mark, which names the frame and the bank of its draft. It does not
+    /// Commits the seat's frame by storing the mark, which names the frame and the bank of the draft. It does not
     /// block.
     pub fn flip(&self, seat: &mut Seat)
         requires seat { IsSeatOf self.now.table seat.old }
@@ -110,7 +110,7 @@ impl<'a> Words<'a> {
         self.table.flip(seat);
     }
 
-    /// Ends the frame of the seat, and wakes the kernel if it sleeps on the end word. It does not block.
+    /// Ends the seat's frame, and wakes the kernel if it sleeps on the end word. It does not block.
     pub fn done(&self, seat: &mut Seat)
         requires seat { IsSeatOf self.now.table seat.old }
         requires next { next_step self.now.table seat.old ≡ Some (Done (proc_id (proc_of seat.old))) }
@@ -134,9 +134,10 @@ impl<'a> Words<'a> {
         self.table.halt(seat);
     }
 
-    /// Tries to note that a processor is done with the kernel's frame or has halted. It returns what the processor has
-    /// committed by the end of that frame, and the image becomes the one that the mark names. It returns `None` only if
-    /// the end word that this call loads does not allow the note, and then the image is unchanged. It does not block.
+    /// Tries to note that processor `p` is done with the kernel's frame or has halted. It returns what the processor
+    /// has committed by the end of that frame, and sets `image` to the image that the mark names. It returns `None`
+    /// only if the end word that this call loads does not allow the note, and then `image` is unchanged. It does not
+    /// block.
     pub fn gone(&self, kseat: &mut KSeat, p: ProcId, image: &mut Image) -> Option<Marked>
         requires seat { IsKernelSeatOf self.now.table kseat.old }
         requires frame { kernel_frame kseat.old < (mission_in self.now.table).script.frames }
@@ -181,15 +182,15 @@ impl<'a> Words<'a> {
         self.table.release(kseat);
     }
 
-    /// Spins and then parks while the release does not show the frame for which the seat waits. It may return without a
-    /// cause.
+    /// Spins and then parks until the release shows the frame for which the seat waits. It may return earlier, without
+    /// a cause.
     pub fn rest<R: Wait>(&self, rt: &R, seat: &Seat)
         requires { IsSeatOf self.now.table seat.now }
     {
         self.table.rest(rt, seat);
     }
 
-    /// Spins and then parks while the next processor of the kernel may not be noted. It may return without a cause.
+    /// Spins and then parks until the kernel may note its next processor. It may return earlier, without a cause.
     pub fn rest_kernel<R: Wait>(&self, rt: &R, kseat: &KSeat) {
         self.table.rest_kernel(rt, kseat);
     }
