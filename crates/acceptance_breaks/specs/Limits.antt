@@ -1,4 +1,4 @@
--- The intervals of invariants and preconditions, and those that they would need.
+-- The intervals that invariants and preconditions give, and the intervals that they need.
 use Rattle.std.specs.Prelude.{ℕ}
 use Rattle.scram_types.specs.Lookups.{place_of}
 use Rattle.scram_types.specs.Specification.{Parts}
@@ -8,7 +8,7 @@ use Rattle.condition_breaks.specs.declared.breaks.Unheld.{Unheld}
 use Rattle.condition_breaks.specs.Ranges.{interval, range_entering}
 use Rattle.acceptance_breaks.specs.declared.limits.Limits.{Limits}
 
--- An invariant's variable, the interval that it gives, and the smallest one that suffices.
+-- The variable of an invariant, the interval that the invariant gives, and the smallest interval that suffices.
 abbrev pub invariant_limits : Unheld → Invariant → Limits
 invariant_limits found inv = record {
   item = found.invariant;
@@ -18,7 +18,8 @@ invariant_limits found inv = record {
   needed = found.needed;
 }
 
--- A precondition's variable, the interval that it gives, and the range that it must contain.
+-- The variable of precondition `k`, the interval that the precondition gives, and the range that the interval must
+-- contain.
 abbrev pub precondition_limits : Parts → ℕ → Precondition → Limits
 precondition_limits spec k pre = record {
   item = k;

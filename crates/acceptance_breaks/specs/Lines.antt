@@ -42,56 +42,56 @@ abbrev pub need_line : Parts → ConfId → AppId → AppId → List ℕ
 need_line spec c a b =
     codes "  in " ++ conf_name spec c.0 ++ codes " " ++ app_name spec a.0 ++ codes " is on and " ++ app_name spec b.0 ++ codes " is off\n"
 
--- The line of the number of environments in scope and the maximum number of them.
+-- The line with the number of environments in scope and the maximum number of them.
 abbrev pub states_line : Parts → List ℕ
 states_line spec = codes "  states " ++ decimal (states spec) ++ codes ", at most " ++ decimal MAX_ENVIRONMENTS ++ codes "\n"
 
--- The line for a configuration that has no application on.
+-- The line for a configuration in which no application is on.
 abbrev pub empty_line : Parts → ConfId → List ℕ
 empty_line spec c = codes "  " ++ conf_name spec c.0 ++ codes " has nothing on\n"
 
--- The line for a configuration that is the same as an earlier one.
+-- The line for a configuration that equals an earlier one.
 abbrev pub twin_line : Parts → ConfId → ConfId → List ℕ
 twin_line spec c d = codes "  " ++ conf_name spec c.0 ++ codes " equals " ++ conf_name spec d.0 ++ codes "\n"
 
--- The line of the load that a configuration puts on a processor, and the processor's capacity.
+-- The line with the load that a configuration puts on a processor, and the processor's capacity.
 abbrev pub load_line : Parts → ConfId → ProcId → List ℕ
 load_line spec c p =
     codes "  in " ++ conf_name spec c.0 ++ codes " " ++ proc_name spec p.0 ++ codes " carries " ++ decimal (load_below spec c p.0 (length spec.apps))
     ++ codes " of " ++ decimal (capacity_of spec p.0) ++ codes "\n"
 
--- The text of rule `k` and its target.
+-- The number of rule `k` and its target, in words.
 abbrev pub chooses_text : Parts → ℕ → ConfId → List ℕ
 chooses_text spec k to = codes " rule " ++ decimal k ++ codes " chooses " ++ conf_name spec to.0
 
--- The text of rule `k` and its target, or that no rule fits.
+-- The number of rule `k` and its target, in words. If there is no such rule, the text says that no rule fits.
 abbrev pub fitting_text : Parts → ℕ → List ℕ
 fitting_text spec k =
     option_map_or (λ (rule : Choice). chooses_text spec k rule.to) (slice_get spec.rules k) (codes " no rule fits")
 
--- The text of the first rule that fits a configuration in an environment, and its target.
+-- The number and the target of the first rule that fits a configuration in an environment, in words.
 abbrev pub chosen_text : Parts → ConfId → Env → List ℕ
 chosen_text spec c v = fitting_text spec (first_rule spec.rules c v)
 
--- The text of a configuration, an environment and the choice there.
+-- A configuration, an environment and the choice there, in words.
 abbrev pub situation_text : Parts → ConfId → Env → List ℕ
 situation_text spec c v = codes "from " ++ conf_name spec c.0 ++ codes " in " ++ env_text spec v ++ chosen_text spec c v
 
--- The text of a configuration, an environment and the choice there, as the beginning of a line.
+-- The start of a line, with a configuration, an environment and the choice there.
 abbrev pub situation_piece : Parts → ConfId → Env → List ℕ
 situation_piece spec c v = codes "  " ++ situation_text spec c v
 
--- The text of the choice from the target.
+-- The end of a line, with the choice from the chosen target.
 abbrev pub unsettled_piece : Parts → ConfId → Env → List ℕ
 unsettled_piece spec c v = codes ", from which" ++ chosen_text spec (choose spec c v) v ++ codes "\n"
 
--- The end of the line: the way in which a requirement is not met.
+-- The end of a line, with the way in which the choice fails a requirement.
 abbrev pub unmet_piece : Parts → Requirement → ConfId → Env → List ℕ
 unmet_piece spec requirement.HasRule c v = codes "\n"
 unmet_piece spec requirement.CanRun c v = needs_piece spec v (first_rule spec.rules c v)
 unmet_piece spec requirement.Stays c v = unsettled_piece spec c v
 
--- The line for a requirement that is not met.
+-- The line for a choice that fails a requirement.
 abbrev pub unmet_line : Parts → Requirement → ConfId → Env → List ℕ
 unmet_line spec asked c v = situation_piece spec c v ++ unmet_piece spec asked c v
 
@@ -99,128 +99,129 @@ unmet_line spec asked c v = situation_piece spec c v ++ unmet_piece spec asked c
 abbrev pub start_line : Parts → List ℕ
 start_line spec = situation_piece spec spec.start (opening_env spec) ++ codes "\n"
 
--- The beginning of a line.
+-- The two spaces at the start of a line.
 abbrev pub indent : List ℕ
 indent = codes "  "
 
--- The line of the minimum bound that suffices, and the bound that is given.
+-- The line for a missing or insufficient bound, with the minimum bound that suffices and the bound that is given.
 abbrev pub lacking_line : Parts → ConfId → ConfId → List ℕ
 lacking_line spec from to = indent ++ bound_line spec from to
 
--- The line of the window and the minimum window that suffices.
+-- The line with the window and the minimum window that suffices.
 abbrev pub window_line : Parts → List ℕ
 window_line spec = codes "  window " ++ decimal spec.window ++ codes ", at least " ++ decimal (greatest_bound spec.bounds + 1) ++ codes "\n"
 
--- The name of a variable of an application, or empty if its kind does not use the variable.
+-- The name of variable `i` of an application, or the empty text if the application's kind does not use the variable.
 abbrev pub variable_text : Parts → AppId → ℕ → List ℕ
 variable_text spec a i = option_map_or (λ (name : List ℕ). name) (name_in (variable_names (kind_of_app spec a.0)) i) []
 
--- The name of the mode of an application in a place, or `off`.
+-- The name of the mode of an application at a place, or `off` if there is no place.
 abbrev pub place_mode_text : Parts → AppId → Option Place → List ℕ
 place_mode_text spec a None = codes "off"
 place_mode_text spec a (Some place) = mode_text (kind_of_app spec a.0) place.mode.0
 
--- The text of the number of an invariant or a precondition, and its variable.
+-- The number, the application and the variable of an invariant or a precondition.
 abbrev pub subject_text : Parts → Limits → List ℕ
 subject_text spec limits =
     codes " " ++ decimal limits.item ++ codes " " ++ app_name spec limits.app.0 ++ codes " " ++ variable_text spec limits.app limits.variable
 
--- The text of the interval that is given, and the smallest one that suffices.
+-- The interval that is given and the interval that is needed, in words.
 abbrev pub intervals_text : Limits → List ℕ
 intervals_text limits = codes " " ++ extremes_text limits.given ++ codes " needs " ++ extremes_text limits.needed ++ codes ": "
 
--- The text of the number, the variable and the intervals of an invariant or a precondition.
+-- The number, the application, the variable and the intervals of an invariant or a precondition.
 abbrev pub limits_text : Parts → Limits → List ℕ
 limits_text spec limits = subject_text spec limits ++ intervals_text limits
 
--- The text of the source of a way, and of its target if it is another configuration.
+-- The name of the source of a way, and the name of the target if it is another configuration.
 abbrev pub way_text : Parts → Way → List ℕ
 way_text spec taken = conf_name spec taken.from.0 ++ (if taken.from.0 == taken.to.0 then [] else codes " > " ++ conf_name spec taken.to.0)
 
--- The line of an invariant: the interval that it would need, and the first way whose range its interval does not
+-- The line of an invariant, with the interval that it needs and the first way whose range its interval does not
 -- contain.
 abbrev pub unheld_line_of : Parts → Unheld → Invariant → List ℕ
 unheld_line_of spec found inv =
     codes "  invariant" ++ limits_text spec (invariant_limits found inv) ++ way_text spec found.way ++ codes " "
     ++ place_mode_text spec inv.app (place_of spec found.way.to inv.app.0) ++ codes " " ++ extremes_text (interval (range_on spec inv found.way)) ++ codes "\n"
 
--- The line of the invariant of this number, or empty if there is no such invariant.
+-- The line of the invariant that `found` names, or the empty text if there is no such invariant.
 abbrev pub unheld_line : Parts → Unheld → List ℕ
 unheld_line spec found = option_map_or (unheld_line_of spec found) (slice_get spec.invariants found.invariant) []
 
--- The line of a precondition: the interval that it would need, and its configuration.
+-- The line of precondition `k`, with the interval that it needs and its configuration.
 abbrev pub missed_line_of : Parts → ℕ → Precondition → List ℕ
 missed_line_of spec k pre =
     codes "  precondition" ++ limits_text spec (precondition_limits spec k pre) ++ conf_name spec pre.conf.0 ++ codes " "
     ++ place_mode_text spec pre.app (place_of spec pre.conf pre.app.0) ++ codes "\n"
 
--- The line of the precondition of this number, or empty if there is no such precondition.
+-- The line of precondition `k`, or the empty text if there is no such precondition.
 abbrev pub missed_line : Parts → ℕ → List ℕ
 missed_line spec k = option_map_or (missed_line_of spec k) (slice_get spec.preconditions k) []
 
--- The beginning of a line: a demand and the choice.
+-- The start of a line, with demand `k`, a configuration, an environment and the choice there.
 abbrev pub demand_piece : Parts → ConfId → ℕ → Env → List ℕ
 demand_piece spec c k v = codes "  demand " ++ demand_name spec k ++ codes " " ++ situation_text spec c v
 
--- The name of configuration `c`, preceded by a comma unless it is the first of the set. It is empty if the
--- configuration is not in the set.
+-- The name of configuration `c`, preceded by a comma and a space unless `c` is the first of the set. The text is empty
+-- if `c` is not in the set.
 abbrev pub conf_in_text : Parts → ℕ → ℕ → List ℕ
 conf_in_text spec set c = if has_bit set c then (if any_below (has_bit set) c then codes ", " else []) ++ conf_name spec c else []
 
--- The names of the configurations of a set.
+-- The names of the configurations of a set, separated by a comma and a space.
 abbrev pub members_text : Parts → ℕ → List ℕ
 members_text spec set = texts_below (conf_in_text spec set) (length spec.confs)
 
--- An application that must be on is off, or is in a mode that is not allowed.
+-- Whether application `a` must be on but is off or in a mode that the demand does not allow.
 abbrev pub is_on_missed : Parts → Demand → ConfId → ℕ → Bool
 is_on_missed spec demand c a = not (is_placed (modes_on demand a) (place_of spec c a))
 
--- An application that must be off is on.
+-- Whether application `a` must be off but is on.
 abbrev pub is_off_missed : Parts → Demand → ConfId → ℕ → Bool
 is_off_missed spec demand c a = has_bit demand.off a && is_on spec c a
 
--- The first application that must be on but is off or in a mode that is not allowed.
+-- The first application that must be on but is off or in a mode that the demand does not allow, or `None` if there is
+-- none.
 abbrev pub first_on_missed : Parts → Demand → ConfId → Option ℕ
 first_on_missed spec demand c = least_from (is_on_missed spec demand c) 0 (length spec.apps)
 
--- The first application that must be off but is on.
+-- The first application that must be off but is on, or `None` if there is none.
 abbrev pub first_off_missed : Parts → Demand → ConfId → Option ℕ
 first_off_missed spec demand c = least_from (is_off_missed spec demand c) 0 (length spec.apps)
 
--- The text of an application and its place: off, or in a mode.
+-- The name of application `a`, and in words that it is off or in a mode.
 abbrev pub whereabouts_text : Parts → ℕ → Option Place → List ℕ
 whereabouts_text spec a None = app_name spec a ++ codes " is off"
 whereabouts_text spec a (Some place) = app_name spec a ++ codes " is in " ++ mode_text (kind_of_app spec a) place.mode.0
 
--- The text of an application that must be off but is on, or empty if there is none.
+-- The text for an application that must be off but is on, or the empty text if there is none.
 abbrev pub off_missed_text : Parts → Option ℕ → List ℕ
 off_missed_text spec None = []
 off_missed_text spec (Some a) = codes ", in which " ++ app_name spec a ++ codes " is on"
 
--- The text of an application that must be on but is off or in a mode that is not allowed. If there is none, it is that
--- of an application that must be off.
+-- The text for an application that must be on but is off or in a mode that the demand does not allow. If there is none,
+-- it is the text for the first application that must be off but is on.
 abbrev pub app_missed_text : Parts → Demand → ConfId → Option ℕ → List ℕ
 app_missed_text spec demand c None = off_missed_text spec (first_off_missed spec demand c)
 app_missed_text spec demand c (Some a) = codes ", in which " ++ whereabouts_text spec a (place_of spec c a)
 
--- The text of the configurations of a demand, none of which is chosen.
+-- The text for a demand none of whose configurations is chosen, with the names of these configurations.
 abbrev pub none_of_text : Parts → Demand → List ℕ
 none_of_text spec demand = codes ", which is none of " ++ members_text spec demand.to
 
--- The way in which configuration `c` does not meet a demand.
+-- The way in which configuration `c` fails a demand, in words.
 abbrev pub missed_text : Parts → Demand → ConfId → List ℕ
 missed_text spec demand c =
     if is_empty_or_holds demand.to c then app_missed_text spec demand c (first_on_missed spec demand c) else none_of_text spec demand
 
--- The end of the line: the way in which the choice does not meet demand `k`.
+-- The end of a line, with the way in which the choice fails demand `k`.
 abbrev pub missed_piece : Parts → ConfId → ℕ → Env → List ℕ
 missed_piece spec c k v = option_map_or (λ (demand : Demand). missed_text spec demand (choose spec c v)) (slice_get spec.demands k) [] ++ codes "\n"
 
--- The line for a demand that the choice does not meet.
+-- The line for a choice that fails demand `k`.
 abbrev pub demand_line : Parts → ConfId → ℕ → Env → List ℕ
 demand_line spec c k v = demand_piece spec c k v ++ missed_piece spec c k v
 
--- The line of a place at which a condition does not hold.
+-- The line for a place at which a condition does not hold.
 abbrev pub break_line : Parts → Break → List ℕ
 break_line spec (broken.NeedOff c a b) = need_line spec c a b
 break_line spec broken.ManyStates = states_line spec

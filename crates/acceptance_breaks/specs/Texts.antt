@@ -6,19 +6,20 @@ use Rattle.acceptance_breaks.specs.declared.texts.TheConstants.{MAX_BREAK_LINES}
 use Rattle.condition_breaks.specs.Breaks.{breaks}
 use Rattle.acceptance_breaks.specs.Lines.{break_line}
 
--- The lines of the places.
+-- The lines for these places, in order.
 abbrev pub lines_text : Parts → List Break → List ℕ
 lines_text spec [] = []
 lines_text spec (found ∷ rest) = break_line spec found ++ lines_text spec rest
 
--- The line with the number of places without a line, or empty if there are none.
+-- The line with the number of places that have no line of their own, or the empty text if the number is 0.
 abbrev pub more_text : ℕ → List ℕ
 more_text count = if nat_lt MAX_BREAK_LINES count then codes "  and " ++ decimal (count - MAX_BREAK_LINES) ++ codes " more\n" else []
 
--- The lines of the first places, and the number of the others.
+-- The lines for the first places, followed by a line with the number of the others if there are any.
 abbrev pub shown_breaks_text : Parts → List Break → List ℕ
 shown_breaks_text spec found = lines_text spec (take MAX_BREAK_LINES found) ++ more_text (length found)
 
--- The text of the places at which a condition does not hold, by its number, 1 to 13. It is empty for another number.
+-- The text for the places at which the condition with a number, 1 to 13, does not hold. It is empty for any other
+-- number.
 abbrev pub breaks_text : Parts → ℕ → List ℕ
 breaks_text spec condition = shown_breaks_text spec (breaks spec condition)

@@ -1,4 +1,4 @@
-//! The lines on the choices of the table, in pieces that are made without memory.
+//! The lines about the choices of the table, in pieces that are made without allocating.
 
 ghost use Rattle.std.specs.Prelude.{◌≡◌, ◌+◌, ◌≤◌, ◌++◌, codes, length};
 ghost use Rattle.scram_types.specs.declared.limits.TheConstants.{MAX_LINE_BYTES};
@@ -13,7 +13,7 @@ use form_base::lines::add_env;
 use scram_types::{ConfId, Env, Spec};
 use trace_text::lines::Line;
 
-// Returns the beginning of a line: a configuration, an environment and the choice there.
+// Returns the start of a line, with a configuration, an environment and the choice there.
 pub(crate) fn make_situation_piece(spec: &Spec, c: ConfId, env: &Env) -> Line
     requires { IsEnv spec.now env.now }
     ensures { result ≡ situation_piece spec.now c env.now }
@@ -24,7 +24,7 @@ pub(crate) fn make_situation_piece(spec: &Spec, c: ConfId, env: &Env) -> Line
     line
 }
 
-// Appends a configuration, an environment and the choice there.
+// Appends a configuration, an environment and the choice there, in words.
 pub(crate) fn add_situation(line: &mut Line, spec: &Spec, c: ConfId, env: &Env)
     requires env { IsEnv spec.now env.now }
     requires room { length line.old + 420 ≤ MAX_LINE_BYTES }
@@ -38,7 +38,7 @@ pub(crate) fn add_situation(line: &mut Line, spec: &Spec, c: ConfId, env: &Env)
     add_chosen(line, spec, c, env);
 }
 
-// Appends the first rule that fits a configuration in an environment, and its target.
+// Appends the number and the target of the first rule that fits a configuration in an environment, in words.
 fn add_chosen(line: &mut Line, spec: &Spec, c: ConfId, env: &Env)
     requires env { IsEnv spec.now env.now }
     requires room { length line.old + 41 ≤ MAX_LINE_BYTES }
@@ -70,7 +70,7 @@ fn add_chooses(line: &mut Line, spec: &Spec, k: u32, to: ConfId)
     line.text(spec.conf_name(to).as_bytes());
 }
 
-// Returns the end of the line: the way in which a requirement is not met.
+// Returns the end of a line, with the way in which the choice fails a requirement.
 pub(crate) fn make_unmet_piece(spec: &Spec, asked: Requirement, c: ConfId, env: &Env) -> Line
     requires { IsEnv spec.now env.now }
     ensures { result ≡ unmet_piece spec.now asked c env.now }
@@ -93,7 +93,7 @@ fn make_unsettled_piece(spec: &Spec, c: ConfId, env: &Env) -> Line
     line
 }
 
-// Returns the end of a line.
+// Returns the end of a line, which is a line feed.
 pub(crate) fn make_end() -> Line
     ensures { result ≡ codes "\n" }
 {

@@ -1,4 +1,4 @@
-//! The lines of demands, in pieces that are made without memory.
+//! The lines about demands, in pieces that are made without allocating.
 
 ghost use Rattle.std.specs.Prelude.{◌≡◌, ◌+◌, ◌*◌, ◌<◌, ◌≤◌, ◌++◌, [], codes, length, if◌then◌else◌};
 ghost use Rattle.scram_types.specs.Bits.{has_bit};
@@ -18,7 +18,7 @@ use scram_types::{AppId, ConfId, Demand, Env, Mode, Modes, Place, Spec};
 use trace_text::lines::Line;
 use trace_text::row_lines::name_of_mode;
 
-// Returns the beginning of a line: a demand and the choice.
+// Returns the start of a line, with demand `k`, a configuration, an environment and the choice there.
 pub(crate) fn make_demand_piece(spec: &Spec, c: ConfId, k: u32, env: &Env) -> Line
     requires { IsEnv spec.now env.now }
     ensures { result ≡ demand_piece spec.now c k env.now }
@@ -31,7 +31,7 @@ pub(crate) fn make_demand_piece(spec: &Spec, c: ConfId, k: u32, env: &Env) -> Li
     line
 }
 
-// Returns the end of the line: the way in which the choice does not meet the demand.
+// Returns the end of a line, with the way in which the choice fails demand `k`.
 pub(crate) fn make_missed_piece(spec: &Spec, c: ConfId, k: u32, env: &Env) -> Line
     ensures { result ≡ missed_piece spec.now c k env.now }
 {
@@ -43,7 +43,7 @@ pub(crate) fn make_missed_piece(spec: &Spec, c: ConfId, k: u32, env: &Env) -> Li
     line
 }
 
-// Appends the way in which configuration `c` does not meet a demand.
+// Appends the way in which configuration `c` fails a demand, in words.
 fn add_missed(line: &mut Line, spec: &Spec, demand: &Demand, c: ConfId)
     requires { length line.old + 300 ≤ MAX_LINE_BYTES }
     ensures text { line.new ≡ line.old ++ missed_text spec.now demand.now c }
@@ -56,7 +56,7 @@ fn add_missed(line: &mut Line, spec: &Spec, demand: &Demand, c: ConfId)
     }
 }
 
-// Appends the configurations of a demand, none of which is chosen.
+// Appends the text for a demand none of whose configurations is chosen, with the names of these configurations.
 fn add_none_of(line: &mut Line, spec: &Spec, demand: &Demand)
     requires { length line.old + 240 ≤ MAX_LINE_BYTES }
     ensures text { line.new ≡ line.old ++ none_of_text spec.now demand.now }
@@ -72,7 +72,7 @@ fn is_empty_or_holds(set: u16, c: ConfId) -> bool
     set == 0 || is_in(set, c.0)
 }
 
-// Appends the names of the configurations of a set.
+// Appends the names of the configurations of a set, separated by a comma and a space.
 fn add_members(line: &mut Line, spec: &Spec, set: u16)
     requires { length line.old + 216 ≤ MAX_LINE_BYTES }
     ensures text { line.new ≡ line.old ++ members_text spec.now set }
@@ -98,7 +98,7 @@ fn add_member(line: &mut Line, spec: &Spec, is_further: bool, c: ConfId)
     line.text(spec.conf_name(c).as_bytes());
 }
 
-// Appends the application with which configuration `c` does not meet a demand.
+// Appends the text for the first application with which configuration `c` fails a demand.
 fn add_app_missed(line: &mut Line, spec: &Spec, demand: &Demand, c: ConfId)
     requires { length line.old + 60 ≤ MAX_LINE_BYTES }
     ensures text { line.new ≡ line.old ++ app_missed_text spec.now demand.now c (first_on_missed spec.now demand.now c) }
@@ -140,7 +140,8 @@ fn add_off_missed(line: &mut Line, spec: &Spec, missed: Option<u8>)
     }
 }
 
-// Returns the first application that must be on but is off or in a mode that is not allowed.
+// Returns the first application that must be on but is off or in a mode that the demand does not allow, or `None` if
+// there is none.
 fn first_on_missed(spec: &Spec, demand: &Demand, c: ConfId) -> Option<u8>
     ensures { result ≡ first_on_missed spec.now demand.now c }
 {
@@ -174,7 +175,7 @@ fn modes_allow(modes: &Modes, mode: Mode) -> bool
     modes.as_slice().is_empty() || modes.has(mode)
 }
 
-// Returns the first application that must be off but is on.
+// Returns the first application that must be off but is on, or `None` if there is none.
 fn first_off_missed(spec: &Spec, demand: &Demand, c: ConfId) -> Option<u8>
     ensures { result ≡ first_off_missed spec.now demand.now c }
 {

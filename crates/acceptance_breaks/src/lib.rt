@@ -1,4 +1,5 @@
-//! The places at which acceptance fails: a line for each place at which a condition does not hold, in order.
+//! The places at which a specification fails acceptance, with a line for each place at which a condition does not hold,
+//! in order.
 #![tactic(auto)]
 
 mod choice_lines;

@@ -1,4 +1,4 @@
-//! The lines of invariants and preconditions, made without memory.
+//! The lines about invariants and preconditions, made without allocating.
 
 ghost use Rattle.std.specs.Prelude.{◌≡◌, ◌+◌, ◌≤◌, ◌++◌, [], codes, length, if◌then◌else◌};
 ghost use Rattle.scram_types.specs.declared.limits.TheConstants.{MAX_LINE_BYTES};
@@ -13,8 +13,8 @@ use scram_types::{AppId, Invariant, Place, Precondition, Spec};
 use trace_text::lines::Line;
 use trace_text::row_lines::name_of_mode;
 
-// Returns the line of an invariant: the interval that it would need, and the first way whose range its interval does
-// not contain. The line is empty if there is no such invariant.
+// Returns the line of an invariant, with the interval that it needs and the first way whose range its interval does not
+// contain. The line is empty if there is no such invariant.
 pub(crate) fn make_unheld_line(spec: &Spec, found: &Unheld) -> Line
     ensures { result ≡ unheld_line spec.now found.now }
 {
@@ -44,7 +44,7 @@ fn make_unheld_line_of(spec: &Spec, found: &Unheld, inv: &Invariant) -> Line
     line
 }
 
-// Returns the line of a precondition: the interval that it would need, and its configuration. The line is empty if
+// Returns the line of precondition `k`, with the interval that it needs and its configuration. The line is empty if
 // there is no such precondition.
 pub(crate) fn make_missed_line(spec: &Spec, k: u32) -> Line
     ensures { result ≡ missed_line spec.now k }
@@ -77,7 +77,7 @@ fn add_limits(line: &mut Line, spec: &Spec, limits: &Limits)
     add_intervals(line, limits);
 }
 
-// Appends the number of an invariant or a precondition, and its variable.
+// Appends the number, the application and the variable of an invariant or a precondition.
 fn add_subject(line: &mut Line, spec: &Spec, limits: &Limits)
     requires { length line.old + 50 ≤ MAX_LINE_BYTES }
     ensures text { line.new ≡ line.old ++ subject_text spec.now limits.now }
@@ -91,7 +91,7 @@ fn add_subject(line: &mut Line, spec: &Spec, limits: &Limits)
     line.text(variable_text(spec, limits.app, limits.variable).as_bytes());
 }
 
-// Appends the interval that is given, and the smallest one that suffices.
+// Appends the interval that is given and the interval that is needed, in words.
 fn add_intervals(line: &mut Line, limits: &Limits)
     requires { length line.old + 100 ≤ MAX_LINE_BYTES }
     ensures text { line.new ≡ line.old ++ intervals_text limits.now }
@@ -117,7 +117,7 @@ fn variable_text(spec: &Spec, app: AppId, variable: u8) -> &'static str
     }
 }
 
-// Appends the source of a way, and its target if it is another configuration.
+// Appends the name of the source of a way, and the name of the target if it is another configuration.
 fn add_way(line: &mut Line, spec: &Spec, way: &Way)
     requires { length line.old + 35 ≤ MAX_LINE_BYTES }
     ensures text { line.new ≡ line.old ++ way_text spec.now way.now }
@@ -130,7 +130,7 @@ fn add_way(line: &mut Line, spec: &Spec, way: &Way)
     }
 }
 
-// Appends the name of the mode of an application in a place, or `off`.
+// Appends the name of the mode of an application at a place, or `off` if there is no place.
 fn add_place(line: &mut Line, spec: &Spec, app: AppId, place: Option<Place>)
     requires { length line.old + 16 ≤ MAX_LINE_BYTES }
     ensures text { line.new ≡ line.old ++ place_mode_text spec.now app place }

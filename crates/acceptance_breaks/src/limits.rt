@@ -1,4 +1,4 @@
-//! The intervals of invariants and preconditions, and those that they would need.
+//! The intervals that invariants and preconditions give, and the intervals that they need.
 
 ghost use Rattle.std.specs.Prelude.{◌≡◌};
 ghost use Rattle.acceptance_breaks.specs.Limits.{invariant_limits, precondition_limits};
@@ -8,8 +8,8 @@ use condition_breaks::ranges::{interval, range_entering};
 use flight_facts::extremes::Extremes;
 use scram_types::{AppId, Invariant, Precondition, Spec};
 
-/// The number of an invariant or a precondition, a variable of an application, the interval that is given for it, and
-/// the smallest interval that suffices.
+/// The number of an invariant or a precondition, a variable of an application, the interval that is given for the
+/// variable, and the interval that is needed.
 #[derive(Clone, Copy, Debug, PartialEq, Eq)]
 pub struct Limits {
     pub item: u32,
@@ -19,7 +19,7 @@ pub struct Limits {
     pub needed: Extremes,
 }
 
-// Returns an invariant's variable, the interval that it gives, and the smallest one that suffices.
+// Returns the variable of an invariant, the interval that the invariant gives, and the smallest interval that suffices.
 pub(crate) fn invariant_limits(found: &Unheld, inv: &Invariant) -> Limits
     ensures { result ≡ invariant_limits found.now inv.now }
 {
@@ -32,7 +32,8 @@ pub(crate) fn invariant_limits(found: &Unheld, inv: &Invariant) -> Limits
     }
 }
 
-// Returns a precondition's variable, the interval that it gives, and the range that it must contain.
+// Returns the variable of precondition `k`, the interval that the precondition gives, and the range that the interval
+// must contain.
 pub(crate) fn precondition_limits(spec: &Spec, k: u32, pre: &Precondition) -> Limits
     ensures { result ≡ precondition_limits spec.now k pre.now }
 {

@@ -1,4 +1,4 @@
-//! The lines on configurations, and on durations, made without memory.
+//! The lines about configurations and durations, made without allocating.
 
 ghost use Rattle.std.specs.Prelude.{◌≡◌, ◌+◌, ◌≤◌, ◌++◌, decimal, length};
 ghost use Rattle.scram_types.specs.declared.limits.TheConstants.{MAX_LINE_BYTES};
@@ -12,7 +12,7 @@ use scram_types::limits::MAX_ENVIRONMENTS;
 use scram_types::{AppId, ConfId, ProcId, Spec};
 use trace_text::lines::Line;
 
-// Returns the line of an application that is on while an application that it needs is off.
+// Returns the line for an application that is on while an application that it needs is off.
 pub(crate) fn make_need_line(spec: &Spec, c: ConfId, a: AppId, b: AppId) -> Line
     ensures { result ≡ need_line spec.now c a b }
 {
@@ -27,7 +27,7 @@ pub(crate) fn make_need_line(spec: &Spec, c: ConfId, a: AppId, b: AppId) -> Line
     line
 }
 
-// Returns the line of the number of environments in scope and the maximum number of them.
+// Returns the line with the number of environments in scope and the maximum number of them.
 pub(crate) fn make_states_line(spec: &Spec) -> Line
     ensures { result ≡ states_line spec.now }
 {
@@ -40,7 +40,7 @@ pub(crate) fn make_states_line(spec: &Spec) -> Line
     line
 }
 
-// Returns the line of a configuration that has no application on.
+// Returns the line for a configuration in which no application is on.
 pub(crate) fn make_empty_line(spec: &Spec, c: ConfId) -> Line
     ensures { result ≡ empty_line spec.now c }
 {
@@ -51,7 +51,7 @@ pub(crate) fn make_empty_line(spec: &Spec, c: ConfId) -> Line
     line
 }
 
-// Returns the line of a configuration that is the same as an earlier one.
+// Returns the line for a configuration that equals an earlier one.
 pub(crate) fn make_twin_line(spec: &Spec, c: ConfId, d: ConfId) -> Line
     ensures { result ≡ twin_line spec.now c d }
 {
@@ -64,7 +64,7 @@ pub(crate) fn make_twin_line(spec: &Spec, c: ConfId, d: ConfId) -> Line
     line
 }
 
-// Returns the line of the load that a configuration puts on a processor, and of the processor's capacity.
+// Returns the line with the load that a configuration puts on a processor, and the processor's capacity.
 pub(crate) fn make_load_line(spec: &Spec, c: ConfId, p: ProcId) -> Line
     ensures { result ≡ load_line spec.now c p }
 {
@@ -91,7 +91,7 @@ pub(crate) fn add_wide(line: &mut Line, number: u64)
     line.text(buffer.format(number).as_bytes());
 }
 
-// Returns the beginning of a line.
+// Returns the two spaces at the start of a line.
 pub(crate) fn make_indent() -> Line
     ensures { result ≡ indent }
 {
@@ -100,7 +100,7 @@ pub(crate) fn make_indent() -> Line
     line
 }
 
-// Returns the line of the window and the minimum window that suffices.
+// Returns the line with the window and the minimum window that suffices.
 pub(crate) fn make_window_line(spec: &Spec) -> Line
     ensures { result ≡ window_line spec.now }
 {

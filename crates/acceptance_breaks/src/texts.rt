@@ -27,8 +27,8 @@ use trace_text::lines::Line;
 pub const MAX_BREAK_LINES: usize = 64;
 
 /// Returns a line for each place at which a condition of acceptance does not hold, in order. If there are more than
-/// [`MAX_BREAK_LINES`] places, the lines are those of the first of them, followed by a line with the number of the
-/// others. The text is empty for a number that is not 1 to 13.
+/// [`MAX_BREAK_LINES`] places, only the first of them have a line, and a last line has the number of the others. The
+/// text is empty if the number of the condition is not 1 to 13.
 ///
 /// # Errors
 ///
@@ -52,7 +52,7 @@ fn make_text(alloc: Global, spec: &Spec, found: &[Break]) -> Result<Vec<u8>, NoM
     Ok(text)
 }
 
-// Returns the places that have a line each, which are at most the first 64.
+// Returns the places that have a line of their own, which are at most the first 64.
 fn first_of(found: &[Break]) -> &[Break]
     ensures { result.now ≡ take MAX_BREAK_LINES found.now }
 {
@@ -141,7 +141,7 @@ fn add_both(text: &mut Vec<u8>, piece: &Line, end: &Line) -> Result<(), NoMemory
     add(text, end)
 }
 
-// Appends the number of places without a line, if there are any.
+// Appends the line with the number of places that have no line of their own, or nothing if the number is 0.
 fn add_more(text: &mut Vec<u8>, count: usize) -> Result<(), NoMemory>
     ensures { OnOk result (text.new.items ≡ text.old.items ++ more_text count) }
 {

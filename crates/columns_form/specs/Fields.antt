@@ -1,4 +1,4 @@
--- The fields of a row.
+-- The fields of the line of a row.
 use Rattle.std.specs.Prelude.{ℕ, ℤ, pos, ◌+◌, ◌==◌, ◌%◌, ◌/◌, List, [], ◌∷◌, ◌++◌, slice_index, slice_index_or, Option, Some, None, codes, decimal, if◌then◌else◌}
 use Rattle.std.specs.Fmt.{signed_decimal}
 use Rattle.std.specs.Option.{option_map_or}
@@ -30,23 +30,24 @@ mode_fields spec (Stable c) = codes ",0," ++ conf_name spec c.0 ++ codes ",,,"
 mode_fields spec (Moving from halting to since) =
     codes ",1," ++ conf_name spec from.0 ++ codes "," ++ conf_field spec halting ++ codes "," ++ conf_name spec to.0 ++ codes "," ++ decimal since
 
--- The value of each factor, where `i` is the number of the first factor.
+-- A field for each factor, with the name of its value. `i` is the number of the first factor.
 abbrev pub value_fields : List Factor → ℕ → List ℕ → List ℕ
 value_fields [] i values = []
 value_fields (factor ∷ factors) i values = codes "," ++ value_name factor (slice_index values i) ++ value_fields factors (i + 1) values
 
--- A field for each processor, 1 if it is up, where the lowest bit of `up` is the first processor's.
+-- A field for each processor, which is 1 if the processor is up and 0 otherwise. The lowest bit of `up` is the first
+-- processor's.
 abbrev pub up_fields : List Proc → ℕ → List ℕ
 up_fields [] up = []
 up_fields (proc ∷ procs) up = (if up % 2 == 1 then codes ",1" else codes ",0") ++ up_fields procs (up / 2)
 
--- Altitude, climb, heading and bank.
+-- The fields of the world: altitude, climb, heading and bank.
 abbrev pub world_fields : World → List ℕ
 world_fields world =
     codes "," ++ signed_decimal world.alt ++ codes "," ++ signed_decimal world.climb ++ codes "," ++ signed_decimal world.heading
     ++ codes "," ++ signed_decimal world.bank
 
--- The fields of the row itself: frame, mode, environment and world.
+-- The fields of a row that belong to no application: frame, mode, environment and world.
 abbrev pub row_fields : Parts → Row → List ℕ
 row_fields spec row =
     decimal row.frame ++ mode_fields spec row.mode ++ value_fields spec.factors 0 row.env.factors ++ up_fields spec.procs row.env.up ++ world_fields row.world
@@ -56,16 +57,16 @@ abbrev pub proc_field : Parts → Option ProcId → List ℕ
 proc_field spec None = []
 proc_field spec (Some p) = proc_name spec p.0
 
--- The first word of an act, with its mode and its processor if it has them.
+-- The fields of an act: its word, its mode and its processor. The mode or the processor is empty if the act has none.
 abbrev pub act_fields : Parts → ℕ → Act → List ℕ
 act_fields spec kind act =
     codes "," ++ word_text (act_word act) ++ codes "," ++ mode_text kind (mode_of_act act) ++ codes "," ++ proc_field spec (proc_of_act act)
 
--- The field of word i of an application's area, or the empty text if the kind does not use the word.
+-- The field of word `i` of an application's area, or the empty text if the kind does not use the word.
 abbrev pub word_field : ℕ → List ℤ → ℕ → List ℕ
 word_field kind area i = option_map_or (λ (variable : List ℕ). codes "," ++ signed_decimal (slice_index_or area i (pos 0))) (name_in (variable_names kind) i) []
 
--- The fields of application a in a row.
+-- The fields of application `a` in a row.
 abbrev pub app_fields : Parts → Row → ℕ → AppSpec → List ℕ
 app_fields spec row a app =
     act_fields spec app.kind.0 (act_of row a) ++ texts_below (word_field app.kind.0 (slice_index_or row.areas a [])) 8

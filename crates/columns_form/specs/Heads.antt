@@ -8,22 +8,22 @@ use Rattle.scram_types.specs.declared.specification.Proc.{Proc}
 use Rattle.app_model.specs.Names.{name_in, variable_names}
 use Rattle.form_base.specs.Texts.{texts_below}
 
--- The name of the column of each factor.
+-- The names of the columns of the factors.
 abbrev pub factor_heads : List Factor → List ℕ
 factor_heads [] = []
 factor_heads (factor ∷ factors) = codes ",env." ++ factor.name ++ factor_heads factors
 
--- The name of the column of each processor.
+-- The names of the columns of the processors.
 abbrev pub proc_heads : List Proc → List ℕ
 proc_heads [] = []
 proc_heads (proc ∷ procs) = codes ",up." ++ proc.name ++ proc_heads procs
 
--- The names of the columns of the row itself: frame, mode, environment and world.
+-- The names of the columns that belong to no application: frame, mode, environment and world.
 abbrev pub row_head : Parts → List ℕ
 row_head spec =
     codes "frame,moving,from,halting,to,since" ++ factor_heads spec.factors ++ proc_heads spec.procs ++ codes ",altitude,climb,heading,bank"
 
--- The name of the column of word i of an application's area, or the empty text if its kind does not use the word.
+-- The name of the column of word `i` of an application's area, or the empty text if its kind does not use the word.
 abbrev pub word_head : AppSpec → ℕ → List ℕ
 word_head app i = option_map_or (λ (variable : List ℕ). codes "," ++ app.name ++ codes "." ++ variable) (name_in (variable_names app.kind.0) i) []
 

@@ -1,4 +1,4 @@
-//! The fields of a row, made without allocating.
+//! The fields of the line of a row, made without allocating.
 
 ghost use Rattle.std.specs.Prelude.{◌≡◌, ◌<◌, ◌≤◌, ◌+◌, ◌*◌, ◌++◌, IfSome, length, option_map};
 ghost use Rattle.scram_types.specs.declared.limits.TheConstants.{MAX_LINE_BYTES};
@@ -12,7 +12,7 @@ use scram_types::{Act, AppSpec, Area, ConfId, KMode, KindId, ProcId, Row, Spec, 
 use trace_text::lines::Line;
 use trace_text::row_lines::name_of_mode;
 
-/// Returns the fields of the row itself: frame, mode, environment and world.
+/// Returns the fields of a row that belong to no application: frame, mode, environment and world.
 pub fn make_row_fields(spec: &Spec, row: &Row) -> Line
     ensures { result ≡ row_fields spec.now row.now }
 {
@@ -102,7 +102,7 @@ fn add_world_fields(line: &mut Line, world: &World)
     line.signed(&world.bank);
 }
 
-/// Returns the fields of an application in a row.
+/// Returns the fields of application `a` in a row.
 pub fn make_app_fields(spec: &Spec, row: &Row, a: usize, app: &AppSpec) -> Line
     requires { a < 8 }
     ensures { result ≡ app_fields spec.now row.now a app.now }
@@ -157,7 +157,8 @@ fn add_word_field(line: &mut Line, kind: KindId, area: &Area, i: u8)
     }
 }
 
-/// Returns the name of word `i` of the areas of a kind, at most 16 bytes, or `None` if the kind does not use the word.
+/// Returns the name of word `i` of an area of a kind, at most 16 bytes, or `None` if there is no such kind or it does
+/// not use this word of its area.
 #[tactic(auto, using(app_model::proofs::ShortNames::variable_short))]
 pub fn name_of_variable(kind: KindId, i: u8) -> Option<&'static str>
     ensures name { option_map (λ s. s.now) result ≡ name_in (variable_names kind.0) i }

@@ -9,7 +9,7 @@ use crate::fields::name_of_variable;
 use scram_types::{AppSpec, Spec};
 use trace_text::lines::Line;
 
-/// Returns the names of the columns of the row itself: frame, mode, environment and world.
+/// Returns the names of the columns that belong to no application: frame, mode, environment and world.
 pub fn make_row_head(spec: &Spec) -> Line
     ensures { result ≡ row_head spec.now }
 {

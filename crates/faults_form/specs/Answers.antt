@@ -1,4 +1,4 @@
--- The answers for the fault scripts of a specification.
+-- The answers of the form `faults`.
 use Rattle.std.specs.Prelude.{◌≡◌, ℕ, List, [], Option, Some, None}
 use Rattle.scram_types.specs.Specification.{Parts}
 use Rattle.scram_io.specs.Outside.{History}
@@ -14,22 +14,23 @@ use Rattle.faults_form.specs.declared.forms.Family.{Family}
 use Rattle.faults_form.specs.Counts.{number}
 use Rattle.faults_form.specs.Families.{family_text}
 
--- The answer to `faults`, given the first refusal of the specification, if there is one.
+-- The status and the text with which `faults` answers. If the specification has a first refusal, the text is the line
+-- of this refusal.
 abbrev pub faults_answer : Parts → FaultCount → Option Shown → ℕ × List ℕ
 faults_answer spec count (Some shown) = (NOT_ACCEPTED, shown_line spec shown)
 faults_answer spec count None = (ANSWERED, family_text spec (number count))
 
--- The text is that of the family.
+-- The status is that of an answer, and the text is the lines of the family.
 abbrev pub TellsFamily : Family → ℕ → List ℕ → Type 0
 TellsFamily asked = Gives (ANSWERED, family_text asked.spec (number asked.count))
 
--- The answer to `faults` with the name of a specification's file and a number of faults.
+-- The answer of `faults` to the name of a specification's file and a number of faults.
 abbrev pub FaultsAnswers : List ℕ → FaultCount → Answer
 FaultsAnswers specification count =
     AsksSpecification specification (λ (spec : Parts). WithoutFiles (Gives (faults_answer spec count (first_refusal spec))))
 
--- If `faults` ends with status 0, it has read no other file, the specification is accepted, and the text is that of its
--- family.
+-- If `faults` ends with status 0, it has read no further file, the specification is accepted, and the text is the lines
+-- of its family.
 abbrev pub AssuresFaults : List ℕ → FaultCount → History → List ℕ → Type 0
 AssuresFaults specification count =
     OfSpecification specification (λ (spec : Parts) (reads : History) (text : List ℕ).

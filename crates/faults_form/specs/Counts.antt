@@ -3,13 +3,13 @@ use Rattle.std.specs.Prelude.{ℕ, List, Option, Some, None, bytes_eq, codes, if
 use Rattle.faults_form.specs.declared.counts.FaultCount.{FaultCount}
 use Rattle.faults_form.specs.declared.counts.FaultCount.TheVariants.{One, Two, Three}
 
--- The number of faults.
+-- The number that a count of faults spells, from 1 to 3.
 abbrev pub number : FaultCount → ℕ
 number One = 1
 number Two = 2
 number Three = 3
 
--- The number of faults that a word spells.
+-- The number of faults that a word spells, or `None` if the word is not `1`, `2` or `3`.
 abbrev pub fault_count : List ℕ → Option FaultCount
 fault_count word =
     if bytes_eq word (codes "1") then Some One

@@ -12,7 +12,7 @@ pub enum FaultCount {
 }
 
 impl FaultCount {
-    /// Returns the number of faults.
+    /// Returns the number of faults, from 1 to 3.
     pub fn number(self) -> u8
         ensures value { result ≡ number self }
         ensures few { result ≤ 3 }
@@ -25,7 +25,7 @@ impl FaultCount {
     }
 }
 
-/// Returns the number of faults that a word spells: `1`, `2` or `3`.
+/// Returns the number of faults that a word spells, or `None` if the word is not `1`, `2` or `3`.
 pub fn fault_count(word: &[u8]) -> Option<FaultCount>
     ensures { result ≡ fault_count word.now }
 {

@@ -1,4 +1,4 @@
-//! The form `faults`.
+//! The form `faults`, which prints the family of fault scripts of a specification.
 
 ghost use Rattle.std.specs.Prelude.{◌≡◌, ◌+◌, ◌*◌, ◌≤◌, ◌∷◌, [], length};
 ghost use Rattle.coverage_check.specs.Acceptance.{first_refusal};
@@ -28,7 +28,7 @@ use scram_io::{Files, Sink, SinkFault};
 use scram_types::Spec;
 use std::alloc::Global;
 
-/// The question to `faults`: the file of a specification, and the number of faults of each script.
+/// The words of `faults`: the name of a specification's file, and the number of faults of each script.
 #[derive(Clone, Copy)]
 pub struct FaultsQuestion<'a> {
     pub specification: &'a str,
@@ -42,8 +42,8 @@ struct Family {
     count: FaultCount,
 }
 
-/// Prints the family of fault scripts of the specification in a file, one line for each script, if the specification is
-/// accepted. All memory is allocated before the first line.
+/// Reads the specification in a file and prints its family of fault scripts, one line for each script. Prints a refusal
+/// instead if the specification is not accepted. All memory is allocated before the first line.
 pub fn faults<F: Files, K: Sink>(
     alloc: Global,
     question: FaultsQuestion<'_>,
@@ -63,7 +63,7 @@ pub fn faults<F: Files, K: Sink>(
     }
 }
 
-/// Reads the specification, and checks that it is accepted.
+/// Reads the specification, and returns its family, or the refusal if it is not accepted.
 fn read_family<F: Files>(
     alloc: Global,
     question: FaultsQuestion<'_>,
@@ -102,7 +102,7 @@ fn put_family<K: Sink>(out: &mut K, spec: &Spec, count: FaultCount) -> Result<()
     put_extended(out, spec, kinds.as_slice(), &Faults::new(), count.number())
 }
 
-// Writes the lines of the scripts that begin with these faults and have `more` further faults.
+// Writes the lines of the scripts that begin with the faults `before` and have `more` further faults.
 fn put_extended<K: Sink>(
     out: &mut K,
     spec: &Spec,
@@ -132,7 +132,7 @@ fn put_extended<K: Sink>(
     Ok(())
 }
 
-// Writes the line of the script of these faults, if it keeps to the failure assumption.
+// Writes the line of the script of these faults, unless the script breaks the failure assumption.
 fn put_within<K: Sink>(out: &mut K, spec: &Spec, faults: &[Fault]) -> Result<(), SinkFault>
     requires few { length faults.now ≤ 3 }
     requires frame { last_fault_frame faults.now ≤ 4000 }

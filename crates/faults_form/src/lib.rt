@@ -1,5 +1,5 @@
-//! The form `faults`: the family of fault scripts of a specification, line by line. Its output is the answer to the
-//! bytes of the file that its words name.
+//! The form `faults`, which prints the family of fault scripts of a specification, one line for each script. Its output
+//! is the answer to the bytes of the file that its words name.
 #![tactic(auto)]
 
 pub mod counts;

@@ -1,4 +1,4 @@
-//! The lines of scripts, made without memory.
+//! The lines of scripts, made without allocating.
 
 ghost use Rattle.std.specs.Prelude.{◌≡◌, ◌+◌, ◌*◌, ◌≤◌, ◌++◌, [], ◌∷◌, codes, decimal, false, filter_map, length, map, nat_lt};
 ghost use Rattle.serde_json.specs.Written.{comma_if};
@@ -12,7 +12,7 @@ use fault_family::scripts::{FaultScript, change_of_fault, halt_of_fault, restart
 use scram_types::{Change, HaltAt, RestartAt, Spec};
 use trace_text::lines::Line;
 
-/// Returns the line of a script, which is its canonical text and a line feed.
+/// Returns the line of a script: its canonical text and a line feed.
 pub fn make_script_line(spec: &Spec, script: &FaultScript<'_>) -> Line
     requires { length script.now.faults.now ≤ 3 }
     ensures { result ≡ script_text spec.now (faults_in_frames script.now.frames script.now.faults.now) ++ codes "\n" }
@@ -172,7 +172,7 @@ fn add_version(line: &mut Line, spec: &Spec, faults: &[Fault])
     }
 }
 
-// Returns whether some fault is a restart.
+// Returns whether one of the faults is a restart.
 fn restarts(faults: &[Fault]) -> bool
     ensures { result ≡ nat_lt 0 (length (filter_map restart_of_fault faults.now)) }
 {

@@ -1,4 +1,4 @@
--- The answers of flights.
+-- The answers of the forms that fly missions.
 use Rattle.std.specs.Prelude.{◌≡◌, ◌≢◌, ℕ, List, Result, Ok, Err}
 use Rattle.scram_types.specs.declared.rows.Flown.{Flown}
 use Rattle.scram_types.specs.Scripts.{ScriptParts}
@@ -22,80 +22,80 @@ use Rattle.flight_forms.specs.Missions.{UnlessRefused, mission_refusal}
 use Rattle.flight_forms.specs.Texts.{flight_text, watch_text}
 use Rattle.bank_words.specs.declared.events.Event.{Event}
 
--- The answer to a mission is its text with status 0.
+-- The status is that of an answer, and the text is the mission's text.
 abbrev pub TellsFlight : (MissionParts → List ℕ) → MissionParts → ℕ → List ℕ → Type 0
 TellsFlight text mission = Gives (ANSWERED, text mission)
 
--- The answer after a specification and a script are read, with this text of their mission.
+-- The answer after a specification and a script have been read, where `text` gives the text of their mission.
 abbrev pub ScriptAnswers : (MissionParts → List ℕ) → Parts → ScriptParts → Answer
 ScriptAnswers text spec script = WithoutFiles (UnlessRefused (mission_refusal spec script) (TellsFlight text (mission_of spec script)))
 
--- The answer to the names of the files of a specification and a script, with this text of their mission.
+-- The answer to the names of the files of a specification and a script, where `text` gives the text of their mission.
 abbrev pub FlightAnswers : (MissionParts → List ℕ) → List ℕ → List ℕ → Answer
 FlightAnswers text specification script = AsksSpecification specification (λ (spec : Parts). AsksScript spec script (ScriptAnswers text spec))
 
--- The answer to `run` with the names of the files of a specification and a script.
+-- The answer of `run` to the names of the files of a specification and a script.
 abbrev pub RunAnswers : List ℕ → List ℕ → Answer
 RunAnswers = FlightAnswers (flight_text Trace)
 
--- The answer to `pair` with the names of the files of a specification and a script. It is that of `run`, whichever halt
--- of a unit is asked for.
+-- The answer of `pair` to the names of the files of a specification and a script. It is the answer of `run`, whatever
+-- halt of a unit is requested.
 abbrev pub PairAnswers : List ℕ → List ℕ → Answer
 PairAnswers = RunAnswers
 
--- The answer to `watch` with the names of the files of a specification and a script.
+-- The answer of `watch` to the names of the files of a specification and a script.
 abbrev pub WatchAnswers : List ℕ → List ℕ → Answer
 WatchAnswers = FlightAnswers watch_text
 
--- The refusal of a list that is no schedule to the end of the flight.
+-- The status and the line for an error of a replay.
 abbrev pub replay_refusal : Parts → ReplayError → ℕ × List ℕ
 replay_refusal spec (replay_error.Illegal index given next) = (BROKEN_SCHEDULE, illegal_line spec index given next)
 replay_refusal spec (replay_error.Short events next) = (BROKEN_SCHEDULE, short_line spec events next)
 replay_refusal spec replay_error.NoMemory = (OUT_OF_MEMORY, memory_line)
 
--- The answer to a list that was flown as a schedule, by the result of the replay. If the flight came to its end, it is
--- the answer of the flight on one thread.
+-- The status and the text of a replay, given its result. If the flight was flown to its end, the text is the trace of
+-- the flight on one thread.
 abbrev pub replay_answer : Parts → ScriptParts → Result Flown ReplayError → ℕ × List ℕ
 replay_answer spec script (Ok flown) = (ANSWERED, flight_text Trace (mission_of spec script))
 replay_answer spec script (Err error) = replay_refusal spec error
 
--- Status and text are the answer to a list that is flown as a schedule, of which there is one.
+-- The status and the text are those of a replay of a list, which has a result other than out of memory.
 pub record IsReplayAnswer (spec : Parts) (script : ScriptParts) (list : List Event) (status : ℕ) (text : List ℕ) : Type 0 where
   pub flown : Result Flown ReplayError
   pub answers : AnswersReplay spec script list flown
   pub had_memory : flown ≢ Err replay_error.NoMemory
   pub gives : Gives (replay_answer spec script flown) status text
 
--- The answer to `replay` after all files are read.
+-- The answer of `replay` after all files have been read.
 abbrev pub ListAnswers : Parts → ScriptParts → List Event → Answer
 ListAnswers spec script list = WithoutFiles (UnlessRefused (mission_refusal spec script) (IsReplayAnswer spec script list))
 
--- The answer to `replay` after a specification and a script are read.
+-- The answer of `replay` after a specification and a script have been read.
 abbrev pub ScheduleAnswers : List ℕ → Parts → ScriptParts → Answer
 ScheduleAnswers schedule spec script = AsksSchedule spec schedule (ListAnswers spec script)
 
--- The answer to `replay` with the names of the files of a specification, a script and a schedule.
+-- The answer of `replay` to the names of the files of a specification, a script and a schedule.
 abbrev pub ReplayAnswers : List ℕ → List ℕ → List ℕ → Answer
 ReplayAnswers specification script schedule =
     AsksSpecification specification (λ (spec : Parts). AsksScript spec script (ScheduleAnswers schedule spec))
 
--- The specification of generated missions. It is the value of its text, and the script of this number fits it.
+-- The specification is that of all generated missions, and the script generated from `number` fits it.
 pub record IsGenerated (number : ℕ) (spec : Parts) : Type 0 where
   pub reads : spec_of generated_text ≡ Ok spec
   pub sound : IsSpec spec
   pub fits : Fits spec (generated_script number)
 
--- The answer to `gen` with a number.
+-- The answer of `gen` to a number.
 pub record GenAnswers (number : ℕ) (status : ℕ) (text : List ℕ) : Type 0 where
   pub spec : Parts
   pub generated : IsGenerated number spec
   pub gives : Gives (ANSWERED, mission_text spec (generated_script number)) status text
 
--- The answer to the mission of a number after it was flown, which is one line or a refusal.
+-- The answer after the mission generated from a number was flown, which is its summary line or a refusal.
 abbrev pub SummaryAnswers : ℕ → Parts → ScriptParts → ℕ → List ℕ → Type 0
 SummaryAnswers number spec script = UnlessRefused (mission_refusal spec script) (TellsFlight (flight_text (Summary number)) (mission_of spec script))
 
--- The answer to `fly` with a number.
+-- The answer of `fly` to a number.
 pub record FlyAnswers (number : ℕ) (status : ℕ) (text : List ℕ) : Type 0 where
   pub spec : Parts
   pub generated : IsGenerated number spec

@@ -1,4 +1,4 @@
--- The assurances of status 0 about flights.
+-- What status 0 assures about flights.
 use Rattle.std.specs.Prelude.{◌≡◌, ℕ, List, []}
 use Rattle.scram_types.specs.Scripts.{ScriptParts}
 use Rattle.scram_types.specs.Specification.{Parts}
@@ -18,51 +18,51 @@ use Rattle.flight_forms.specs.Documents.{SaysSchedule, SaysScript}
 use Rattle.flight_forms.specs.Texts.{flight_text, watch_text}
 use Rattle.bank_words.specs.declared.events.Event.{Event}
 
--- The specification is accepted, and the script keeps to its failure assumption. The text is that of their mission, and
--- the properties of reconfigurations hold for the rows and reports of its one-thread flight.
+-- The specification is accepted, and the script keeps to its failure assumption. The text is the one that `told` gives
+-- for their mission. The properties of reconfigurations hold for the rows and reports of the one-thread flight.
 pub record IsAssured (told : MissionParts → List ℕ) (spec : Parts) (script : ScriptParts) (text : List ℕ) : Type 0 where
   pub mission : IsMission (mission_of spec script)
   pub whole : text ≡ told (mission_of spec script)
   pub holds : HoldsAll spec (rows_of spec script) (reports_of spec script)
 
--- If this text of a mission is printed with status 0, the mission of the two files is assured, and no other file was
--- read.
+-- If a form that prints the text `told` of a mission ends with status 0, the mission of the two files is assured, and
+-- no further file was read.
 abbrev pub AssuresFlight : (MissionParts → List ℕ) → List ℕ → List ℕ → History → List ℕ → Type 0
 AssuresFlight told specification script =
     OfSpecification specification (λ (spec : Parts). OfDocument (SaysScript spec) script (λ (script : ScriptParts) (reads : History) (text : List ℕ).
     (reads ≡ []) × IsAssured told spec script text))
 
--- If `run` ends with status 0, the mission of the two files is assured.
+-- If `run` ends with status 0, the mission of the two files is assured, and no further file was read.
 abbrev pub AssuresRun : List ℕ → List ℕ → History → List ℕ → Type 0
 AssuresRun = AssuresFlight (flight_text Trace)
 
--- If `watch` ends with status 0, the mission of the two files is assured.
+-- If `watch` ends with status 0, the mission of the two files is assured, and no further file was read.
 abbrev pub AssuresWatch : List ℕ → List ℕ → History → List ℕ → Type 0
 AssuresWatch = AssuresFlight watch_text
 
--- If `replay` ends with status 0, the mission of the first two files is assured, and no file but the three was read.
--- The third file holds a schedule at whose end the flight is over.
+-- If `replay` ends with status 0, the mission of the first two files is assured, and no further file was read. The
+-- third file holds a schedule at whose end the flight is over.
 abbrev pub AssuresReplay : List ℕ → List ℕ → List ℕ → History → List ℕ → Type 0
 AssuresReplay specification script schedule =
     OfSpecification specification (λ (spec : Parts). OfDocument (SaysScript spec) script (λ (script : ScriptParts).
     OfDocument (SaysSchedule spec) schedule (λ (list : List Event) (reads : History) (text : List ℕ).
     (reads ≡ []) × IsWholeSchedule (flight_of spec script) list × IsAssured (flight_text Trace) spec script text)))
 
--- If `gen` ends with status 0, the text is that of the mission of the number, and no file was read.
+-- If `gen` ends with status 0, the text is that of the mission generated from `number`, and no file was read.
 pub record AssuresGen (number : ℕ) (reads : History) (text : List ℕ) : Type 0 where
   pub none : reads ≡ []
   pub spec : Parts
   pub generated : IsGenerated number spec
   pub is : text ≡ mission_text spec (generated_script number)
 
--- If `fly` ends with status 0, the mission of the number is assured, and no file was read.
+-- If `fly` ends with status 0, the mission generated from `number` is assured, and no file was read.
 pub record AssuresFly (number : ℕ) (reads : History) (text : List ℕ) : Type 0 where
   pub none : reads ≡ []
   pub spec : Parts
   pub generated : IsGenerated number spec
   pub assured : IsAssured (flight_text (Summary number)) spec (generated_script number) text
 
--- Each flight that is answered with status 0 is assured.
+-- Each answer of `run`, `watch`, `replay`, `gen` or `fly` with status 0 gives the assurance of its form.
 pub record FlightsAreAssured : Type 0 where
   pub run : (specification script : List ℕ) → IsAssuring (RunAnswers specification script) (AssuresRun specification script)
   pub watch : (specification script : List ℕ) → IsAssuring (WatchAnswers specification script) (AssuresWatch specification script)

@@ -1,4 +1,4 @@
--- The answers to the files of scripts and of schedules.
+-- The answers of forms that read files of scripts and of schedules.
 use Rattle.std.specs.Prelude.{◌≡◌, ℕ, List, [], Ok, Err}
 use Rattle.scram_types.specs.declared.limits.TheConstants.{MAX_SCRIPT_BYTES}
 use Rattle.scram_types.specs.Scripts.{ScriptParts}
@@ -17,39 +17,39 @@ use Rattle.form_base.specs.declared.status.TheConstants.{BROKEN_SCHEDULE, BROKEN
 use Rattle.form_base.specs.Answers.{Answer, AnswersDocument, AnswersFile}
 use Rattle.flight_forms.specs.Lines.{script_line}
 
--- The bytes encode this script, which fits the specification.
+-- The bytes encode the script `script`, which fits the specification.
 pub record SaysScript (spec : Parts) (script : ScriptParts) (bytes : List ℕ) : Type 0 where
   pub is : script_of spec bytes ≡ Ok script
   pub fits : Fits spec script
 
--- The bytes are refused as a script for a specification.
+-- The bytes are not a script for the specification, and `refusal` has the status and the line of their fault.
 pub record BreaksScript (spec : Parts) (refusal : ℕ × List ℕ) (bytes : List ℕ) : Type 0 where
   pub fault : DocFault
   pub is : script_of spec bytes ≡ Err fault
   pub line : refusal ≡ (BROKEN_SCRIPT, script_line fault)
 
--- The refusal of a script with too many bytes.
+-- The status and the line with which a script of too many bytes is refused.
 abbrev pub long_script : ℕ × List ℕ
 long_script = (BROKEN_SCRIPT, script_line (record { rule = script_rule.TOO_LONG; path = [] }))
 
--- The file of this name is read, and the answer is that of the script in it.
+-- The answer to the name of a script's file, where the last argument gives the answer to the script in the file.
 abbrev pub AsksScript : Parts → List ℕ → (ScriptParts → Answer) → Answer
 AsksScript spec name Then = AnswersFile MAX_SCRIPT_BYTES long_script name (AnswersDocument (SaysScript spec) (BreaksScript spec) Then)
 
--- The bytes encode this schedule.
+-- The bytes encode the schedule `list`.
 pub record SaysSchedule (spec : Parts) (list : List Event) (bytes : List ℕ) : Type 0 where
   pub is : schedule_of spec bytes ≡ Ok list
 
--- The bytes are refused as a schedule for a specification.
+-- The bytes are not a schedule for the specification, and `refusal` has the status and the line of their fault.
 pub record BreaksSchedule (spec : Parts) (refusal : ℕ × List ℕ) (bytes : List ℕ) : Type 0 where
   pub fault : ScheduleFault
   pub is : schedule_of spec bytes ≡ Err fault
   pub line : refusal ≡ (BROKEN_SCHEDULE, fault_line fault)
 
--- The refusal of a schedule with too many bytes.
+-- The status and the line with which a schedule of too many bytes is refused.
 abbrev pub long_schedule : ℕ × List ℕ
 long_schedule = (BROKEN_SCHEDULE, fault_line (record { line = 0; rule = schedule_rule.TOO_LONG }))
 
--- The file of this name is read, and the answer is that of the schedule in it.
+-- The answer to the name of a schedule's file, where the last argument gives the answer to the schedule in the file.
 abbrev pub AsksSchedule : Parts → List ℕ → (List Event → Answer) → Answer
 AsksSchedule spec name Then = AnswersFile MAX_SCHEDULE_BYTES long_schedule name (AnswersDocument (SaysSchedule spec) (BreaksSchedule spec) Then)

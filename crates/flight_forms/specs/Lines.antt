@@ -1,4 +1,4 @@
--- The lines that answer a script or a flight.
+-- The lines that are printed for a script or a flight.
 use Rattle.std.specs.Prelude.{ℕ, List, ◌++◌, codes, decimal}
 use Rattle.scram_types.specs.Lookups.{conf_name}
 use Rattle.scram_types.specs.Specification.{Parts}
@@ -28,15 +28,15 @@ outside_kind_text Changes = codes "changes"
 abbrev pub outside_line : Outside → List ℕ
 outside_line outside = codes "refused: outside at frame " ++ decimal outside.frame ++ codes ": " ++ outside_kind_text outside.kind ++ codes "\n"
 
--- The line for the flight of a mission's number. It has the number of frames, the number of reconfigurations, the
+-- The line for the flight of a mission with a number. It has the number of frames, the number of reconfigurations, the
 -- duration of the longest finished one in frames, and the last configuration that was run.
 abbrev pub fly_line : ℕ → Parts → List Row → List Report → List ℕ
 fly_line number spec rows reports =
     codes "fly " ++ decimal number ++ counts_text rows reports ++ codes " longest " ++ decimal (longest_duration reports)
     ++ codes " final " ++ conf_name spec (last_run spec rows).0 ++ codes "\n"
 
--- The line for a flight that was watched. It has the number of frames of a summary, the configuration and the
--- processors that are up in its last row, and the number of reconfigurations begun.
+-- The line for a watched flight. It has the number of frames of a summary, the configuration and the processors that
+-- are up in its last row, and the number of reconfigurations begun.
 abbrev pub watch_line : Parts → Summary → List ℕ
 watch_line spec summary =
     codes "watch frames " ++ decimal summary.frames ++ codes " running " ++ conf_or_dash spec (running_conf summary.running)

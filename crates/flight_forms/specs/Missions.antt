@@ -1,4 +1,4 @@
--- The missions that a specification and a script make, and their refusals.
+-- The missions that consist of a specification and a script, and their refusals.
 use Rattle.std.specs.Prelude.{◌≡◌, ◌≢◌, ◌⊎◌, ℕ, List, Option, Some, None, Result, Ok, Err}
 use Rattle.scram_types.specs.Scripts.{ScriptParts}
 use Rattle.scram_types.specs.Specification.{Parts}
@@ -15,32 +15,32 @@ use Rattle.form_base.specs.Loads.{IsOutOfMemory}
 use Rattle.form_base.specs.Refusals.{told}
 use Rattle.flight_forms.specs.Lines.{outside_line}
 
--- The refusal of a script, by how it leaves the failure assumption.
+-- The refusal of a script that leaves the failure assumption, or `None` if the script keeps to it.
 abbrev pub script_refusal : Option Outside → Option (ℕ × List ℕ)
 script_refusal None = None
 script_refusal (Some outside) = Some (UNASSUMED_SCRIPT, outside_line outside)
 
--- The refusal of a specification and a script for it, given why the specification is not accepted, if it is not.
+-- The refusal of a specification and a script for it, given the first refusal of the specification if there is one.
 abbrev pub refusal_by : Parts → ScriptParts → Option Shown → Option (ℕ × List ℕ)
 refusal_by spec script (Some shown) = Some (NOT_ACCEPTED, shown_line spec shown)
 refusal_by spec script None = script_refusal (first_outside spec script)
 
--- The refusal of a specification and a script for it, or none if they make a mission.
+-- The refusal of a specification and a script for it, or `None` if they make a mission.
 abbrev pub mission_refusal : Parts → ScriptParts → Option (ℕ × List ℕ)
 mission_refusal spec script = refusal_by spec script (first_refusal spec)
 
--- The refusal is printed, or if there is none, the answer is `Answers`.
+-- The answer is the refusal if there is one, and `Answers` otherwise.
 abbrev pub UnlessRefused : Option (ℕ × List ℕ) → (ℕ → List ℕ → Type 0) → ℕ → List ℕ → Type 0
 UnlessRefused (Some refusal) Answers = Gives refusal
 UnlessRefused None Answers = Answers
 
--- The result of making a mission: the mission, the refusal of the specification and the script, or out of memory.
+-- The result is the mission of a specification and a script, or their refusal, or out of memory.
 abbrev pub MakesMission : Parts → ScriptParts → Result MissionParts Refusal → Type 0
 MakesMission spec script (Ok mission) = (mission ≡ mission_of spec script) × (mission_refusal spec script ≡ None)
 MakesMission spec script (Err refusal) =
     ((mission_refusal spec script ≡ Some (told refusal)) ⊎ IsOutOfMemory (told refusal)) × ((told refusal).0 ≢ UNREAD_FILE)
 
--- The result of making a mission of an accepted specification and a script.
+-- The result is the mission of an accepted specification and a script, or the script's refusal.
 abbrev pub JoinsMission : Parts → ScriptParts → Result MissionParts Refusal → Type 0
 JoinsMission spec script (Ok mission) = (mission ≡ mission_of spec script) × (script_refusal (first_outside spec script) ≡ None)
 JoinsMission spec script (Err refusal) = (script_refusal (first_outside spec script) ≡ Some (told refusal)) × ((told refusal).0 ≢ UNREAD_FILE)

@@ -1,4 +1,4 @@
--- A mission with a schedule by which it is flown.
+-- A mission with the schedule by which it is flown.
 use Rattle.std.specs.Prelude.{◌≡◌, ◌≢◌, ◌⊎◌, ℕ, List, Some, None, Result, Ok, Err}
 use Rattle.scram_types.specs.Scripts.{ScriptParts}
 use Rattle.scram_types.specs.Specification.{Parts}
@@ -12,11 +12,11 @@ use Rattle.flight_forms.specs.declared.replays.Replay.{Replay}
 use Rattle.flight_forms.specs.Answers.{IsReplayAnswer}
 use Rattle.flight_forms.specs.Missions.{mission_refusal}
 
--- Status and text are the answer to the list, flown as a schedule.
+-- The status and the text are those of a replay.
 abbrev pub TellsReplay : Replay → ℕ → List ℕ → Type 0
 TellsReplay replay = IsReplayAnswer replay.mission.spec replay.mission.script replay.list
 
--- The result of making a mission that is flown by a list.
+-- The result is a mission with the list by which it is flown, or the mission's refusal, or out of memory.
 abbrev pub MakesReplay : Parts → ScriptParts → List Event → Result Replay Refusal → Type 0
 MakesReplay spec script list (Ok replay) = (replay.mission ≡ mission_of spec script) × (replay.list ≡ list) × (mission_refusal spec script ≡ None)
 MakesReplay spec script list (Err refusal) =

@@ -1,4 +1,4 @@
--- The values in the line of a flight that come from its rows and reports.
+-- The values in the summary line of a flight that are computed from its rows and reports.
 use Rattle.std.specs.Prelude.{ℕ, ◌-◌, max, List, [], ◌∷◌, Option, Some, None}
 use Rattle.scram_types.specs.declared.rows.Report.{Report}
 use Rattle.scram_types.specs.declared.rows.Row.{Row}
@@ -6,13 +6,13 @@ use Rattle.scram_types.specs.declared.ids.ConfId.{ConfId}
 use Rattle.scram_types.specs.Specification.{Parts}
 use Rattle.frame_model.specs.Runs.{running}
 
--- The number of frames from the begin to the end of a finished reconfiguration, or 0 for an unfinished one, which has
+-- The number of frames from the start to the end of a finished reconfiguration, or 0 for an unfinished one, which has
 -- no target.
 abbrev pub duration_to : Option ConfId → Report → ℕ
 duration_to None report = 0
 duration_to (Some to) report = report.end - report.begin
 
--- The number of frames of a finished reconfiguration, or 0.
+-- The number of frames from the start to the end of a reconfiguration, or 0 if it is unfinished.
 abbrev pub duration : Report → ℕ
 duration report = duration_to report.to report
 
@@ -21,12 +21,12 @@ abbrev pub longest_duration : List Report → ℕ
 longest_duration [] = 0
 longest_duration (report ∷ reports) = max (duration report) (longest_duration reports)
 
--- A configuration, or the preceding one if there is none.
+-- The first configuration if there is one, and the second otherwise.
 abbrev pub or_before : Option ConfId → ConfId → ConfId
 or_before None before = before
 or_before (Some c) before = c
 
--- The last configuration that one of the rows runs, or the preceding one if no row runs one.
+-- The last configuration that one of the rows runs, or the given configuration if no row runs one.
 abbrev pub last_run_from : Parts → ConfId → List Row → ConfId
 last_run_from spec before [] = before
 last_run_from spec before (row ∷ rows) = last_run_from spec (or_before (running spec row.acts) before) rows

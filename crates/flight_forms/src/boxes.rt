@@ -4,7 +4,7 @@ ghost use Rattle.std.specs.Prelude.{◌≡◌, vec_len};
 
 use app_model::Rack;
 
-/// The racks of boxes that fly a mission: one for each of eight processors, and one for each processor's restart.
+/// The racks of boxes with which a mission is flown: one for each of eight processors, and one for the restart of each.
 #[derive(Drop)]
 pub struct Boxes {
     pub racks: Vec<Rack>,

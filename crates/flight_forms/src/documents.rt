@@ -22,7 +22,7 @@ use scram_types::limits::MAX_SCRIPT_BYTES;
 use scram_types::{List, Script, Spec};
 use std::alloc::Global;
 
-/// The document of a script for a specification.
+/// The kind of document that holds a script for a specification.
 #[derive(Clone, Copy)]
 pub struct ScriptDocument<'a> {
     pub spec: &'a Spec,
@@ -60,7 +60,7 @@ impl Document<Script> for ScriptDocument<'_> {
     }
 }
 
-/// The document of a schedule for a specification.
+/// The kind of document that holds a schedule for a specification.
 #[derive(Clone, Copy)]
 pub struct ScheduleDocument<'a> {
     pub spec: &'a Spec,

@@ -1,4 +1,4 @@
-//! The forms `gen` and `fly`, which print or fly the mission of a number.
+//! The forms `gen` and `fly`, which print or fly the mission generated from a number.
 
 ghost use Rattle.std.specs.Prelude.{◌≡◌};
 ghost use Rattle.form_base.specs.Endings.{Tells};
@@ -18,7 +18,7 @@ use std::alloc::{AllocGlobal, Global};
 use std::sync::Wait;
 use std::thread::Threads;
 
-/// Prints the mission of a number, 0 to 999,999, as two lines: its specification and its script.
+/// Prints the mission generated from a number, 0 to 999,999, as two lines: its specification and its script.
 pub fn print_generated<K: Sink>(alloc: Global, number: u32, out: &mut K) -> Status
     ensures { Tells (GenAnswers number) (K.state out.old) (K.state out.new) result.code }
 {
@@ -37,7 +37,7 @@ pub fn print_generated<K: Sink>(alloc: Global, number: u32, out: &mut K) -> Stat
     }
 }
 
-/// Flies the mission of a number, 0 to 999,999, and prints its summary.
+/// Flies the mission generated from a number, 0 to 999,999, and prints its summary.
 pub fn fly_generated<R: AllocGlobal + Threads + Wait + Sync, K: Sink>(
     rt: &R,
     number: u32,

@@ -1,10 +1,10 @@
-//! Laws of flights. Each function's contract is a law.
+//! The laws of flights. The contract of each function is a law.
 
 ghost use Rattle.flight_forms.specs.Assurance.{FlightsAreAssured};
 
 use trace_props::missions::reconfigurations_are_assured;
 
-/// Each flight that is answered with status 0 is assured.
+/// States that each answer with status 0 gives the assurance of its form.
 pub fn flights_are_assured()
     ensures { FlightsAreAssured }
 {

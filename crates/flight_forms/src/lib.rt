@@ -1,5 +1,5 @@
-//! The forms in which missions are flown: `run`, `watch`, `pair`, `replay`, `gen` and `fly`. Each prints the answer to
-//! the bytes of the files that its words name, and each flight is assured.
+//! The forms that fly missions: `run`, `watch`, `pair`, `replay`, `gen` and `fly`. The output of each is the answer to
+//! the bytes of the files that its words name. Each flight that is answered with status 0 is assured.
 #![tactic(auto)]
 
 mod boxes;

@@ -1,4 +1,4 @@
-//! The lines that answer a script or a flight, made without allocation.
+//! The lines that are printed for a script or a flight, made without allocating.
 
 ghost use Rattle.std.specs.Prelude.{◌≡◌, ◌+◌, ◌≤◌, ◌++◌, ◌<◌, ◌^◌, length};
 ghost use Rattle.scram_types.specs.declared.limits.TheConstants.{MAX_LINE_BYTES};
@@ -23,7 +23,7 @@ pub fn make_script_line(fault: &ScriptFault) -> Line
     line
 }
 
-/// Returns the line for a script that leaves the failure assumption, with the frame and the way in which it does.
+/// Returns the line for a script that leaves the failure assumption, with the frame in which it does and the reason.
 pub fn make_outside_line(outside: &Outside) -> Line
     ensures { result ≡ outside_line outside.now }
 {
@@ -36,8 +36,8 @@ pub fn make_outside_line(outside: &Outside) -> Line
     line
 }
 
-/// Returns the line for the flown mission of a number. It has the number of frames, the number of reconfigurations, the
-/// duration of the longest finished one in frames, and the last configuration that was run.
+/// Returns the line for the flight of a mission with a number. It has the number of frames, the number of
+/// reconfigurations, the duration of the longest finished one in frames, and the last configuration that was run.
 pub fn make_fly_line(number: u32, spec: &Spec, flown: &Flown) -> Line
     requires rows { length flown.now.rows < 2 ^ 32 }
     requires reports { length flown.now.reports < 2 ^ 32 }
@@ -58,7 +58,7 @@ pub fn make_fly_line(number: u32, spec: &Spec, flown: &Flown) -> Line
     line
 }
 
-/// Returns the line for a flight that was watched. It has the number of frames of a summary, the configuration and the
+/// Returns the line for a watched flight. It has the number of frames of a summary, the configuration and the
 /// processors that are up in its last row, and the number of reconfigurations begun.
 pub fn make_watch_line(spec: &Spec, summary: &Summary) -> Line
     ensures { result ≡ watch_line spec.now summary.now }

@@ -1,4 +1,4 @@
-//! Missions in two files.
+//! Missions whose specification and script are in two files.
 
 ghost use Rattle.std.specs.Prelude.{ℕ, List, ◌∷◌, []};
 ghost use Rattle.coverage_check.specs.Missions.{MissionParts};
@@ -19,14 +19,14 @@ use scram_io::Files;
 use scram_types::{Script, Spec};
 use std::alloc::Global;
 
-/// The names of the files of a mission.
+/// The names of the files of a mission's specification and script.
 #[derive(Clone, Copy)]
 pub struct MissionFiles<'a> {
     pub specification: &'a str,
     pub script: &'a str,
 }
 
-/// Reads the specification and the script, and returns their mission.
+/// Reads the specification and the script, and returns their mission, or the refusal if they make none.
 pub fn read_mission<F: Files>(
     alloc: Global,
     named: MissionFiles<'_>,
@@ -59,8 +59,8 @@ fn read_script<F: Files>(
     }
 }
 
-/// Returns the mission of a specification and a script that fits it. The specification must be accepted, and the script
-/// must keep to its failure assumption.
+/// Returns the mission of a specification and a script that fits it. Returns a refusal if the specification is not
+/// accepted or the script leaves its failure assumption.
 pub fn make_mission(alloc: Global, spec: Spec, script: Script) -> Result<Mission, Refusal>
     requires { Fits spec script }
     ensures { MakesMission spec script result }

@@ -1,4 +1,4 @@
-//! The form `pair`: a mission flown with the kernel on two units, one of which may halt. No thread is used.
+//! The form `pair`, which flies a mission with the kernel on two units, one of which may halt. It uses no threads.
 
 ghost use Rattle.std.specs.Prelude.{◌≡◌, ◌∷◌, [], IfOk};
 ghost use Rattle.frame_model.specs.Flights.{reports_of, rows_of};
@@ -21,7 +21,7 @@ use scram_io::{Files, Sink};
 use scram_types::{Flown, NoMemory};
 use std::alloc::Global;
 
-/// The names of the files of a mission, and the halt of a unit with which the mission is flown.
+/// The names of the files of a mission, and the halt of a unit during the flight.
 #[derive(Clone, Copy)]
 pub struct PairFiles<'a> {
     pub specification: &'a str,
@@ -29,7 +29,8 @@ pub struct PairFiles<'a> {
     pub halt: UnitHalt,
 }
 
-/// Flies the mission of two files with the kernel on two units, one of which halts, and prints its trace.
+/// Flies the mission of a specification and a script with the kernel on two units, one of which may halt, and prints
+/// its trace.
 pub fn pair_form<F: Files, K: Sink>(
     alloc: Global,
     named: PairFiles<'_>,
@@ -76,8 +77,8 @@ fn fly_pair<K: Sink>(
     }
 }
 
-// Returns the trace of a mission, flown in rounds. The function's frame has the states of the pair, which no other form
-// is to have on its stack, so it is not inlined.
+// Returns the trace of a mission that is flown in rounds. The function is not inlined, since its stack frame has the
+// states of the pair, which the other forms do not need.
 #[inline(never)]
 fn fly_on_units(
     alloc: Global,

@@ -1,4 +1,4 @@
-//! The form `replay`: a mission flown by a schedule. No thread is used.
+//! The form `replay`, which flies a mission by a schedule. It uses no threads.
 
 ghost use Rattle.std.specs.Prelude.{◌≡◌, ◌∷◌, []};
 ghost use Rattle.fault_script.specs.Fits.{Fits};
@@ -40,7 +40,7 @@ struct Replay {
     list: List<Event>,
 }
 
-/// Flies the mission of two files by the schedule in a third, and prints its trace.
+/// Flies the mission of a specification and a script by a schedule, and prints its trace.
 pub fn replay_form<F: Files, K: Sink>(
     alloc: Global,
     named: ReplayFiles<'_>,
@@ -159,7 +159,7 @@ fn fly_replay<K: Sink>(alloc: Global, replayed: &Replay, out: &mut K, boxes: Box
     }
 }
 
-/// Returns the refusal of a list that is no schedule to the end of the flight.
+/// Returns the refusal for an error of a replay.
 fn refusal_of(spec: &Spec, error: ReplayError) -> Refusal
     ensures { told result ≡ replay_refusal spec.now error }
 {

@@ -1,4 +1,4 @@
-//! The form `run`: a mission flown with a thread for each processor.
+//! The form `run`, which flies a mission with a thread for each processor.
 
 ghost use Rattle.std.specs.Prelude.{◌≡◌, ◌∷◌, [], ◌<◌, ◌^◌, IfOk, length};
 ghost use Rattle.frame_model.specs.Flights.{reports_of, rows_of};
@@ -24,16 +24,16 @@ use std::thread::Threads;
 use trace_text::put_trace;
 use word_deck::WordFlight;
 
-/// The text that is printed for a flight.
+/// The kind of text that is printed for a flight.
 #[derive(Clone, Copy, Debug, PartialEq, Eq)]
 pub enum FlightText {
     /// The whole trace of the flight.
     Trace,
-    /// One line, for the mission of this number.
+    /// The summary line of the mission with this number.
     Summary(u32),
 }
 
-/// Flies the mission of two files with a thread for each processor, and prints its trace.
+/// Flies the mission of a specification and a script with a thread for each processor, and prints its trace.
 pub fn run<R: AllocGlobal + Threads + Wait + Sync, F: Files, K: Sink>(
     rt: &R,
     named: MissionFiles<'_>,
@@ -57,7 +57,7 @@ pub fn run<R: AllocGlobal + Threads + Wait + Sync, F: Files, K: Sink>(
     }
 }
 
-/// Flies a mission with a thread for each processor, and prints a text of it.
+/// Flies a mission with a thread for each processor, and prints the text of the given kind.
 pub fn fly<R: AllocGlobal + Threads + Wait + Sync, K: Sink>(
     rt: &R,
     mission: &Mission,
@@ -77,7 +77,7 @@ pub fn fly<R: AllocGlobal + Threads + Wait + Sync, K: Sink>(
     }
 }
 
-// Returns the trace of a mission, flown with a thread for each processor.
+// Returns the trace of a mission that is flown with a thread for each processor.
 fn fly_on_threads<R: AllocGlobal + Threads + Wait + Sync>(
     rt: &R,
     mission: &Mission,
@@ -90,7 +90,7 @@ fn fly_on_threads<R: AllocGlobal + Threads + Wait + Sync>(
     Ok(flight.run(rt).flown)
 }
 
-/// Prints a text of a mission that was flown.
+/// Prints the text of the given kind for a mission that was flown.
 pub fn tell_flown<K: Sink>(
     out: &mut K,
     mission: &Mission,

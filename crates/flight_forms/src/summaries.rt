@@ -1,4 +1,4 @@
-//! The values in the line of a flight that come from its rows and reports.
+//! The values in the summary line of a flight that are computed from its rows and reports.
 
 ghost use Rattle.std.specs.Prelude.{◌≡◌};
 ghost use Rattle.flight_forms.specs.Summaries.{duration, last_run, longest_duration};

@@ -4,7 +4,7 @@ use Rattle.choice_forms.specs.Tables.{HasShares}
 use Rattle.spec_forms.specs.Bounds.{HasAskedBounds}
 use Rattle.idle_parts.specs.declared.choices.Chosen.{Chosen}
 
--- The shares of each configuration, and the required bounds.
+-- The value has the shares of each configuration and the bounds that acceptance requires.
 pub record IsChosenBy (spec : Parts) (chosen : Chosen) : Type 0 where
   pub shares : HasShares spec chosen.shares.items
   pub sets : HasAskedBounds spec chosen.sets

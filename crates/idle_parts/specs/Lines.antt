@@ -6,7 +6,7 @@ use Rattle.scram_types.specs.declared.specification.Bound.{Bound}
 use Rattle.idle_parts.specs.declared.lines.PartKind.{PartKind}
 use Rattle.idle_parts.specs.declared.lines.PartKind.TheVariants.{Rule, Conf, Factor, Bound as BoundKind, Mode, App, Proc, Demand}
 
--- The word for a kind of part.
+-- The word for a kind of parts.
 abbrev pub part_word : PartKind → List ℕ
 part_word Rule = codes "rule"
 part_word Conf = codes "configuration"
@@ -21,6 +21,6 @@ part_word Demand = codes "demand"
 abbrev pub idle_line : PartKind → List ℕ → List ℕ
 idle_line kind name = codes "  idle " ++ part_word kind ++ codes " " ++ name ++ codes "\n"
 
--- The names of the configurations of a bound.
+-- The names of the two configurations of a bound, with a space between them.
 abbrev pub pair_text : Parts → Bound → List ℕ
 pair_text spec bound = conf_name spec bound.from.0 ++ codes " " ++ conf_name spec bound.to.0

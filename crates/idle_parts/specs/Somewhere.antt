@@ -6,6 +6,6 @@ use Rattle.scram_types.specs.Specification.{Parts}
 use Rattle.choice_table.specs.Numbering.{environments}
 use Rattle.cube_cover.specs.Sizes.{passes_at}
 
--- A test passes in some environment in scope.
+-- Whether a test passes in some environment in scope.
 abbrev pub passes_somewhere : Parts → (Env → Bool) → Bool
 passes_somewhere spec test = any_below (passes_at spec test) (environments spec)

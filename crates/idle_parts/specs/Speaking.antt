@@ -1,4 +1,4 @@
--- The environment to which a demand applies, if it applies to any.
+-- The one environment in which to check whether a demand applies to any environment.
 use Rattle.std.specs.Prelude.{ℕ, not, ◌==◌, List, [], ◌∷◌, length, if◌then◌else◌}
 use Rattle.scram_types.specs.Bits.{bits_below, has_bit}
 use Rattle.scram_types.specs.Specification.{Parts}
@@ -6,7 +6,7 @@ use Rattle.scram_types.specs.declared.rows.Env.{Env}
 use Rattle.scram_types.specs.declared.specification.Demand.{Demand}
 use Rattle.scram_types.specs.declared.specification.Want.{Want}
 
--- The value that is required of factor `x`, or the first value if none is required.
+-- The value of the first requirement for factor `x`, or 0 if there is none.
 abbrev pub wanted_value : List Want → ℕ → ℕ
 wanted_value [] x = 0
 wanted_value (want ∷ wants) x = if want.factor.0 == x then want.value else wanted_value wants x

@@ -16,7 +16,7 @@ use Rattle.idle_parts.specs.Lines.{idle_line, pair_text}
 use Rattle.idle_parts.specs.Places.{is_app_idle, is_mode_idle, is_proc_idle}
 use Rattle.idle_parts.specs.Wants.{is_demand_idle, is_factor_idle}
 
--- The line of a part, if it is idle.
+-- The line of a part with this kind and name, or the empty text if the part is not idle.
 abbrev pub line_if : Bool → PartKind → List ℕ → List ℕ
 line_if is_idle kind name = if is_idle then idle_line kind name else []
 
@@ -45,12 +45,12 @@ abbrev pub mode_line : Parts → ℕ → ModeSpec → List ℕ
 mode_line spec a listed =
     line_if (is_mode_idle spec a listed.mode.0) kind.Mode (app_name spec a ++ codes " " ++ mode_text (kind_of_app spec a) listed.mode.0)
 
--- The lines of those of these modes of application number `a` that are idle.
+-- The lines of the idle modes among these modes of application number `a`.
 abbrev pub idle_modes_text : Parts → ℕ → List ModeSpec → List ℕ
 idle_modes_text spec a [] = []
 idle_modes_text spec a (listed ∷ modes) = mode_line spec a listed ++ idle_modes_text spec a modes
 
--- The lines of the idle modes that application number `a` lists.
+-- The lines of the idle modes of application number `a`.
 abbrev pub idle_modes_text_of : Parts → ℕ → List ℕ
 idle_modes_text_of spec a = option_map_or (λ (app : AppSpec). idle_modes_text spec a app.modes) (slice_get spec.apps a) []
 
@@ -70,8 +70,8 @@ idle_demand_text spec demand = line_if (is_demand_idle spec demand) kind.Demand 
 abbrev pub idle_demand_text_at : Parts → ℕ → List ℕ
 idle_demand_text_at spec k = option_map_or (idle_demand_text spec) (slice_get spec.demands k) []
 
--- The line of part number `n` of a kind, if the part is idle. For the kind of modes, the lines of the idle modes of
--- application number `n`.
+-- The line of part number `n` of a kind, if the part is idle. For the kind `Mode`, these are the lines of the idle
+-- modes of application number `n`.
 abbrev pub idle_part_text : Parts → PartKind → ℕ → List ℕ
 idle_part_text spec kind.Rule n = idle_rule_text spec n
 idle_part_text spec kind.Conf n = idle_conf_text spec n
@@ -82,7 +82,7 @@ idle_part_text spec kind.App n = idle_app_text spec n
 idle_part_text spec kind.Proc n = idle_proc_text spec n
 idle_part_text spec kind.Demand n = idle_demand_text_at spec n
 
--- The number of parts of a kind in a specification. For the kind of modes, the number of applications.
+-- The number of parts of a kind in a specification. For the kind `Mode`, this is the number of applications.
 abbrev pub part_count : Parts → PartKind → ℕ
 part_count spec kind.Rule = length spec.rules
 part_count spec kind.Conf = length spec.confs

@@ -1,4 +1,4 @@
--- The factors and demands that have no effect.
+-- The factors and demands that are idle, since they have no effect.
 use Rattle.std.specs.Prelude.{ℕ, Bool, not, ◌&&◌, ◌==◌, nat_lt, length}
 use Rattle.std.specs.List.{list_any}
 use Rattle.scram_types.specs.Lookups.{kind_of_app}
@@ -13,27 +13,27 @@ use Rattle.idle_parts.specs.declared.wants.TheConstants.{POWER_FACTORS}
 use Rattle.idle_parts.specs.Places.{is_app_placed}
 use Rattle.idle_parts.specs.Somewhere.{passes_somewhere}
 
--- A rule requires a value of factor x.
+-- Whether a rule requires a value of factor `x`.
 abbrev pub any_wants_factor : ℕ → Choice → Bool
 any_wants_factor x rule = list_any (λ (want : Want). want.factor.0 == x) rule.wants
 
--- Some rule requires a value of factor x.
+-- Whether some rule requires a value of factor `x`.
 abbrev pub is_factor_wanted : Parts → ℕ → Bool
 is_factor_wanted spec x = list_any (any_wants_factor x) spec.rules
 
--- Application `a` is a power monitor that some configuration places.
+-- Whether application `a` is a power monitor that some configuration places.
 abbrev pub is_placed_monitor : Parts → ℕ → Bool
 is_placed_monitor spec a = kind_of_app spec a == POWER_MONITOR && is_app_placed spec a
 
--- Factor x supplies power, and some configuration places an application that reads it.
+-- Whether factor `x` supplies power and some configuration places a power monitor.
 abbrev pub is_supply_read : Parts → ℕ → Bool
 is_supply_read spec x = nat_lt x POWER_FACTORS && any_below (is_placed_monitor spec) (length spec.apps)
 
--- No rule requires a value of factor `x`, and the factor is not a power supply that an application reads. Demands do
--- not count.
+-- Whether no rule requires a value of factor `x`, and the factor is not a power supply that a placed application reads.
+-- Demands do not count.
 abbrev pub is_factor_idle : Parts → ℕ → Bool
 is_factor_idle spec x = not (is_factor_wanted spec x) && not (is_supply_read spec x)
 
--- A demand applies to no environment in scope.
+-- Whether a demand applies to no environment in scope.
 abbrev pub is_demand_idle : Parts → Demand → Bool
 is_demand_idle spec demand = not (passes_somewhere spec (applies_in demand))

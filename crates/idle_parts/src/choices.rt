@@ -1,4 +1,4 @@
-//! The rules, configurations and bounds that no choice uses.
+//! The rules, configurations and bounds that are idle, since no choice uses them.
 
 ghost use Rattle.std.specs.Prelude.{◌≡◌, ◌<◌, ◌≤◌, IfOk, length};
 ghost use Rattle.scram_types.specs.Lookups.{conf_id};
@@ -16,8 +16,8 @@ use scram_types::{Bound, ConfId, List, NoMemory, Spec};
 use spec_forms::{find_asked, is_asked};
 use std::alloc::Global;
 
-// The possible choices from each configuration: the shares of the rules, and the configurations to which a bound is
-// required.
+// The possible choices from each configuration: the shares of the rules, and the set of configurations to which
+// acceptance requires a bound.
 #[derive(Drop)]
 pub(crate) struct Chosen {
     pub(crate) shares: Vec<List<Share>>,
@@ -33,7 +33,7 @@ pub(crate) fn find_chosen(alloc: Global, spec: &Spec) -> Result<Chosen, NoMemory
     Ok(Chosen { shares, sets })
 }
 
-// Returns whether rule `k` is the first that fits for no configuration and no environment in scope.
+// Returns whether there is no configuration and no environment in scope for which rule `k` is the first that fits.
 pub(crate) fn is_rule_idle(spec: &Spec, shares: &[List<Share>], k: u8) -> bool
     requires shares { HasShares spec.now shares.now }
     requires rule { k < length spec.now.rules }
@@ -55,7 +55,8 @@ fn is_rule_first(spec: &Spec, shares: &[List<Share>], k: u8) -> bool
     false
 }
 
-// Returns whether rule `k` is the first that fits configuration `i` in some environment in scope, by the shares of `i`.
+// Returns whether rule `k` is the first that fits configuration `i` in some environment in scope. `shares` are the
+// shares of configuration `i`.
 fn is_first_from(spec: &Spec, shares: &[Share], k: u8, i: u8) -> bool
     requires shares { AreShares spec.now (conf_id i) shares.now }
     requires rule { k < length spec.now.rules }
@@ -64,7 +65,8 @@ fn is_first_from(spec: &Spec, shares: &[Share], k: u8, i: u8) -> bool
     has_environment(spec, &shares[usize::from(k)], k, i)
 }
 
-// Returns the same from the share of the rule.
+// Returns whether rule `k` is the first that fits configuration `i` in some environment in scope, given the share of
+// the rule.
 fn has_environment(spec: &Spec, share: &Share, k: u8, i: u8) -> bool
     requires { IsShare spec.now (is_ruled_by spec.now (conf_id i) k) share.now }
     ensures { result ≡ is_first_from spec.now k i }
@@ -81,7 +83,7 @@ fn count_confs(spec: &Spec) -> u8
     spec.confs.items().len() as u8
 }
 
-// Returns whether a configuration is neither the start nor a possible target of another configuration.
+// Returns whether configuration `c` is neither the start nor a possible target of another configuration.
 pub(crate) fn is_conf_idle(spec: &Spec, sets: &[u16; 12], c: u8) -> bool
     requires sets { HasAskedBounds spec.now sets.now }
     requires conf { c < length spec.now.confs }
@@ -103,8 +105,8 @@ fn is_target_of_others(spec: &Spec, sets: &[u16; 12], c: u8) -> bool
     false
 }
 
-// Returns whether configuration `c` is a possible target of another configuration `i`. A bound is required for each
-// such target.
+// Returns whether `i` and `c` differ, and configuration `c` is a possible target of configuration `i`. `set` has the
+// targets to which acceptance requires a bound.
 fn is_target_of_other(spec: &Spec, set: u16, c: u8, i: u8) -> bool
     requires set { set ≡ asked_bounds spec.now (conf_id i) }
     requires conf { c < length spec.now.confs }
@@ -114,7 +116,8 @@ fn is_target_of_other(spec: &Spec, set: u16, c: u8, i: u8) -> bool
     i != c && is_asked(spec, set, ConfId(i), ConfId(c))
 }
 
-// Returns whether acceptance does not require a bound. `set` has the required targets of the bound's source.
+// Returns whether acceptance does not require a bound. `set` has the targets to which acceptance requires a bound from
+// the bound's source.
 pub(crate) fn is_bound_idle(spec: &Spec, set: u16, bound: &Bound) -> bool
     requires set { set ≡ asked_bounds spec.now bound.now.from }
     requires to { bound.now.to.0 < length spec.now.confs }

@@ -1,15 +1,15 @@
-//! The meaning of idle parts, as laws. Each function's contract is a law.
+//! The meaning of idle parts, stated as laws. The contract of each function is a law.
 
 ghost use Rattle.idle_parts.specs.Laws.{IdleConfsAreExact, IdleDemandsAreExact, IdleRulesAreExact};
 
-/// States that a rule is shown as idle if and only if it is the first that fits for no configuration and no environment
-/// in scope.
+/// States that a rule is shown as idle if and only if it is not the first that fits for any configuration in any
+/// environment in scope.
 pub fn idle_rules_are_exact()
     ensures { IdleRulesAreExact }
 {}
 
 /// States that a configuration is shown as idle if and only if it is neither the start nor a possible target of another
-/// one.
+/// configuration.
 pub fn idle_confs_are_exact()
     ensures { IdleConfsAreExact }
 {}

@@ -1,5 +1,5 @@
-//! The idle parts of a specification, which nothing uses, and their lines: rules, configurations, factors, bounds,
-//! modes, applications, processors and demands.
+//! The idle parts of a specification, and their lines. An idle part is a rule, configuration, factor, bound, mode,
+//! application, processor or demand that has no use in the specification.
 #![tactic(auto)]
 
 mod choices;

@@ -1,25 +1,25 @@
-//! The lines of idle parts, made without memory.
+//! The lines of idle parts, made without allocating.
 
 ghost use Rattle.std.specs.Prelude.{◌≡◌, ◌≤◌, length};
 ghost use Rattle.idle_parts.specs.Lines.{idle_line, part_word};
 
 use trace_text::lines::Line;
 
-// A kind of the parts of a specification.
+// A kind of parts of a specification.
 #[derive(Clone, Copy, Debug, PartialEq, Eq)]
 pub(crate) enum PartKind {
     Rule,
     Conf,
     Factor,
     Bound,
-    // The modes of an application.
+    // The kind of the modes of applications.
     Mode,
     App,
     Proc,
     Demand,
 }
 
-// Returns the line of an idle part, given its kind and its name of at most 64 bytes.
+// Returns the line of an idle part, given its kind and its name or number of at most 64 bytes.
 pub(crate) fn make_idle_line(kind: PartKind, name: &[u8]) -> Line
     requires { length name.now ≤ 64 }
     ensures { result ≡ idle_line kind name.now }

@@ -1,4 +1,4 @@
-//! The modes, applications and processors that no configuration uses.
+//! The modes, applications and processors that are idle, since no configuration uses them.
 
 ghost use Rattle.std.specs.Prelude.{◌≡◌};
 ghost use Rattle.std.specs.List.{list_any};

@@ -80,7 +80,7 @@ fn part_count(spec: &Spec, kind: PartKind) -> u8
     count as u8
 }
 
-// Appends the line of part number `n` of a kind, if the part is idle. For the kind of modes, appends the lines of the
+// Appends the line of part number `n` of a kind, if the part is idle. For the kind `Mode`, appends the lines of the
 // idle modes of application number `n`.
 fn add_part(
     text: &mut Vec<u8>,
@@ -166,7 +166,7 @@ fn add_bound(text: &mut Vec<u8>, spec: &Spec, set: u16, bound: &Bound) -> Result
     )
 }
 
-// Returns the names of the configurations of a bound.
+// Returns the names of the two configurations of a bound, with a space between them.
 fn make_pair(spec: &Spec, bound: &Bound) -> Line
     ensures text { result ≡ pair_text spec.now bound.now }
     ensures short { length result ≤ 33 }
@@ -252,7 +252,7 @@ fn add_demand(text: &mut Vec<u8>, spec: &Spec, demand: &Demand) -> Result<(), Al
     add_if(text, is_demand_idle(spec, demand), PartKind::Demand, name)
 }
 
-// Appends the line of a part, if it is idle.
+// Appends the line of a part with this kind and name, if the part is idle.
 fn add_if(text: &mut Vec<u8>, is_idle: bool, kind: PartKind, name: &[u8]) -> Result<(), AllocError>
     requires { length name.now ≤ 64 }
     ensures { OnOk result (text.new.items ≡ text.old.items ++ line_if is_idle kind name.now) }

@@ -1,4 +1,4 @@
-//! The factors and demands that have no effect.
+//! The factors and demands that are idle, since they have no effect.
 
 ghost use Rattle.std.specs.Prelude.{◌≡◌, ◌<◌, ◌≤◌, ◌^◌, ◌&&◌, length, not};
 ghost use Rattle.choice_table.specs.Demands.{applies_in};
@@ -15,10 +15,11 @@ use choice_table::{applies_in, in_scope};
 use scram_types::bits::has_bit;
 use scram_types::{AppId, Choice, Demand, Env, FactorId, Spec, Want};
 
-/// The number of factors, from the first on, that supply power. Power monitors read them.
+/// The number of factors that supply power. They are the first factors, and power monitors read them.
 pub const POWER_FACTORS: u8 = 2;
 
-// Returns whether no rule requires a value of a factor, and the factor is not a power supply that an application reads.
+// Returns whether no rule requires a value of a factor, and the factor is not a power supply that a placed application
+// reads.
 pub(crate) fn is_factor_idle(spec: &Spec, factor: FactorId) -> bool
     ensures { result ≡ is_factor_idle spec.now factor.0 }
 {
@@ -85,7 +86,7 @@ pub(crate) fn is_demand_idle(spec: &Spec, demand: &Demand) -> bool
     !speaks_in_scope(spec, demand, &env)
 }
 
-// Returns whether an environment is in scope and a demand applies to it.
+// Returns whether an environment is in scope and a demand applies to the environment.
 fn speaks_in_scope(spec: &Spec, demand: &Demand, env: &Env) -> bool
     ensures { result ≡ (in_scope spec.now env.now && applies_in demand.now env.now) }
 {
@@ -111,7 +112,7 @@ fn make_spoken(spec: &Spec, demand: &Demand) -> Env
     }
 }
 
-// Returns the processors that are not in a set.
+// Returns the set of the processors that are not in the set `down`.
 fn others_up(spec: &Spec, down: u8) -> u8
     ensures { result ≡ bits_below (λ p. not (has_bit down p)) (length spec.now.procs) }
 {

@@ -1,28 +1,29 @@
 -- Pieces of a picture: boxes, names and labels.
 use Rattle.std.specs.Prelude.{ℕ, zero, suc, ◌+◌, ◌*◌, List, [], ◌++◌, length, nat_le, codes, decimal, if◌then◌else◌}
 
--- The attributes of a position.
+-- The attributes of a position, `x` and `y`.
 unfoldable pub place_text : ℕ → ℕ → List ℕ
 place_text x y = codes " x=\"" ++ decimal x ++ codes "\" y=\"" ++ decimal y ++ codes "\""
 
--- The attributes of the position and the size of a box.
+-- The attributes of the position and the size of a box, whose height is 16 pixels.
 unfoldable pub box_text : ℕ → ℕ → ℕ → List ℕ
 box_text x y width = place_text x y ++ codes " width=\"" ++ decimal width ++ codes "\" height=\"16\""
 
--- The name of a lane, which ends before the rows of the lane begin.
+-- The name of a lane, set to the left of the lane's rows.
 abbrev pub name_text : ℕ → List ℕ → List ℕ
 name_text y name = codes "<text class=\"name\" x=\"128\" y=\"" ++ decimal y ++ codes "\">" ++ name ++ codes "</text>"
 
--- A text of a class at a position.
+-- A text element with a class and a position.
 unfoldable pub placed_text : List ℕ → ℕ → ℕ → List ℕ → List ℕ
 placed_text class x y text =
     codes "<text class=\"" ++ class ++ codes "\"" ++ place_text x y ++ codes ">" ++ text ++ codes "</text>"
 
--- A label in a box, or the empty text if it does not fit. No letter is wider than 7 pixels.
+-- A label in a box, or the empty text if the box is too narrow. A letter counts as 7 pixels wide.
 abbrev pub label_text : ℕ → ℕ → ℕ → List ℕ → List ℕ
 label_text x y width label = if nat_le (7 * length label + 3) width then placed_text (codes "value") (x + 3) (y + 12) label else []
 
--- The frames of a span, from row `k` on.
+-- The numbers of the first and the last frame of a span that begins in row `k`, or the empty text if the span has no
+-- rows.
 abbrev pub frames_text : ℕ → ℕ → List ℕ
 frames_text k zero = []
 frames_text k (suc zero) = codes " frame " ++ decimal k

@@ -1,4 +1,4 @@
--- Altitude and heading as lines.
+-- The curves of quantities.
 use Rattle.std.specs.Prelude.{ℕ, ℤ, ◌+◌, ◌-◌, ◌*◌, ◌/◌, ◌==◌, Bool, true, false, List, [], ◌++◌, length, slice_get, nat_lt, Option, Some, None, codes, decimal, if◌then◌else◌}
 use Rattle.std.specs.Fmt.{signed_decimal}
 use Rattle.std.specs.Int.{int_gap}
@@ -15,65 +15,65 @@ use Rattle.picture_form.specs.Sheets.{scale_of, x_of}
 use Rattle.picture_form.specs.declared.curves.Curve.{Curve}
 use Rattle.picture_form.specs.declared.sheets.Sheet.{Sheet}
 
--- The distance of two numbers.
+-- The distance between two numbers.
 abbrev pub distance : ℤ → ℤ → ℕ
 distance a b = int_gap a b + int_gap b a
 
--- The position of a number between the extremes, in tenths of a pixel from the top. It is 480 for the minimum, 0 for
+-- The distance of a number from the top of its curve, in tenths of a pixel. The distance is 480 for the minimum, 0 for
 -- the maximum, and 240 if the extremes are equal.
 abbrev pub drop_of : Extremes → ℤ → ℕ
 drop_of extremes number =
     if distance extremes.least extremes.greatest == 0 then 240
     else 480 - distance extremes.least number * 480 / distance extremes.least extremes.greatest
 
--- Whether a heading crosses north between two rows, which interrupts the line.
+-- Whether the quantity is the heading and it crosses north between two rows, which interrupts the curve.
 abbrev pub crosses_north : Quantity → ℤ → ℤ → Bool
 crosses_north Altitude before number = false
 crosses_north Climb before number = false
 crosses_north Heading before number = nat_lt 1800 (distance before number)
 crosses_north Bank before number = false
 
--- Whether a line leads to a row from the previous row.
+-- Whether the curve joins a row to the preceding row.
 abbrev pub is_joined : Quantity → Option Row → Row → Bool
 is_joined quantity None row = false
 is_joined quantity (Some before) row =
     if crosses_north quantity (quantity_of quantity before.world) (quantity_of quantity row.world) then false else true
 
--- The point of row `k`.
+-- The point of row `k` on a curve, or the empty text if there is no such row.
 abbrev pub point_text : List Row → Curve → ℕ → List ℕ
 point_text rows curve k =
     option_map_or (λ (row : Row). (if is_joined curve.quantity (row_before rows k) row then codes "L" else codes "M") ++ decimal k ++ codes " "
     ++ decimal (drop_of curve.extremes (quantity_of curve.quantity row.world))) (slice_get rows k) []
 
--- The name and the unit of a quantity, from `y` on.
+-- The name of a quantity, and its unit below the name. The curve's top is at `y`.
 abbrev pub curve_names : ℕ → List ℕ → List ℕ → List ℕ
 curve_names y name unit = name_text (y + 20) name ++ placed_text (codes "name note") 128 (y + 34) unit ++ codes "\n"
 
--- The beginning of a line through the middle of each row.
+-- The start of a path whose points are at the middle of each row.
 abbrev pub curve_begin : Sheet → ℕ → List ℕ
 curve_begin sheet y =
     codes "<path class=\"line\" transform=\"translate(" ++ decimal (x_of sheet 0 + scale_of sheet.rows / 2) ++ codes " " ++ decimal y
     ++ codes ") scale(" ++ decimal (scale_of sheet.rows) ++ codes " .1)\" d=\""
 
--- The end of a line, and its extremes beside it.
+-- The end of a path, and the extremes of the quantity to the right of its curve.
 abbrev pub curve_end : Sheet → ℕ → Extremes → List ℕ
 curve_end sheet y extremes =
     codes "\"/>\n" ++ placed_text (codes "note") (x_of sheet sheet.rows + 8) (y + 8) (signed_decimal extremes.greatest)
     ++ placed_text (codes "note") (x_of sheet sheet.rows + 8) (y + 48) (signed_decimal extremes.least) ++ codes "\n"
 
--- The points of a line, and its end.
+-- The points of a curve, followed by the end of its path.
 abbrev pub points_text : Sheet → List Row → Curve → List ℕ
 points_text sheet rows curve = texts_below (point_text rows curve) (length rows) ++ curve_end sheet curve.y curve.extremes
 
--- A line through all rows.
+-- The path of a curve, with a point for each row.
 abbrev pub curve_line_text : Sheet → List Row → Curve → List ℕ
 curve_line_text sheet rows curve = curve_begin sheet curve.y ++ points_text sheet rows curve
 
--- A quantity as a line between its extremes, or the empty text if there are none.
+-- The curve of a quantity with these extremes, or the empty text if there are none.
 abbrev pub line_between : Sheet → List Row → Quantity → ℕ → Option Extremes → List ℕ
 line_between sheet rows quantity y None = []
 line_between sheet rows quantity y (Some extremes) = curve_line_text sheet rows (record { quantity = quantity; y = y; extremes = extremes })
 
--- A quantity as a line.
+-- The curve of a quantity, or the empty text if the flight has no rows.
 abbrev pub curve_text : Sheet → List Row → Quantity → ℕ → List ℕ
 curve_text sheet rows quantity y = line_between sheet rows quantity y (extremes_of quantity rows)

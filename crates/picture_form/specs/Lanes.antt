@@ -13,22 +13,22 @@ use Rattle.picture_form.specs.declared.spans.Strip.{Strip}
 abbrev pub spans_text : Parts → Sheet → List Row → Strip → List ℕ
 spans_text spec sheet rows strip = texts_below (span_text spec sheet rows strip) (length rows)
 
--- Lane `n` of the factors, the processors and the applications, in order, with its position.
+-- Lane `n` with its top. The lanes are those of the factors, the processors and the applications, in this order.
 abbrev pub strip_of : Sheet → ℕ → Strip
 strip_of sheet n = record { lane = lane_of sheet n; y = lane_y sheet n }
 
--- The line of the name of a lane.
+-- The name of a lane, and a line feed.
 abbrev pub name_line : Parts → Strip → List ℕ
 name_line spec strip = name_text (strip.y + 12) (lane_name spec strip.lane) ++ codes "\n"
 
--- A lane with its name.
+-- The name and the spans of a lane.
 abbrev pub strip_text : Parts → Sheet → List Row → Strip → List ℕ
 strip_text spec sheet rows strip = name_line spec strip ++ spans_text spec sheet rows strip
 
--- Lane `n` with its name.
+-- The name and the spans of lane `n`.
 abbrev pub lane_text : Parts → Sheet → List Row → ℕ → List ℕ
 lane_text spec sheet rows n = strip_text spec sheet rows (strip_of sheet n)
 
--- All lanes of factors, processors and applications.
+-- The lanes of all factors, processors and applications.
 abbrev pub lanes_text : Parts → Sheet → List Row → List ℕ
 lanes_text spec sheet rows = texts_below (lane_text spec sheet rows) (lanes_of sheet)

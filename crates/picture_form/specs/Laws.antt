@@ -1,4 +1,4 @@
--- The theorem that flights with the same picture show the same, and what a picture shows of a flight.
+-- The law that two flights with the same picture show the same, and the flights and traces for which it holds.
 use Rattle.std.specs.Prelude.{◌≡◌, ◌<◌, ◌^◌, ℕ, true, List, Option, filter, length, map, nat_lt, option_map, slice_get, slice_index, Some}
 use lib.Signed.{mag}
 use Rattle.scram_types.specs.Specification.{Each, IsSpec, Parts}
@@ -19,30 +19,30 @@ use Rattle.picture_form.specs.Picture.{picture_text}
 use Rattle.picture_form.specs.Reconfigurations.{report_title}
 use Rattle.picture_form.specs.Sheets.{lane_of, lanes_of, sheet_of}
 
--- A row can be drawn: the values of factors are bytes, each application has an act that it can have, and altitude and
--- heading are signed 64-bit numbers.
+-- A row can be drawn. The values of its factors are bytes, each application has an act that it can have, and altitude
+-- and heading are signed 64-bit numbers.
 pub record IsRowDrawn (spec : Parts) (row : Row) : Type 0 where
   pub values : (x : ℕ) → slice_index row.env.factors x < 2 ^ 8
   pub acts : (a : ℕ) (app : AppSpec) → slice_get spec.apps a ≡ Some app → IsActShown spec app (act_of row a)
   pub altitude : mag row.world.alt < 2 ^ 63
   pub heading : mag row.world.heading < 2 ^ 63
 
--- The frames of a reconfiguration are 32-bit numbers.
+-- A report can be drawn: its frames are 32-bit numbers.
 pub record IsReportDrawn (report : Report) : Type 0 where
   pub begin : report.begin < 2 ^ 32
   pub end : report.end < 2 ^ 32
 
--- A flight can be drawn: the number of its rows has 32 bits, and each row and each report can be drawn.
+-- A flight can be drawn: it has fewer than `2 ^ 32` rows, and each of its rows and reports can be drawn.
 pub record IsDrawn (spec : Parts) (rows : List Row) (reports : List Report) : Type 0 where
   pub few : length rows < 2 ^ 32
   pub rows_drawn : Each (IsRowDrawn spec) rows
   pub reports_drawn : Each IsReportDrawn reports
 
--- The reconfigurations that begin in one of the first `frames` rows.
+-- The reports of the reconfigurations that begin in one of the first `frames` rows.
 abbrev pub drawn_in : ℕ → List Report → List Report
 drawn_in frames reports = filter (λ (report : Report). nat_lt report.begin frames) reports
 
--- The lines of these reconfigurations in the trace, with `>` escaped.
+-- The titles of the reconfigurations that begin in one of the first `frames` rows.
 abbrev pub drawn_titles : Parts → ℕ → List Report → List (List ℕ)
 drawn_titles spec frames reports = map (report_title spec) (drawn_in frames reports)
 
@@ -50,14 +50,14 @@ drawn_titles spec frames reports = map (report_title spec) (drawn_in frames repo
 abbrev pub drop_at : Quantity → Extremes → List Row → ℕ → Option ℕ
 drop_at quantity extremes rows k = option_map (λ (row : Row). drop_of extremes (quantity_of quantity row.world)) (slice_get rows k)
 
--- The curves of two flights are equal: they have the same extremes, and each row is drawn at the same height.
+-- Two flights have the same curve of a quantity. The extremes are the same, and each row is drawn at the same height.
 pub record DrawnAlike (quantity : Quantity) (rows others : List Row) : Type 0 where
   pub extremes : extremes_of quantity rows ≡ extremes_of quantity others
   pub drops : (ends : Extremes) (k : ℕ) → extremes_of quantity rows ≡ Some ends → k < length rows
       → drop_at quantity ends rows k ≡ drop_at quantity ends others k
 
 -- Two flights show the same. They have the same number of rows, and each row shows the same in the lane of each factor,
--- processor and application. The reconfigurations that begin in a row have the same lines, and altitude and heading
+-- processor and application. The reconfigurations that begin in a row have the same titles, and altitude and heading
 -- have the same curves.
 pub record ShowTheSame (spec : Parts) (rows others : List Row) (reports reported : List Report) : Type 0 where
   pub frames : length rows ≡ length others
@@ -67,15 +67,15 @@ pub record ShowTheSame (spec : Parts) (rows others : List Row) (reports reported
   pub altitude : DrawnAlike Altitude rows others
   pub heading : DrawnAlike Heading rows others
 
--- Flights of one specification that have the same picture show the same.
+-- If two flights of one specification can be drawn and have the same picture, they show the same.
 abbrev pub EqualPicturesShowTheSame : Type 0
 EqualPicturesShowTheSame = (spec : Parts) (rows others : List Row) (reports reported : List Report) → IsSpec spec → IsDrawn spec rows reports
     → IsDrawn spec others reported → picture_text spec rows reports ≡ picture_text spec others reported → ShowTheSame spec rows others reports reported
 
--- Every flight can be drawn.
+-- Every flight of a specification can be drawn.
 abbrev pub FlightsAreDrawn : Type 0
 FlightsAreDrawn = (spec : Parts) (rows : List Row) (reports : List Report) → IsSpec spec → IsFlight spec rows reports → IsDrawn spec rows reports
 
--- A trace that is read can be drawn.
+-- Every trace that can be read can be drawn.
 abbrev pub TracesAreDrawn : Type 0
 TracesAreDrawn = (spec : Parts) (flown : Flown) (bytes : List ℕ) → IsSpec spec → SaysTrace spec flown bytes → IsDrawn spec flown.rows flown.reports

@@ -1,4 +1,4 @@
--- A trace as a picture.
+-- The picture of a flight.
 use Rattle.std.specs.Prelude.{ℕ, ◌+◌, ◌*◌, List, ◌++◌, length, codes, decimal}
 use Rattle.scram_types.specs.Specification.{Parts}
 use Rattle.scram_types.specs.declared.rows.Report.{Report}
@@ -16,43 +16,43 @@ use Rattle.picture_form.specs.declared.spans.Strip.{Strip}
 use Rattle.picture_form.specs.Styles.{part_text}
 use Rattle.picture_form.specs.declared.styles.Part.TheVariants.{Style, Names, Legend}
 
--- The beginning of the document, with its size.
+-- The opening tag of the document, with the picture's size.
 abbrev pub open_line : Sheet → List ℕ
 open_line sheet =
     codes "<svg xmlns=\"http://www.w3.org/2000/svg\" width=\"" ++ decimal (sheet_width sheet) ++ codes "\" height=\"" ++ decimal (sheet_height sheet)
     ++ codes "\" viewBox=\"0 0 " ++ decimal (sheet_width sheet) ++ codes " " ++ decimal (sheet_height sheet) ++ codes "\">\n"
 
--- The beginning of the document, and its styles.
+-- The opening tag of the document, followed by its styles.
 abbrev pub head_text : Sheet → List ℕ
 head_text sheet = open_line sheet ++ part_text Style
 
--- A vertical line at a row, and the row's number.
+-- A vertical line at row `k`, with the row's number below.
 abbrev pub tick_line : Sheet → ℕ → List ℕ
 tick_line sheet k =
     codes "<path class=\"tick\" d=\"M" ++ decimal (x_of sheet k) ++ codes " 44V" ++ decimal (bottom_of sheet) ++ codes "\"/><text class=\"axis\" x=\""
     ++ decimal (x_of sheet k) ++ codes "\" y=\"" ++ decimal (bottom_of sheet + 14) ++ codes "\">" ++ decimal k ++ codes "</text>\n"
 
--- Tick `j`.
+-- The line of tick `j`.
 abbrev pub tick_text : Sheet → ℕ → List ℕ
 tick_text sheet j = tick_line sheet (j * rows_of_tick sheet.rows)
 
--- All ticks.
+-- The lines of all ticks.
 abbrev pub ticks_text : Sheet → List ℕ
 ticks_text sheet = texts_below (tick_text sheet) (ticks_of sheet)
 
--- The lines in the background of the lanes.
+-- The vertical lines behind the lanes: the ticks, and the starts of the reconfigurations.
 abbrev pub grid_text : Sheet → List Report → List ℕ
 grid_text sheet reports = ticks_text sheet ++ texts_below (begin_text sheet reports) (length reports)
 
--- The lane of configurations.
+-- The lane of configurations, with its top.
 abbrev pub conf_strip : Strip
 conf_strip = record { lane = Configuration; y = 20 }
 
--- The first two names, and the stable configurations.
+-- The names of the first two lanes, and the spans of the stable configurations.
 abbrev pub stable_spans : Parts → Sheet → List Row → List ℕ
 stable_spans spec sheet rows = part_text Names ++ spans_text spec sheet rows conf_strip
 
--- Configurations and reconfigurations.
+-- The first two lanes, which show configurations and reconfigurations.
 abbrev pub top_text : Parts → Sheet → List Row → List Report → List ℕ
 top_text spec sheet rows reports = stable_spans spec sheet rows ++ texts_below (reconfiguration_boxes spec sheet reports) (length reports)
 
@@ -70,51 +70,51 @@ quantity_unit Climb = codes "0.1 ft"
 quantity_unit Heading = codes "0.1 deg"
 quantity_unit Bank = codes "0.1 deg"
 
--- The name and the unit of a quantity, from `y` on.
+-- The name of a quantity, and its unit below the name. The curve's top is at `y`.
 abbrev pub names_text : Quantity → ℕ → List ℕ
 names_text quantity y = curve_names y (quantity_name quantity) (quantity_unit quantity)
 
--- A quantity as a line, with its name and its unit.
+-- The curve of a quantity, with the quantity's name and unit.
 abbrev pub quantity_text : Sheet → List Row → Quantity → ℕ → List ℕ
 quantity_text sheet rows quantity y = names_text quantity y ++ curve_text sheet rows quantity y
 
--- The altitude.
+-- The curve of the aircraft's altitude, with its name and unit.
 abbrev pub altitude_text : Sheet → List Row → List ℕ
 altitude_text sheet rows = quantity_text sheet rows Altitude (curves_y sheet)
 
--- The heading.
+-- The curve of the aircraft's heading, with its name and unit.
 abbrev pub heading_text : Sheet → List Row → List ℕ
 heading_text sheet rows = quantity_text sheet rows Heading (curves_y sheet + 64)
 
--- Altitude and heading.
+-- The curves of altitude and heading.
 abbrev pub curves_text : Sheet → List Row → List ℕ
 curves_text sheet rows = altitude_text sheet rows ++ heading_text sheet rows
 
--- The beginning of the legend, with its position.
+-- The opening tag of the legend, with its position.
 abbrev pub legend_line : Sheet → List ℕ
 legend_line sheet = codes "<g transform=\"translate(0 " ++ decimal (bottom_of sheet + 28) ++ codes ")\">\n"
 
--- The legend, and the end of the document.
+-- The legend, followed by the end of the document.
 abbrev pub legend_text : Sheet → List ℕ
 legend_text sheet = legend_line sheet ++ part_text Legend
 
--- The part below the lanes.
+-- The part of the picture below the lanes: the curves and the legend.
 abbrev pub foot_text : Sheet → List Row → List ℕ
 foot_text sheet rows = curves_text sheet rows ++ legend_text sheet
 
--- The lanes, and the part below them.
+-- The lanes of factors, processors and applications, and the part of the picture below them.
 abbrev pub lanes_and_foot : Parts → Sheet → List Row → List ℕ
 lanes_and_foot spec sheet rows = lanes_text spec sheet rows ++ foot_text sheet rows
 
--- The part in front of the grid.
+-- All that is drawn in front of the grid.
 abbrev pub front_text : Parts → Sheet → List Row → List Report → List ℕ
 front_text spec sheet rows reports = top_text spec sheet rows reports ++ lanes_and_foot spec sheet rows
 
--- The picture without its head.
+-- The document of a picture after its opening tag and its styles.
 abbrev pub body_text : Parts → Sheet → List Row → List Report → List ℕ
 body_text spec sheet rows reports = grid_text sheet reports ++ front_text spec sheet rows reports
 
--- The picture on a sheet.
+-- The picture of a flight on a sheet.
 abbrev pub sheet_text : Parts → Sheet → List Row → List Report → List ℕ
 sheet_text spec sheet rows reports = head_text sheet ++ body_text spec sheet rows reports
 

@@ -12,22 +12,23 @@ use Rattle.picture_form.specs.Boxes.{box_text}
 use Rattle.picture_form.specs.Sheets.{bottom_of, width_of, x_of}
 use Rattle.picture_form.specs.declared.sheets.Sheet.{Sheet}
 
--- A vertical line at the beginning of a reconfiguration.
+-- A vertical line at the start of a reconfiguration.
 abbrev pub begin_line : Sheet → ℕ → List ℕ
 begin_line sheet begin =
     codes "<path class=\"begin\" d=\"M" ++ decimal (x_of sheet begin) ++ codes " 44V" ++ decimal (bottom_of sheet) ++ codes "\"/>\n"
 
--- The vertical line of reconfiguration `n`, or the empty text if it does not begin in a row.
+-- The vertical line at the start of reconfiguration `n`, or the empty text if the reconfiguration does not begin in a
+-- row.
 abbrev pub begin_text : Sheet → List Report → ℕ → List ℕ
 begin_text sheet reports n =
     option_map_or (λ (report : Report). if nat_lt report.begin sheet.rows then begin_line sheet report.begin else []) (slice_get reports n) []
 
--- The end of a reconfiguration, or `-` if it has no target.
+-- The last frame of a reconfiguration, or `-` if the reconfiguration has no target.
 abbrev pub end_text : Report → Option ConfId → List ℕ
 end_text report None = codes "-"
 end_text report (Some to) = decimal report.end
 
--- The beginning, the end and the length of a reconfiguration, and the bound on its length.
+-- The first frame, the last frame and the length of a reconfiguration, and the bound on its length.
 unfoldable pub times_text : Parts → Report → List ℕ
 times_text spec report = codes " begin " ++ decimal report.begin ++ codes " end " ++ end_text report report.to ++ length_text report (bound_of spec report)
 
@@ -35,28 +36,28 @@ times_text spec report = codes " begin " ++ decimal report.begin ++ codes " end 
 unfoldable pub route_text : Parts → ConfId → Option ConfId → List ℕ
 route_text spec from to = codes "reconfiguration " ++ conf_name spec from.0 ++ codes " &gt; " ++ conf_or_dash spec to
 
--- The line of a reconfiguration in the trace.
+-- The title of a reconfiguration: its line in the trace, with `>` escaped.
 unfoldable pub report_title : Parts → Report → List ℕ
 report_title spec report = route_text spec report.from report.to ++ times_text spec report
 
--- The width of the rows from `begin` to `last` or to the last row.
+-- The width of the rows from `begin` to `last`, inclusive, or to the last row of the flight if this is earlier.
 abbrev pub rows_width : Sheet → ℕ → ℕ → ℕ
 rows_width sheet begin last = width_of sheet (min last (sheet.rows - 1) + 1 - begin)
 
--- The outline of a bound, or the empty text if there is none.
+-- The outline of the rows that a bound allows, or the empty text if there is no bound.
 abbrev pub bound_rect : Sheet → ℕ → Option ℕ → List ℕ
 bound_rect sheet begin None = []
 bound_rect sheet begin (Some bound) =
     codes "<rect class=\"bound\"" ++ box_text (x_of sheet begin) 48 (rows_width sheet begin (begin + bound)) ++ codes "/>\n"
 
--- A reconfiguration from its beginning to its end, with its bound.
+-- The box of a reconfiguration with its title, preceded by the outline of its bound.
 abbrev pub report_boxes : Parts → Sheet → Report → List ℕ
 report_boxes spec sheet report =
     bound_rect sheet report.begin (bound_of spec report) ++ codes "<rect class=\"reconfiguration\""
     ++ box_text (x_of sheet report.begin) 48 (rows_width sheet report.begin report.end) ++ codes "><title>"
     ++ report_title spec report ++ codes "</title></rect>\n"
 
--- Reconfiguration `n` with its bound, or the empty text if it does not begin in a row.
+-- The boxes of reconfiguration `n`, or the empty text if the reconfiguration does not begin in a row.
 abbrev pub reconfiguration_boxes : Parts → Sheet → List Report → ℕ → List ℕ
 reconfiguration_boxes spec sheet reports n =
     option_map_or (λ (report : Report). if nat_lt report.begin sheet.rows then report_boxes spec sheet report else []) (slice_get reports n) []

@@ -6,33 +6,34 @@ use Rattle.flight_facts.specs.declared.spans.Lane.{Lane}
 use Rattle.flight_facts.specs.declared.spans.Lane.TheVariants.{Factor, Processor, Application}
 use Rattle.picture_form.specs.declared.sheets.Sheet.{Sheet}
 
--- The numbers of rows and of lanes of a flight.
+-- The sheet of a flight: the number of its rows, and the numbers of the factors, processors and applications of its
+-- specification.
 abbrev pub sheet_of : Parts → List Row → Sheet
 sheet_of spec rows = record { rows = length rows; factors = length spec.factors; procs = length spec.procs; apps = length spec.apps }
 
--- A sheet has no more lanes than a specification can have.
+-- A sheet has no more factors, processors and applications than a specification can have.
 pub record IsSheet (sheet : Sheet) : Type 0 where
   pub factors : sheet.factors ≤ 6
   pub procs : sheet.procs ≤ 8
   pub apps : sheet.apps ≤ 8
 
--- The width of a row.
+-- The width of a row in a picture of this number of rows.
 abbrev pub scale_of : ℕ → ℕ
 scale_of rows = if nat_lt 8000 rows then 1 else (if nat_lt 4000 rows then 2 else (if nat_lt 2000 rows then 4 else 8))
 
--- The number of rows from one tick to the next.
+-- The number of rows from one tick to the next in a picture of this number of rows.
 abbrev pub rows_of_tick : ℕ → ℕ
 rows_of_tick rows = if nat_lt 8000 rows then 100 else (if nat_lt 4000 rows then 50 else (if nat_lt 2000 rows then 25 else 10))
 
--- The number of ticks.
+-- The number of ticks on a sheet.
 abbrev pub ticks_of : Sheet → ℕ
 ticks_of sheet = sheet.rows / rows_of_tick sheet.rows + 1
 
--- The left edge of row `k`.
+-- The x-coordinate of the left edge of row `k`.
 abbrev pub x_of : Sheet → ℕ → ℕ
 x_of sheet k = 136 + scale_of sheet.rows * k
 
--- The width of a number of rows.
+-- The width of `rows` rows.
 abbrev pub width_of : Sheet → ℕ → ℕ
 width_of sheet rows = scale_of sheet.rows * rows
 
@@ -40,7 +41,7 @@ width_of sheet rows = scale_of sheet.rows * rows
 abbrev pub lanes_of : Sheet → ℕ
 lanes_of sheet = sheet.factors + sheet.procs + sheet.apps
 
--- Lane `n` of the lanes of factors, processors and applications, in this order.
+-- Lane `n`. The lanes are those of the factors, the processors and the applications, in this order.
 abbrev pub lane_of : Sheet → ℕ → Lane
 lane_of sheet n =
     if nat_lt n sheet.factors then Factor n
@@ -50,19 +51,19 @@ lane_of sheet n =
 abbrev pub room_above : Sheet → ℕ → ℕ
 room_above sheet n = if nat_lt n sheet.factors then 0 else (if nat_lt n (sheet.factors + sheet.procs) then 8 else 16)
 
--- The top of lane `n`.
+-- The y-coordinate of the top of lane `n`.
 abbrev pub lane_y : Sheet → ℕ → ℕ
 lane_y sheet n = 72 + 20 * n + room_above sheet n
 
--- The top of the curves, below all lanes.
+-- The y-coordinate of the top of the first curve, which is below all lanes.
 abbrev pub curves_y : Sheet → ℕ
 curves_y sheet = 96 + 20 * lanes_of sheet
 
--- The bottom of the second curve.
+-- The y-coordinate of the bottom of the second curve.
 abbrev pub bottom_of : Sheet → ℕ
 bottom_of sheet = curves_y sheet + 120
 
--- The width of the picture, at least that of the legend.
+-- The width of the picture, which is at least the width of the legend.
 abbrev pub sheet_width : Sheet → ℕ
 sheet_width sheet = max (288 + scale_of sheet.rows * sheet.rows) 912
 

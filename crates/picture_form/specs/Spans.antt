@@ -1,4 +1,4 @@
--- Spans of rows that are shown alike in a lane.
+-- Spans: consecutive rows of a lane that are drawn as one box.
 use Rattle.std.specs.Prelude.{ℕ, List, [], ◌++◌, slice_get, slice_index, Option, Some, None, codes, decimal, if◌then◌else◌}
 use Rattle.std.specs.Option.{option_map_or}
 use Rattle.scram_types.specs.Bits.{has_bit}
@@ -27,7 +27,7 @@ lane_name spec (lane.Factor i) = factor_name spec i
 lane_name spec (lane.Processor p) = proc_name spec p
 lane_name spec (lane.Application a) = app_name spec a
 
--- The name of a factor's value in a row.
+-- The name of the value of factor `i` in a row, or the empty text if there is no such factor.
 abbrev pub value_in : Parts → ℕ → Row → List ℕ
 value_in spec i row = option_map_or (λ (factor : Factor). value_name factor (slice_index row.env.factors i)) (slice_get spec.factors i) []
 
@@ -38,7 +38,7 @@ class_text (lane.Factor i) row = codes "v" ++ decimal (slice_index row.env.facto
 class_text (lane.Processor p) row = codes "up"
 class_text (lane.Application a) row = word_text (act_word (act_of row a))
 
--- The mode and the processor of an act, as far as it has them, each after a space.
+-- The mode and the processor of an act, each preceded by a space. What the act does not have is left out.
 abbrev pub mode_and_proc : Parts → ℕ → Act → List ℕ
 mode_and_proc spec kind (act.Ran mode proc) = codes " " ++ mode_text kind mode.0 ++ codes " " ++ proc_name spec proc.0
 mode_and_proc spec kind (act.Halting k n proc) = codes " " ++ proc_name spec proc.0
@@ -55,7 +55,7 @@ words_text spec (lane.Factor i) row = value_in spec i row
 words_text spec (lane.Processor p) row = codes "up"
 words_text spec (lane.Application a) row = word_text (act_word (act_of row a)) ++ mode_and_proc spec (kind_of_app spec a) (act_of row a)
 
--- The label of an act, which for a run is the mode and the processor.
+-- The label of an act. For a run it is the mode and the processor, and otherwise the name of the act.
 abbrev pub act_label : Parts → ℕ → Act → List ℕ
 act_label spec kind (act.Ran mode proc) = mode_text kind mode.0 ++ codes " " ++ proc_name spec proc.0
 act_label spec kind (act.Halting k n proc) = codes "halting"
@@ -72,36 +72,37 @@ label_of spec (lane.Factor i) row = value_in spec i row
 label_of spec (lane.Processor p) row = codes "up"
 label_of spec (lane.Application a) row = act_label spec (kind_of_app spec a) (act_of row a)
 
--- The label of a span.
+-- The label of a span, or the empty text if the span's box is too narrow.
 abbrev pub span_label : Sheet → Span → List ℕ → List ℕ
 span_label sheet span label = label_text (x_of sheet span.first) span.y (width_of sheet span.rows) label
 
--- The box of a span, titled by its first row.
+-- The box of a span, with the title and the label of the span's first row.
 abbrev pub rect_text : Parts → Sheet → Row → Span → List ℕ
 rect_text spec sheet row span =
     codes "<rect class=\"" ++ class_text span.lane row ++ codes "\"" ++ box_text (x_of sheet span.first) span.y (width_of sheet span.rows) ++ codes "><title>"
     ++ lane_name spec span.lane ++ codes " " ++ words_text spec span.lane row ++ frames_text span.first span.rows ++ codes "</title></rect>"
     ++ span_label sheet span (label_of spec span.lane row) ++ codes "\n"
 
--- A line below a span in which a configuration is stable, and the configuration's name.
+-- A line below a span in which a configuration is stable, with the configuration's name, or the empty text if none is
+-- stable.
 abbrev pub stable_text : Parts → Sheet → Option ConfId → Span → List ℕ
 stable_text spec sheet None span = []
 stable_text spec sheet (Some c) span =
     codes "<path class=\"stable\" d=\"M" ++ decimal (x_of sheet span.first) ++ codes " 38h" ++ decimal (width_of sheet span.rows) ++ codes "\"/>"
     ++ span_label sheet span (conf_name spec c.0) ++ codes "\n"
 
--- A span by its lane. A processor that is down is not shown.
+-- The drawing of a span in its kind of lane. It is empty for a processor that is down.
 abbrev pub lane_span_text : Parts → Sheet → Row → Span → Lane → List ℕ
 lane_span_text spec sheet row span lane.Configuration = stable_text spec sheet (stable_conf row.mode) span
 lane_span_text spec sheet row span (lane.Factor i) = rect_text spec sheet row span
 lane_span_text spec sheet row span (lane.Processor p) = if has_bit row.env.up p then rect_text spec sheet row span else []
 lane_span_text spec sheet row span (lane.Application a) = rect_text spec sheet row span
 
--- A span of this number of rows in a strip from row `k` on, or the empty text if there is none.
+-- The drawing of the span of `n` rows that begins in row `k`, or the empty text if no span begins there.
 abbrev pub begun_text : Parts → Sheet → Row → Strip → ℕ → Option ℕ → List ℕ
 begun_text spec sheet row strip k None = []
 begun_text spec sheet row strip k (Some n) = lane_span_text spec sheet row (record { lane = strip.lane; y = strip.y; first = k; rows = n }) strip.lane
 
--- The span that begins in row `k`, or the empty text if none begins there.
+-- The drawing of the span that begins in row `k`, or the empty text if no span begins there.
 abbrev pub span_text : Parts → Sheet → List Row → Strip → ℕ → List ℕ
 span_text spec sheet rows strip k = option_map_or (λ (row : Row). begun_text spec sheet row strip k (span_at strip.lane rows k)) (slice_get rows k) []

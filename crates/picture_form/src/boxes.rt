@@ -1,4 +1,4 @@
-//! Pieces of a picture: boxes, names and labels, made without allocation.
+//! Pieces of a picture: boxes, names and labels, made without allocating.
 
 ghost use Rattle.std.specs.Prelude.{◌≡◌, ◌<◌, ◌≤◌, ◌+◌, ◌++◌, ◌^◌, length, decimal};
 ghost use Rattle.scram_types.specs.declared.limits.TheConstants.{MAX_LINE_BYTES};
@@ -30,7 +30,7 @@ fn add_place(line: &mut Line, x: u64, y: u64)
     line.text(b"\"");
 }
 
-/// Appends the position and the size of a box.
+/// Appends the attributes of the position and the size of a box.
 #[tactic(auto, unfolding(crate::specs::Boxes::box_text))]
 pub fn add_box(line: &mut Line, x: u64, y: u64, width: u64)
     requires { length line.old + 92 ≤ MAX_LINE_BYTES }
@@ -43,7 +43,7 @@ pub fn add_box(line: &mut Line, x: u64, y: u64, width: u64)
     line.text(b"\" height=\"16\"");
 }
 
-/// Appends the name of a lane, of at most 16 bytes, which ends before the rows of the lane begin.
+/// Appends the name of a lane, of at most 16 bytes, set to the left of the lane's rows.
 pub fn add_name(line: &mut Line, y: u64, name: &[u8])
     requires room { length line.old + 79 ≤ MAX_LINE_BYTES }
     requires name { length name.now ≤ 16 }
@@ -57,7 +57,7 @@ pub fn add_name(line: &mut Line, y: u64, name: &[u8])
     line.text(b"</text>");
 }
 
-/// Appends a text of at most 33 bytes at a position, with a class of at most 10 bytes.
+/// Appends a text element with a text of at most 33 bytes, a position, and a class of at most 10 bytes.
 #[tactic(auto, unfolding(crate::specs::Boxes::placed_text))]
 pub fn add_placed(line: &mut Line, class: &[u8], x: u64, y: u64, text: &[u8])
     requires room { length line.old + 120 ≤ MAX_LINE_BYTES }
@@ -75,7 +75,7 @@ pub fn add_placed(line: &mut Line, class: &[u8], x: u64, y: u64, text: &[u8])
     line.text(b"</text>");
 }
 
-/// Appends a label of at most 33 bytes in a box, or nothing if it does not fit.
+/// Appends a label of at most 33 bytes in a box, or nothing if the box is too narrow.
 pub fn add_label(line: &mut Line, x: u64, y: u64, width: u64, label: &[u8])
     requires room { length line.old + 120 ≤ MAX_LINE_BYTES }
     requires label { length label.now ≤ 33 }
@@ -89,7 +89,7 @@ pub fn add_label(line: &mut Line, x: u64, y: u64, width: u64, label: &[u8])
     }
 }
 
-/// Appends the frames of a span of `rows` rows from row `k` on.
+/// Appends the numbers of the first and the last frame of a span of `rows` rows that begins in row `k`.
 pub fn add_frames(line: &mut Line, k: u32, rows: u32)
     requires { length line.old + 52 ≤ MAX_LINE_BYTES }
     ensures text { line.new ≡ line.old ++ frames_text k rows }

@@ -1,4 +1,4 @@
-//! Altitude and heading as lines, made without allocation.
+//! The curves of quantities, made without allocating.
 
 ghost use Rattle.std.specs.Prelude.{◌≡◌, ◌<◌, ◌≤◌, ◌+◌, ◌++◌, ◌^◌, length, option_map};
 ghost use Rattle.std.specs.Fmt.{signed_decimal};
@@ -12,7 +12,7 @@ use flight_facts::spans::row_before;
 use scram_types::Row;
 use trace_text::lines::Line;
 
-/// A quantity that is drawn as a line, with its position in pixels and its extremes.
+/// The curve of a quantity, with the position of its top in pixels and the quantity's extremes.
 #[derive(Clone, Copy)]
 pub struct Curve {
     pub quantity: Quantity,
@@ -26,7 +26,7 @@ fn distance(a: &i64, b: &i64) -> u64
     a.abs_diff(*b)
 }
 
-// Returns the position of a number between the extremes, in tenths of a pixel from the top.
+// Returns the distance of a number from the top of its curve, in tenths of a pixel.
 fn drop_of(extremes: &Extremes, number: &i64) -> u64
     ensures { result ≡ drop_of extremes.now number.now }
 {
@@ -62,7 +62,7 @@ fn is_joined(quantity: Quantity, before: Option<&Row>, row: &Row) -> bool
     }
 }
 
-/// Returns the point of row `k`.
+/// Returns the point of row `k` on a curve, or the empty line if there is no such row.
 pub fn make_point(rows: &[Row], curve: Curve, k: usize) -> Line
     ensures { result ≡ point_text rows.now curve k }
 {
@@ -78,7 +78,7 @@ pub fn make_point(rows: &[Row], curve: Curve, k: usize) -> Line
     line
 }
 
-/// Returns the name and the unit of a quantity, from `y` on.
+/// Returns the name of a quantity, and its unit below the name. The curve's top is at `y`.
 pub fn make_curve_names(y: u64, name: &str, unit: &str) -> Line
     requires y { y ≤ 6100 }
     requires name { length name.now ≤ 16 }
@@ -92,7 +92,7 @@ pub fn make_curve_names(y: u64, name: &str, unit: &str) -> Line
     line
 }
 
-/// Returns the beginning of a line through the middle of each row.
+/// Returns the start of a path whose points are at the middle of each row.
 pub fn make_curve_begin(sheet: Sheet, y: u64) -> Line
     ensures { result ≡ curve_begin sheet y }
 {
@@ -107,7 +107,7 @@ pub fn make_curve_begin(sheet: Sheet, y: u64) -> Line
     line
 }
 
-/// Returns the end of a line, and its extremes beside it.
+/// Returns the end of a path, and the extremes of the quantity to the right of its curve.
 pub fn make_curve_end(sheet: Sheet, y: u64, extremes: &Extremes) -> Line
     requires { y ≤ 6100 }
     ensures { result ≡ curve_end sheet y extremes.now }

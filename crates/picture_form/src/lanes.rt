@@ -13,7 +13,7 @@ use scram_io::{Sink, SinkFault};
 use scram_types::{Row, Spec};
 use trace_text::lines::Line;
 
-/// Writes all lanes of factors, processors and applications.
+/// Writes the lanes of all factors, processors and applications.
 pub fn put_lanes<K: Sink>(
     out: &mut K,
     spec: &Spec,

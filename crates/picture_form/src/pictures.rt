@@ -1,4 +1,4 @@
-//! The form `picture`: a trace as a picture.
+//! The form `picture`, which prints a trace as a picture.
 
 ghost use Rattle.std.specs.Prelude.{◌≡◌, ◌<◌, ◌≤◌, ◌+◌, ◌*◌, ◌∷◌, ◌^◌, [], length};
 ghost use Rattle.scram_io.specs.Outside.{Prints};
@@ -122,7 +122,7 @@ fn put_body<K: Sink>(
     }
 }
 
-// Writes the lines in the background of the lanes.
+// Writes the vertical lines behind the lanes: the ticks, and the starts of the reconfigurations.
 fn put_grid<K: Sink>(out: &mut K, sheet: Sheet, reports: &[Report]) -> Result<(), SinkFault>
     requires { IsSheet sheet }
     ensures { Prints result (K.state out.old) (K.state out.new) (grid_text sheet reports.now) }
@@ -203,7 +203,7 @@ fn put_front<K: Sink>(
     }
 }
 
-// Writes configurations and reconfigurations.
+// Writes the first two lanes, which show configurations and reconfigurations.
 fn put_top<K: Sink>(
     out: &mut K,
     spec: &Spec,
@@ -277,7 +277,7 @@ fn put_lanes_and_foot<K: Sink>(
     }
 }
 
-// Writes the part below the lanes.
+// Writes the part of the picture below the lanes: the curves and the legend.
 fn put_foot<K: Sink>(out: &mut K, sheet: Sheet, rows: &[Row]) -> Result<(), SinkFault>
     requires { IsSheet sheet }
     ensures { Prints result (K.state out.old) (K.state out.new) (foot_text sheet rows.now) }
@@ -400,7 +400,7 @@ fn put_line<K: Sink>(out: &mut K, sheet: Sheet, rows: &[Row], curve: Curve) -> R
     }
 }
 
-// Writes the points of a line, and its end.
+// Writes the points of a curve, followed by the end of its path.
 fn put_points<K: Sink>(
     out: &mut K,
     sheet: Sheet,
@@ -428,7 +428,7 @@ fn put_all_points<K: Sink>(out: &mut K, rows: &[Row], curve: Curve) -> Result<()
     Ok(())
 }
 
-// Writes the legend, and the end of the document.
+// Writes the legend, followed by the end of the document.
 fn put_legend<K: Sink>(out: &mut K, sheet: Sheet) -> Result<(), SinkFault>
     requires { IsSheet sheet }
     ensures { Prints result (K.state out.old) (K.state out.new) (legend_text sheet) }

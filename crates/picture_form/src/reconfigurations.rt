@@ -1,4 +1,4 @@
-//! Reconfigurations and their bounds, made without allocation.
+//! Reconfigurations and their bounds, made without allocating.
 
 ghost use Rattle.std.specs.Prelude.{◌≡◌, ◌<◌, ◌≤◌, ◌+◌, ◌++◌, length};
 ghost use Rattle.scram_types.specs.declared.limits.TheConstants.{MAX_LINE_BYTES};
@@ -13,7 +13,8 @@ use trace_text::lines::Line;
 use trace_text::report_lines::add_length;
 use trace_text::row_lines::add_conf_or_dash;
 
-/// Returns the vertical line at the beginning of reconfiguration `n`, or the empty line if it does not begin in a row.
+/// Returns the vertical line at the start of reconfiguration `n`, or the empty line if the reconfiguration does not
+/// begin in a row.
 pub fn make_begin(sheet: Sheet, reports: &[Report], n: usize) -> Line
     requires { IsSheet sheet }
     ensures { result ≡ begin_text sheet reports.now n }
@@ -41,7 +42,7 @@ fn make_begin_line(sheet: Sheet, begin: u32) -> Line
     line
 }
 
-/// Returns reconfiguration `n` with its bound, or the empty line if it does not begin in a row.
+/// Returns the boxes of reconfiguration `n`, or the empty line if the reconfiguration does not begin in a row.
 pub fn make_reconfiguration(spec: &Spec, sheet: Sheet, reports: &[Report], n: usize) -> Line
     ensures { result ≡ reconfiguration_boxes spec.now sheet reports.now n }
 {
@@ -93,7 +94,7 @@ fn add_bound_rect(line: &mut Line, sheet: Sheet, begin: u32, bound: Option<u32>)
     }
 }
 
-// Returns the width of the rows from `begin` to `last` or to the last row.
+// Returns the width of the rows from `begin` to `last`, inclusive, or to the last row of the flight if this is earlier.
 fn rows_width(sheet: Sheet, begin: u32, last: u64) -> u64
     requires { begin < sheet.rows }
     ensures { result ≡ rows_width sheet begin last }

@@ -7,7 +7,7 @@ ghost use Rattle.picture_form.specs.Sheets.{IsSheet, bottom_of, curves_y, lane_o
 use flight_facts::spans::Lane;
 use scram_types::{Row, Spec};
 
-/// The numbers of rows and of lanes, which determine all positions.
+/// The numbers of rows, factors, processors and applications, which determine all positions in a picture.
 #[derive(Clone, Copy, Debug, PartialEq, Eq)]
 pub struct Sheet {
     pub rows: u32,
@@ -16,7 +16,7 @@ pub struct Sheet {
     pub apps: u8,
 }
 
-/// Returns the numbers of rows and of lanes of a flight.
+/// Returns the sheet of a flight, which has the number of its rows and the numbers of its lanes.
 pub fn sheet_of(spec: &Spec, rows: &[Row]) -> Sheet
     requires { length rows.now < 2 ^ 32 }
     ensures value { result ≡ sheet_of spec.now rows.now }
@@ -79,7 +79,7 @@ impl Sheet {
         rows_of_tick(self.rows)
     }
 
-    /// Returns the left edge of row `k`.
+    /// Returns the x-coordinate of the left edge of row `k`.
     pub fn x(self, k: u64) -> u64
         requires { k ≤ 2 ^ 40 }
         ensures value { result ≡ x_of self k }
@@ -95,7 +95,7 @@ impl Sheet {
         self.rows / self.tick() + 1
     }
 
-    /// Returns the width of a number of rows.
+    /// Returns the width of `rows` rows.
     pub fn width_of(self, rows: u32) -> u64
         ensures { result ≡ width_of self rows }
     {
@@ -111,7 +111,7 @@ impl Sheet {
         self.factors + self.procs + self.apps
     }
 
-    /// Returns the lane of a number, which is below the number of lanes.
+    /// Returns lane `n`, where `n` is less than the number of lanes.
     pub fn lane(self, n: u8) -> Lane
         requires sheet { IsSheet self }
         requires lane { n < lanes_of self }
@@ -141,7 +141,7 @@ impl Sheet {
         }
     }
 
-    /// Returns the top of a lane.
+    /// Returns the y-coordinate of the top of lane `n`.
     pub fn lane_y(self, n: u8) -> u64
         requires { IsSheet self }
         ensures value { result ≡ lane_y self n }
@@ -150,7 +150,7 @@ impl Sheet {
         72 + 20 * u64::from(n) + self.room_above(n)
     }
 
-    /// Returns the top of the curves.
+    /// Returns the y-coordinate of the top of the first curve.
     pub fn curves_y(self) -> u64
         requires { IsSheet self }
         ensures value { result ≡ curves_y self }
@@ -159,7 +159,7 @@ impl Sheet {
         96 + 20 * u64::from(self.lanes())
     }
 
-    /// Returns the bottom of the second curve.
+    /// Returns the y-coordinate of the bottom of the second curve.
     pub fn bottom(self) -> u64
         requires { IsSheet self }
         ensures value { result ≡ bottom_of self }

@@ -1,4 +1,4 @@
-//! Spans of rows that are shown alike in a lane, made without allocation.
+//! Spans, which are consecutive rows of a lane that are drawn as one box, made without allocating.
 
 ghost use Rattle.std.specs.Prelude.{◌≡◌, ◌<◌, ◌≤◌, ◌+◌, ◌++◌, ◌^◌, length, codes};
 ghost use Rattle.scram_types.specs.Lookups.{proc_name};
@@ -22,7 +22,7 @@ pub struct Strip {
     pub y: u64,
 }
 
-/// Rows of a lane that are shown alike: the first row, and the number of rows.
+/// Consecutive rows of a lane that are drawn as one box, with the index of the first row and the number of rows.
 #[derive(Clone, Copy, Debug, PartialEq, Eq)]
 pub struct Span {
     pub lane: Lane,
@@ -44,7 +44,7 @@ pub fn lane_name(spec: &Spec, lane: Lane) -> &str
     }
 }
 
-/// Returns the text of the span that begins in row `k`, or the empty line if none begins there.
+/// Returns the drawing of the span that begins in row `k`, or the empty line if no span begins there.
 pub fn make_span(spec: &Spec, sheet: Sheet, rows: &[Row], strip: Strip, k: usize) -> Line
     requires lane { IsLane strip.lane }
     requires y { strip.y ≤ 6000 }
@@ -199,7 +199,7 @@ fn add_words(line: &mut Line, spec: &Spec, lane: Lane, row: &Row)
     }
 }
 
-// Appends the mode and the processor of an act, as far as it has them, each after a space.
+// Appends the mode and the processor of an act, each preceded by a space. What the act does not have is left out.
 fn add_mode_and_proc(line: &mut Line, spec: &Spec, kind: KindId, act: &Act)
     requires { length line.old + 34 ≤ MAX_LINE_BYTES }
     ensures text { line.new ≡ line.old ++ mode_and_proc spec.now kind.0 act.now }

@@ -1,16 +1,16 @@
-//! The parts that every picture has.
+//! The parts of the document that are the same in every picture.
 
 ghost use Rattle.std.specs.Prelude.{◌≡◌};
 ghost use Rattle.picture_form.specs.Styles.{part_text};
 
-/// A part that every picture has.
+/// A part of the document that is the same in every picture.
 #[derive(Clone, Copy, Debug, PartialEq, Eq)]
 pub enum Part {
-    /// The colours of the classes.
+    /// The styles, which give the colours of the classes.
     Style,
     /// The names of the first two lanes.
     Names,
-    /// The legend.
+    /// The legend, and the end of the document.
     Legend,
 }
 
@@ -39,7 +39,7 @@ pub const NAMES: &str = concat!(
     "<text class=\"name\" x=\"128\" y=\"60\">reconfiguration</text>\n",
 );
 
-/// The legend: the names of the classes.
+/// The legend, which names the classes, and the end of the document.
 pub const LEGEND: &str = concat!(
     "<path class=\"ran\" d=\"M8 0h12v12h-12z\"/><text x=\"26\" y=\"10\">ran</text>\n",
     "<path class=\"halting\" d=\"M136 0h12v12h-12z\"/><text x=\"154\" y=\"10\">halting</text>\n",
@@ -58,7 +58,7 @@ pub const LEGEND: &str = concat!(
     "</g>\n</svg>\n",
 );
 
-/// Returns the text of a part.
+/// Returns the text of a part that is the same in every picture.
 pub fn part_text(part: Part) -> &'static str
     ensures { result.now ≡ part_text part }
 {

@@ -19,37 +19,37 @@ use Rattle.flight_facts.specs.declared.extremes.Extremes.{Extremes}
 use Rattle.flight_facts.specs.declared.extremes.Quantity.TheVariants.{Altitude, Climb, Bank}
 use Rattle.form_base.specs.Lines.{counts_text}
 
--- A reconfiguration has no target, since the end of the flight cut it off.
+-- Whether a report has no target, since the flight ended before its reconfiguration did.
 abbrev pub has_no_target : Option ConfId → Bool
 has_no_target None = true
 has_no_target (Some to) = false
 
--- The number of unfinished reconfigurations.
+-- The number of reconfigurations that the end of the flight cut off.
 abbrev pub count_unfinished : List Report → ℕ
 count_unfinished reports = count_by (λ (report : Report). has_no_target report.to) reports
 
--- The line of the flight.
+-- The line of the flight, with the numbers of its frames, its reconfigurations and its unfinished reconfigurations.
 abbrev pub flight_line : List Row → List Report → List ℕ
 flight_line rows reports = codes "flight" ++ counts_text rows reports ++ codes " unfinished " ++ decimal (count_unfinished reports) ++ codes "\n"
 
--- The line of a reconfiguration, where `earlier` is the preceding one.
+-- The line of a reconfiguration, where `earlier` is the preceding reconfiguration if there is one.
 abbrev pub reconfiguration_line : Parts → List Row → Option Report → Report → List ℕ
 reconfiguration_line spec rows earlier report =
     codes "reconfiguration " ++ conf_name spec report.from.0 ++ target_text spec report report.to ++ codes " margin " ++ margin_of spec report
     ++ codes " cause " ++ cause_text spec rows earlier report.begin ++ codes "\n"
 
--- The line of the changes in row k.
+-- The line of the changes of the environment in row `k`.
 abbrev pub change_line : Parts → List Row → ℕ → List ℕ
 change_line spec rows k =
     codes "  frame " ++ decimal k ++ codes " " ++ difference_or_dash spec (env_before spec rows k) (env_in rows k) ++ codes "\n"
 
--- The line of application a.
+-- The line of application `a`: the numbers of rows in which it ran, was lost and was off, and its longest gap.
 abbrev pub app_summary_line : List Row → ℕ → AppSpec → List ℕ
 app_summary_line rows a app =
     codes "app " ++ app.name ++ codes " ran " ++ decimal (count_acts word.Ran a rows) ++ codes " lost " ++ decimal (count_acts word.Lost a rows)
     ++ codes " off " ++ decimal (count_acts word.Off a rows) ++ gap_text (longest_gap a 0 rows) ++ codes "\n"
 
--- The ranges of altitude, climb and bank, or `-` if there are no rows.
+-- The ranges of altitude, climb and bank, or ` -` if one of the ranges is missing.
 abbrev pub ranges_text : Option Extremes → Option Extremes → Option Extremes → List ℕ
 ranges_text None climb bank = codes " -"
 ranges_text (Some altitude) None bank = codes " -"
@@ -57,6 +57,6 @@ ranges_text (Some altitude) (Some climb) None = codes " -"
 ranges_text (Some altitude) (Some climb) (Some bank) =
     codes " altitude " ++ extremes_text altitude ++ codes " climb " ++ extremes_text climb ++ codes " bank " ++ extremes_text bank
 
--- The line of the world.
+-- The line of the world, with the ranges of altitude, climb and bank.
 abbrev pub world_line : List Row → List ℕ
 world_line rows = codes "world" ++ ranges_text (extremes_of Altitude rows) (extremes_of Climb rows) (extremes_of Bank rows) ++ codes "\n"

@@ -15,7 +15,8 @@ use scram_types::{AppSpec, ConfId, Flown, Report, Row, Spec};
 use trace_text::lines::Line;
 use trace_text::report_lines::add_target;
 
-/// Returns the line of the flight: the numbers of its frames, its reconfigurations and its unfinished reconfigurations.
+/// Returns the line of the flight, with the numbers of its frames, its reconfigurations and its unfinished
+/// reconfigurations.
 pub fn make_flight_line(flown: &Flown) -> Line
     requires rows { length flown.now.rows < 2 ^ 32 }
     requires reports { length flown.now.reports < 2 ^ 32 }
@@ -30,7 +31,7 @@ pub fn make_flight_line(flown: &Flown) -> Line
     line
 }
 
-/// Returns the number of unfinished reconfigurations.
+/// Returns the number of reconfigurations that the end of the flight cut off.
 pub fn count_unfinished(reports: &[Report]) -> u32
     requires { length reports.now < 2 ^ 32 }
     ensures { result ≡ count_unfinished reports.now }
@@ -53,7 +54,7 @@ fn has_no_target(to: Option<ConfId>) -> bool
     }
 }
 
-/// Returns the line of a reconfiguration, where `earlier` is the preceding one.
+/// Returns the line of a reconfiguration, where `earlier` is the preceding reconfiguration if there is one.
 pub fn make_reconfiguration_line(
     spec: &Spec,
     rows: &[Row],
@@ -74,7 +75,7 @@ pub fn make_reconfiguration_line(
     line
 }
 
-/// Returns the line of the changes in row `k`.
+/// Returns the line of the changes of the environment in row `k`.
 pub fn make_change_line(spec: &Spec, rows: &[Row], k: usize) -> Line
     requires { k < 2 ^ 32 }
     ensures { result ≡ change_line spec.now rows.now k }
@@ -88,7 +89,7 @@ pub fn make_change_line(spec: &Spec, rows: &[Row], k: usize) -> Line
     line
 }
 
-/// Returns the line of an application: the numbers of rows in which it ran, was lost and was off, and its longest gap.
+/// Returns the line of application `a`: the numbers of rows in which it ran, was lost and was off, and its longest gap.
 pub fn make_app_line(rows: &[Row], a: usize, app: &AppSpec) -> Line
     requires app { a < 8 }
     requires rows { length rows.now < 2 ^ 32 }
@@ -108,7 +109,7 @@ pub fn make_app_line(rows: &[Row], a: usize, app: &AppSpec) -> Line
     line
 }
 
-/// Returns the line of the world: the minimum and the maximum of altitude, climb and bank.
+/// Returns the line of the world, with the ranges of altitude, climb and bank.
 pub fn make_world_line(rows: &[Row]) -> Line
     ensures { result ≡ world_line rows.now }
 {

@@ -51,7 +51,7 @@ fn put_summary<K: Sink>(out: &mut K, spec: &Spec, flown: &Flown) -> Result<(), S
     }
 }
 
-// Writes the lines after the line of the flight.
+// Writes the lines of a summary that follow the line of the flight.
 fn put_after_flight_line<K: Sink>(
     out: &mut K,
     spec: &Spec,

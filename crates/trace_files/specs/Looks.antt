@@ -1,4 +1,4 @@
--- The answers of forms that show a trace without judging it.
+-- The answers of the forms that show a trace without judging it.
 use Rattle.std.specs.Prelude.{◌≡◌, ◌<◌, ◌^◌, ℕ, List, [], length}
 use Rattle.scram_types.specs.declared.rows.Flown.{Flown}
 use Rattle.scram_types.specs.declared.rows.Report.{Report}
@@ -12,27 +12,27 @@ use Rattle.form_base.specs.Specifications.{AsksSpecification}
 use Rattle.trace_files.specs.declared.files.Flight.{Flight}
 use Rattle.trace_files.specs.Traces.{AsksTrace, SaysTrace}
 
--- A text that is printed of the rows and reports of a flight.
+-- A function that gives the text to print for the rows and reports of a flight.
 abbrev pub View : Type 0
 View = Parts → List Row → List Report → List ℕ
 
--- The answer by a view to the names of the files of a specification and of a trace. The specification need not be
--- accepted.
+-- The answer of a form that shows a view, to the names of the files of a specification and of a trace. The
+-- specification need not be accepted.
 abbrev pub ViewAnswers : View → List ℕ → List ℕ → Answer
 ViewAnswers view specification trace =
     AsksSpecification specification (λ (spec : Parts). AsksTrace spec trace (λ (flown : Flown).
     WithoutFiles (Gives (ANSWERED, view spec flown.rows flown.reports))))
 
--- The text is the view of the trace, and no further file was read; status 0 assures this.
+-- If a form that shows a view ends with status 0, the text is the view of the trace, and no further file was read.
 abbrev pub AssuresView : View → List ℕ → List ℕ → History → List ℕ → Type 0
 AssuresView view specification trace =
     OfSpecification specification (λ (spec : Parts). OfDocument (SaysTrace spec) trace (λ (flown : Flown) (reads : History) (text : List ℕ).
     (reads ≡ []) × (text ≡ view spec flown.rows flown.reports)))
 
--- The status and the text are the answer that shows the view of a flight.
+-- The status is that of an answer, and the text is the view of a flight.
 abbrev pub GivesView : View → Flight → ℕ → List ℕ → Type 0
 GivesView view flight = Gives (ANSWERED, view flight.spec flight.flown.rows flight.flown.reports)
 
--- The rows and the reports of a flight can be counted with 32 bits.
+-- A flight has fewer than `2 ^ 32` rows and fewer than `2 ^ 32` reports.
 abbrev pub IsCounted : Flight → Type 0
 IsCounted flight = (length flight.flown.rows < 2 ^ 32) × (length flight.flown.reports < 2 ^ 32)

@@ -1,4 +1,4 @@
--- The answers on a trace.
+-- The answers of the forms that read a trace.
 use Rattle.std.specs.Prelude.{◌≡◌, ◌<◌, ◌^◌, ℕ, List, Ok, Err, length}
 use Rattle.scram_types.specs.declared.rows.Flown.{Flown}
 use Rattle.scram_types.specs.declared.limits.TheConstants.{MAX_TRACE_BYTES}
@@ -10,22 +10,22 @@ use Rattle.form_base.specs.declared.status.TheConstants.{BROKEN_TRACE}
 use Rattle.form_base.specs.Answers.{Answer, AnswersDocument, AnswersFile}
 use Rattle.trace_files.specs.Lines.{trace_line}
 
--- The bytes are this trace of missions of a specification. Its rows and its reports can be counted with 32 bits.
+-- The bytes are the trace `flown` of missions of a specification, with fewer than `2 ^ 32` rows and reports.
 pub record SaysTrace (spec : Parts) (flown : Flown) (bytes : List ℕ) : Type 0 where
   pub is : trace_of spec bytes ≡ Ok flown
   pub rows : length flown.rows < 2 ^ 32
   pub reports : length flown.reports < 2 ^ 32
 
--- The bytes are refused as a trace of missions of a specification.
+-- The bytes are not a trace of missions of a specification, and `refusal` has the status and the line of their fault.
 pub record BreaksTrace (spec : Parts) (refusal : ℕ × List ℕ) (bytes : List ℕ) : Type 0 where
   pub fault : TraceFault
   pub is : trace_of spec bytes ≡ Err fault
   pub line : refusal ≡ (BROKEN_TRACE, trace_line fault)
 
--- The answer to a trace with too many bytes.
+-- The status and the line with which a trace of too many bytes is refused.
 abbrev pub long_trace : ℕ × List ℕ
 long_trace = (BROKEN_TRACE, trace_line (record { line = 0; rule = WRONG_END }))
 
--- The answer to the name of a trace's file, where `Then` is the answer to the trace in the file.
+-- The answer to the name of a trace's file, where `Then` gives the answer to the trace in the file.
 abbrev pub AsksTrace : Parts → List ℕ → (Flown → Answer) → Answer
 AsksTrace spec name Then = AnswersFile MAX_TRACE_BYTES long_trace name (AnswersDocument (SaysTrace spec) (BreaksTrace spec) Then)

@@ -1,4 +1,4 @@
-//! Traces as documents.
+//! Traces as documents that are loaded from files.
 
 ghost use Rattle.std.specs.Prelude.{◌≡◌};
 ghost use Rattle.scram_types.specs.declared.limits.TheConstants.{MAX_TRACE_BYTES};
@@ -15,7 +15,7 @@ use scram_types::{Flown, Spec};
 use std::alloc::Global;
 use trace_text::{TraceError, TraceFault, read_trace, rule};
 
-/// The document of a trace of missions of a specification.
+/// The kind of document that holds a trace of missions of a specification.
 #[derive(Clone, Copy)]
 pub struct Trace<'a> {
     pub spec: &'a Spec,

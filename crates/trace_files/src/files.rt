@@ -30,7 +30,7 @@ pub struct Flight {
     pub flown: Flown,
 }
 
-/// Reads a specification and a trace, or returns the refusal.
+/// Reads a specification and a trace from their files, or returns the refusal of the first that cannot be read.
 pub fn read_flight<F: Files>(
     alloc: Global,
     named: TraceFiles<'_>,

@@ -1,4 +1,4 @@
-//! Traces in files, with the specification of their missions: the base of each form that reads a trace.
+//! Traces in files, with the specification of their missions. Each form that reads a trace is built on this crate.
 #![tactic(auto)]
 
 pub mod documents;

@@ -6,7 +6,7 @@ ghost use Rattle.trace_files.specs.Lines.{trace_line};
 use trace_text::TraceFault;
 use trace_text::lines::Line;
 
-/// Returns the line that refuses a trace that breaks a rule.
+/// Returns the line that refuses a trace, with the rule that the trace breaks and the line of the trace.
 pub fn make_trace_line(fault: TraceFault) -> Line
     ensures { result ≡ trace_line fault }
 {

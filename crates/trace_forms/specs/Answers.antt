@@ -1,4 +1,4 @@
--- The answers on a trace.
+-- The answers of the form `props`.
 use Rattle.std.specs.Prelude.{◌≡◌, ℕ, List, [], Option, Some, None}
 use Rattle.scram_types.specs.declared.rows.Flown.{Flown}
 use Rattle.scram_types.specs.Specification.{Parts}
@@ -13,29 +13,29 @@ use Rattle.form_base.specs.Specifications.{AsksSpecification}
 use Rattle.trace_files.specs.Traces.{AsksTrace, SaysTrace}
 use Rattle.trace_forms.specs.Lines.{broken_line, holds_line}
 
--- The value is the first break of a property by a trace, or nothing if all properties hold for the trace.
+-- The value is the first break of a property by a trace, or `None` if all properties hold for the trace.
 abbrev pub Judges : Parts → Flown → Option Broken → Type 0
 Judges spec flown None = HoldsAll spec flown.rows flown.reports
 Judges spec flown (Some broken) = IsFirstBreak spec flown.rows flown.reports broken.property broken.frame
 
--- The answer to `props`, given the first break.
+-- The status and the text with which `props` answers, given the first break if there is one.
 abbrev pub judged_answer : Flown → Option Broken → ℕ × List ℕ
 judged_answer flown (Some broken) = (BROKEN_PROPERTY, broken_line broken)
 judged_answer flown None = (ANSWERED, holds_line flown)
 
--- The status and the text are the judgement of a trace.
+-- The status and the text are those of the judgement of a trace.
 pub record IsJudgement (spec : Parts) (flown : Flown) (status : ℕ) (text : List ℕ) : Type 0 where
   pub judged : Option Broken
   pub judges : Judges spec flown judged
   pub gives : Gives (judged_answer flown judged) status text
 
--- The answer to `props` and the names of the files of a specification and of a trace. The specification need not be
+-- The answer of `props` to the names of the files of a specification and of a trace. The specification need not be
 -- accepted.
 abbrev pub PropsAnswers : List ℕ → List ℕ → Answer
 PropsAnswers specification trace =
     AsksSpecification specification (λ (spec : Parts). AsksTrace spec trace (λ (flown : Flown). WithoutFiles (IsJudgement spec flown)))
 
--- The properties hold for the trace, and no further file was read; status 0 of `props` assures this.
+-- If `props` ends with status 0, the properties hold for the trace, the text says so, and no further file was read.
 abbrev pub AssuresProps : List ℕ → List ℕ → History → List ℕ → Type 0
 AssuresProps specification trace =
     OfSpecification specification (λ (spec : Parts). OfDocument (SaysTrace spec) trace (λ (flown : Flown) (reads : History) (text : List ℕ).

@@ -1,4 +1,4 @@
--- The lines that answer on a trace.
+-- The lines that `props` prints.
 use Rattle.std.specs.Prelude.{ℕ, ◌+◌, List, ◌++◌, codes, decimal}
 use Rattle.scram_types.specs.declared.rows.Flown.{Flown}
 use Rattle.trace_props.specs.declared.breaks.Broken.{Broken}
@@ -9,6 +9,6 @@ use Rattle.form_base.specs.Lines.{counts_text}
 abbrev pub holds_line : Flown → List ℕ
 holds_line flown = codes "holds:" ++ counts_text flown.rows flown.reports ++ codes "\n"
 
--- The line for a trace that breaks a property: the first such property, and its frame.
+-- The line for a trace that breaks a property, with the number of the first such property and the frame.
 abbrev pub broken_line : Broken → List ℕ
 broken_line broken = codes "broken: SP" ++ decimal (property_number broken.property) ++ codes " at frame " ++ decimal broken.frame ++ codes "\n"

@@ -29,7 +29,8 @@ struct Judgement {
     line: Line,
 }
 
-/// Prints whether the properties of reconfigurations hold for the trace in a file, or the first one that it breaks.
+/// Prints whether the six properties hold for the trace in a file. If they do not, prints the first property that the
+/// trace breaks.
 pub fn props_form<F: Files, K: Sink>(
     alloc: Global,
     named: TraceFiles<'_>,
@@ -45,7 +46,7 @@ pub fn props_form<F: Files, K: Sink>(
     }
 }
 
-/// Reads the specification and the trace, and judges the trace.
+/// Reads the specification and the trace, and returns the judgement of the trace, or the refusal if one cannot be read.
 fn read_judgement<F: Files>(
     alloc: Global,
     named: TraceFiles<'_>,

@@ -1,4 +1,4 @@
-//! The lines that answer on a trace, made without allocating.
+//! The lines that `props` prints, made without allocating.
 
 ghost use Rattle.std.specs.Prelude.{◌≡◌, ◌<◌, ◌^◌, length};
 ghost use Rattle.trace_forms.specs.Lines.{broken_line, holds_line};
@@ -8,7 +8,7 @@ use scram_types::Flown;
 use trace_props::Broken;
 use trace_text::lines::Line;
 
-/// Returns the line for a trace for which the six properties hold: the numbers of its frames and of its
+/// Returns the line for a trace for which the six properties hold. The line has the number of frames and the number of
 /// reconfigurations.
 pub fn make_holds_line(flown: &Flown) -> Line
     requires rows { length flown.now.rows < 2 ^ 32 }
@@ -22,7 +22,7 @@ pub fn make_holds_line(flown: &Flown) -> Line
     line
 }
 
-/// Returns the line for a trace that breaks a property: the first such property, and its frame.
+/// Returns the line for a trace that breaks a property, with the number of the first such property and the frame.
 pub fn make_broken_line(broken: Broken) -> Line
     ensures { result ≡ broken_line broken }
 {
