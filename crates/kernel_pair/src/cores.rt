@@ -218,8 +218,8 @@ impl<'a> PairCore<'a> {
         self.machine.over()
     }
 
-    /// Returns the rows and reports of a unit that has not halted. The flight is over. The rows and reports are those
-    /// of the one-thread trace.
+    /// Returns the rows and reports of a flight that is over, from a unit that has not halted. They are those of the
+    /// one-thread trace.
     pub fn finish(self) -> Flown
         requires { IsPairOver (pair_flight self) (pair_in self) }
         ensures rows { result.rows ≡ rows_of self.entry.spec self.entry.script }

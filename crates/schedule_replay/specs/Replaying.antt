@@ -34,7 +34,7 @@ pub record IsWholeSchedule (m : Flight) (list : List Event) : Type 0 where
   pub replay : IsReplay m list at words
   pub over : IsOver m at
 
--- The events before index `index` are a schedule. The event `given` at that index is not the next of its actor after
+-- The events before index `index` are a schedule. The event `given` at that index is not its actor's next event after
 -- them, which is `next`.
 pub record IsIllegal (m : Flight) (list : List Event) (index : ℕ) (given : Event) (next : Option Event) : Type 0 where
   pub at : Places
