@@ -66,7 +66,7 @@ pub record WentOut (old new : SinkState) (text : List ℕ) : Type 0 where
   pub sent : new.sent ≡ taken old ++ text
   pub held : new.held ≡ []
 
--- All bytes that the sink had taken, followed by the text, were sent only up to a prefix. The sink's fault count rose.
+-- The bytes sent are a prefix of the bytes that the sink had taken followed by the text. The sink's fault count rose.
 pub record StoppedIn (old new : SinkState) (text : List ℕ) : Type 0 where
   pub rest : List ℕ
   pub parts : taken old ++ text ≡ new.sent ++ rest
