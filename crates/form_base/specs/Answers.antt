@@ -47,8 +47,7 @@ abbrev pub AnswersUnread : ℕ → ℕ × List ℕ → List ℕ → Answer
 AnswersUnread limit long name before after reads status text =
     AnswersLonger limit long name before after reads status text ⊎ AnswersFailed name before after reads status text
 
--- The answer to the bytes of the file of this name, if it was read and is not too long, or the answer that says that it
--- was not read or is too long.
+-- The answer to the bytes of the file of this name. If the file was not read or is too long, the answer says so.
 abbrev pub AnswersFile : ℕ → ℕ × List ℕ → List ℕ → (List ℕ → Answer) → Answer
 AnswersFile limit long name Answers before after reads status text =
     AnswersBytes limit name Answers before after reads status text ⊎ AnswersUnread limit long name before after reads status text

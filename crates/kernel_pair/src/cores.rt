@@ -85,8 +85,8 @@ impl<'a> PairCore<'a> {
         })
     }
 
-    /// Returns the next event of unit 0 or 1. It returns `None` if and only if the unit waits for a processor or for
-    /// the other unit, has halted or has made its last note, or the flight has no frame.
+    /// Returns the next event of unit 0 or 1. It returns `None` if and only if the unit waits for an actor, has halted
+    /// or has made its last note, or the flight has no frame. A unit waits for a processor or for the other unit.
     pub fn next(&self, unit: u8) -> Option<PairEvent>
         requires { unit < 2 }
         ensures { result ≡ next_unit (pair_flight self.now) self.now.halt (pair_in self.now) unit }

@@ -54,8 +54,9 @@ pub record IsShort (m : Flight) (list : List Event) (events : ℕ) (next : Event
   pub count : events ≡ length list
   pub next_is : first_next m at words ≡ Some next
 
--- An answer to a list of events. It is the one-thread trace, the first event that is not the next of its actor, the
--- event that would come next if the list ends too early, or out of memory.
+-- An answer to a list of events. It is the one-thread trace if the list is a whole schedule. Otherwise it is the first
+-- event that is not the next of its actor, or the event that would come next if the list ends too early. Out of memory
+-- is always an answer.
 abbrev pub AnswersReplay : Parts → ScriptParts → List Event → Result Flown ReplayError → Type 0
 AnswersReplay spec script list (Ok flown) = IsWholeSchedule (flight_of spec script) list × (flown.rows ≡ rows_of spec script)
     × (flown.reports ≡ reports_of spec script)
