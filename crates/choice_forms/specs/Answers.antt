@@ -1,4 +1,4 @@
--- The answers for the choices of a specification.
+-- The answers to `choices` and `choose`.
 use Rattle.std.specs.Prelude.{◌≡◌, ℕ, List, [], Option, Some, None}
 use Rattle.scram_types.specs.Specification.{Parts}
 use Rattle.scram_io.specs.Outside.{History}
@@ -13,20 +13,21 @@ use Rattle.choice_forms.specs.declared.states.StateWord.{StateWord}
 use Rattle.choice_forms.specs.Choosing.{choose_answer}
 use Rattle.choice_forms.specs.Tables.{choices_text}
 
--- The answer to `choices`, which only requires that few environments are in scope.
+-- The answer to `choices`. If too many environments are in scope, `shown` is the refusal.
 abbrev pub choices_answer : Parts → Option Shown → ℕ × List ℕ
 choices_answer spec (Some shown) = (NOT_ACCEPTED, shown_line spec shown)
 choices_answer spec None = (ANSWERED, choices_text spec)
 
--- The answer to `choices` with the name of a specification's file.
+-- The answer to `choices` about the specification in the file of this name.
 abbrev pub ChoicesAnswers : List ℕ → Answer
 ChoicesAnswers specification = AsksSpecification specification (λ (spec : Parts). WithoutFiles (Gives (choices_answer spec (state_refusal spec))))
 
--- If `choices` ends with status 0, it has read no other file, and the text is that of the choices of the specification.
+-- If `choices` ends with status 0, it has read no other file, and the text lists the choices of the specification.
 abbrev pub AssuresChoices : List ℕ → History → List ℕ → Type 0
 AssuresChoices specification = OfSpecification specification (λ (spec : Parts) (reads : History) (text : List ℕ). (reads ≡ []) × (text ≡ choices_text spec))
 
--- The answer to `choose` with the names of a specification's file and of a configuration, and the words of a state.
+-- The answer to `choose` about the specification in the file of this name, with a configuration's name and the words of
+-- a state.
 abbrev pub ChooseAnswers : List ℕ → List ℕ → List StateWord → Answer
 ChooseAnswers specification conf state = AsksSpecification specification (λ (spec : Parts). WithoutFiles (Gives (choose_answer spec conf state)))
 

@@ -1,4 +1,4 @@
--- The choice in a state of the environment.
+-- The choice from a configuration in a state of the environment.
 use Rattle.std.specs.Prelude.{◌≡◌, ◌⊎◌, ℕ, ◌-◌, ◌^◌, Bool, false, not, ◌||◌, ◌==◌, List, [], ◌∷◌, ◌++◌, length, slice_get, Option, Some, None, Result, Ok, Err, codes, set, option_and_then, option_map, if◌then◌else◌}
 use Rattle.std.specs.List.{list_any}
 use Rattle.std.specs.Option.{option_map_or}
@@ -24,88 +24,90 @@ use Rattle.choice_forms.specs.declared.states.StateWord.TheVariants.{Value, Down
 use Rattle.choice_forms.specs.Lines.{ruled_text}
 use Rattle.choice_forms.specs.States.{state_word_text}
 
--- The environment in which factor x has this value.
+-- The environment `v` with this value for factor `x`.
 abbrev pub with_value : Env → ℕ → ℕ → Env
 with_value v x value = record { up = v.up; factors = set v.factors x value }
 
--- The processors of a set without `p`.
+-- The set `up` without processor `p`.
 abbrev pub others_up : ℕ → ℕ → ℕ
 others_up up p = if has_bit up p then up - 2 ^ p else up
 
--- The environment in which a factor has a value, or none if the specification lacks either.
+-- The environment `v` with this value for the factor, or none if the specification has no such factor or value.
 abbrev pub valued : Parts → Env → List ℕ → List ℕ → Option Env
 valued spec v factor value =
     option_and_then (λ (x : FactorId). option_map (λ (n : ℕ). with_value v x.0 n) (find_value spec x value)) (factor_named spec factor)
 
--- The environment in which a processor is down, or none if the specification lacks the processor.
+-- The environment `v` with the processor down, or none if the specification has no such processor.
 abbrev pub taken_down : Parts → Env → List ℕ → Option Env
 taken_down spec v proc = option_map (λ (p : ProcId). record { up = others_up v.up p.0; factors = v.factors }) (proc_named spec proc)
 
--- The environment after a word of a state, or none if the word names nothing of the specification.
+-- The environment `v` changed by a word of a state, or none if the word names nothing of the specification.
 abbrev pub env_after : Parts → Env → StateWord → Option Env
 env_after spec v (Value factor value) = valued spec v factor value
 env_after spec v (Down proc) = taken_down spec v proc
 
--- The environment after words, or the first word that names nothing.
+-- The environment `v` changed by the words of a state, or the first word that names nothing of the specification.
 abbrev pub env_after_all : Parts → Env → List StateWord → Result Env StateWord
 env_after_all spec v [] = Ok v
 env_after_all spec v (word ∷ words) = option_map_or (λ (w : Env). env_after_all spec w words) (env_after spec v word) (Err word)
 
--- An application is placed on processor p.
+-- Whether an application is placed on processor `p`.
 abbrev pub is_placed_on : ℕ → Option Place → Bool
 is_placed_on p None = false
 is_placed_on p (Some place) = place.proc.0 == p
 
--- A configuration places an application on processor p.
+-- Whether configuration `c` places an application on processor `p`.
 abbrev pub is_used : Parts → ConfId → ℕ → Bool
 is_used spec c p = list_any (is_placed_on p) (places_of spec c)
 
--- The processors that configuration `c` does not use or that are up, as bits.
+-- The set, as bits, of the processors that are up or that configuration `c` does not use.
 abbrev pub spared : Parts → ConfId → Env → ℕ
 spared spec c v = bits_below (λ p. is_up_in v p || not (is_used spec c p)) (length spec.procs)
 
--- The text of the processors of a target that are down, or empty if the target can run.
+-- The text of the processors that a target uses and that are down, or the empty text if the target can run.
 abbrev pub needs_text : Parts → ConfId → Env → List ℕ
 needs_text spec to v = if is_runnable spec to v then [] else codes ", which needs " ++ added (names_down spec.procs (spared spec to v))
 
--- The state of an environment, which is its difference from the one in which a flight opens, or `ok` if there is none.
+-- The text of the difference of an environment from the opening environment of a flight, or `ok` if there is none.
 abbrev pub state_text : Parts → Env → List ℕ
 state_text spec v = if have_changed spec (opening_env spec) v then difference_text spec (opening_env spec) v else codes "ok"
 
--- The text of the processors that the target of rule `k` needs.
+-- The text of the processors that the target of rule `k` uses and that are down. It is empty if the target can run or
+-- there is no such rule.
 abbrev pub rule_needs : Parts → ℕ → Env → List ℕ
 rule_needs spec k v = option_map_or (λ (rule : Choice). needs_text spec rule.to v) (slice_get spec.rules k) []
 
--- The text of a configuration and a state, with the rule and its target.
+-- The first piece of a choice's line: the configuration, the state, the rule and its target.
 abbrev pub choice_piece : Parts → ConfId → Env → ℕ → List ℕ
 choice_piece spec c v k = codes "choice " ++ conf_name spec c.0 ++ codes " in " ++ state_text spec v ++ ruled_text spec k
 
--- The processors that the target of rule `k` needs, and the end of the line.
+-- The second piece of a choice's line: the processors that the target needs, and the line feed.
 abbrev pub needs_piece : Parts → Env → ℕ → List ℕ
 needs_piece spec v k = rule_needs spec k v ++ codes "\n"
 
--- The line of the choice from configuration `c` in an environment, with the rule of the choice.
+-- The line of the choice from configuration `c` in an environment.
 abbrev pub chosen_line : Parts → ConfId → Env → List ℕ
 chosen_line spec c v = choice_piece spec c v (first_rule spec.rules c v) ++ needs_piece spec v (first_rule spec.rules c v)
 
--- The line for a word that names nothing of the specification.
+-- The refusal of a word that names nothing of the specification.
 abbrev pub no_name_line : List ℕ → List ℕ
 no_name_line word = codes "refused: no such name " ++ word ++ codes "\n"
 
--- The status and the line are those of a word that names nothing, or of lack of memory for that line.
+-- The status and the line say that the word names nothing of the specification, or that there was no memory for that
+-- line.
 abbrev pub IsUnknown : List ℕ → ℕ × List ℕ → Type 0
 IsUnknown word refusal = (refusal ≡ (UNKNOWN_NAME, no_name_line word)) ⊎ (refusal ≡ (OUT_OF_MEMORY, memory_line))
 
--- The answer in an environment, or for a word that names nothing.
+-- The answer for the choice in an environment, or for the word of a state that names nothing.
 abbrev pub chosen_in : Parts → ConfId → Result Env StateWord → ℕ × List ℕ
 chosen_in spec c (Ok v) = (ANSWERED, chosen_line spec c v)
 chosen_in spec c (Err word) = (UNKNOWN_NAME, no_name_line (state_word_text word))
 
--- The answer for a configuration, or for a word that names no configuration.
+-- The answer for the choice from a configuration, or for a word that names no configuration.
 abbrev pub chosen_from : Parts → Option ConfId → List ℕ → List StateWord → ℕ × List ℕ
 chosen_from spec None conf words = (UNKNOWN_NAME, no_name_line conf)
 chosen_from spec (Some c) conf words = chosen_in spec c (env_after_all spec (opening_env spec) words)
 
--- The answer to `choose` with a configuration's name and the words of a state.
+-- The answer to `choose` about a specification, with a configuration's name and the words of a state.
 abbrev pub choose_answer : Parts → List ℕ → List StateWord → ℕ × List ℕ
 choose_answer spec conf words = chosen_from spec (conf_named spec conf) conf words

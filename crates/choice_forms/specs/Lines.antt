@@ -1,4 +1,4 @@
--- The lines of choices.
+-- The lines that show the choices of a specification.
 use Rattle.std.specs.Prelude.{ℕ, List, ◌++◌, slice_get, codes, decimal}
 use Rattle.std.specs.Option.{option_map_or}
 use Rattle.scram_types.specs.Lookups.{conf_name}
@@ -12,12 +12,12 @@ use Rattle.form_base.specs.Lines.{env_text}
 abbrev pub rule_to_text : Parts → ℕ → ConfId → List ℕ
 rule_to_text spec k to = codes " rule " ++ decimal k ++ codes " to " ++ conf_name spec to.0
 
--- The text of rule `k` and its target, or that there is no rule.
+-- The text of rule `k` and its target, or the text ` no rule` if there is no such rule.
 abbrev pub ruled_text : Parts → ℕ → List ℕ
 ruled_text spec k = option_map_or (λ (rule : Choice). rule_to_text spec k rule.to) (slice_get spec.rules k) (codes " no rule")
 
--- The line of the number of environments in scope in which rule `k` is the first that fits configuration `from`, and
--- the first of these environments.
+-- The line of rule `k` and configuration `from`. It has the number of environments in scope in which the rule is the
+-- first that fits, and the first of them.
 abbrev pub choice_line : Parts → ℕ → ℕ → ℕ → Env → List ℕ
 choice_line spec from k count first =
     codes "choice " ++ conf_name spec from ++ ruled_text spec k ++ codes " in " ++ decimal count ++ codes ", first " ++ env_text spec first ++ codes "\n"

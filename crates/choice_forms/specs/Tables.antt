@@ -1,4 +1,4 @@
--- The text of the choices of each rule.
+-- The text of the choices of a specification.
 use Rattle.std.specs.Prelude.{◌≡◌, ℕ, suc, List, [], length, slice_get, Some}
 use Rattle.std.specs.Option.{option_map_or}
 use Rattle.scram_types.specs.Lookups.{conf_id}
@@ -13,30 +13,30 @@ use Rattle.form_base.specs.Texts.{texts_below}
 use Rattle.choice_forms.specs.declared.tables.Table.{Table}
 use Rattle.choice_forms.specs.Lines.{choice_line}
 
--- The line of rule `k` and configuration number `i`, or empty if in no environment in scope the rule is the first that
--- fits. A `k` past the last rule means that no rule fits.
+-- The line of rule `k` and configuration `i`, or the empty text if the rule is not the first that fits in any
+-- environment in scope. If `k` is the number of rules, the line is that of the environments in which no rule fits.
 abbrev pub choice_text : Parts → ℕ → ℕ → List ℕ
 choice_text spec i k =
     option_map_or (λ (first : Env). choice_line spec i k (count_where spec (is_ruled_by spec (conf_id i) k)) first)
     (first_where spec (is_ruled_by spec (conf_id i) k)) []
 
--- The lines of configuration number i.
+-- The lines of configuration `i`, by rule.
 abbrev pub choices_text_from : Parts → ℕ → List ℕ
 choices_text_from spec i = texts_below (choice_text spec i) (suc (length spec.rules))
 
--- The lines of all configurations.
+-- The lines of all configurations, by configuration.
 abbrev pub choices_text : Parts → List ℕ
 choices_text spec = texts_below (choices_text_from spec) (length spec.confs)
 
--- The shares of each configuration, in order.
+-- The list holds the shares of each configuration, in order.
 pub record HasShares (spec : Parts) (all : List (List Share)) : Type 0 where
   pub width : length all ≡ length spec.confs
   pub each : (i : ℕ) (shares : List Share) → slice_get all i ≡ Some shares → AreShares spec (conf_id i) shares
 
--- The shares are those of the specification.
+-- The shares of a table are those of its specification.
 abbrev pub ShowsShares : Table → Type 0
 ShowsShares table = HasShares table.spec table.shares.items
 
--- The text is that of the choices of the specification.
+-- The answer has status 0, and its text lists the choices of the specification.
 abbrev pub TellsChoices : Table → ℕ → List ℕ → Type 0
 TellsChoices table = Gives (ANSWERED, choices_text table.spec)

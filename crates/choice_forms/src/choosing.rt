@@ -1,4 +1,4 @@
-//! The form `choose`: the choice in a state of the environment.
+//! The form `choose`, which shows the choice from a configuration in a state of the environment.
 
 ghost use Rattle.std.specs.Prelude.{◌≡◌, ◌<◌, ◌≤◌, ◌∷◌, ◌++◌, [], IfErr, IfOk, IfSome, Ok, Err};
 ghost use Rattle.scram_types.specs.Lookups.{opening_env};
@@ -27,7 +27,7 @@ use scram_types::{ConfId, Env, Name, Spec};
 use std::alloc::Global;
 use trace_text::lines::Line;
 
-/// The question to `choose`: the file of a specification, the name of a configuration, and the words of a state.
+/// A question for `choose`: the name of a specification's file, the name of a configuration, and the words of a state.
 #[derive(Clone, Copy)]
 pub struct Question<'a> {
     pub specification: &'a str,
@@ -35,16 +35,16 @@ pub struct Question<'a> {
     pub state: &'a [StateWord],
 }
 
-/// A line in two pieces: the choice, and the processors that the target needs.
+/// The line of a choice, in two pieces. The second piece has the processors that the target needs.
 #[derive(Drop)]
 struct Chosen {
     choice: Line,
     needs: Line,
 }
 
-/// Prints the choice of the specification in a file from a configuration in a state, the rule of the choice, and the
-/// processors that the target needs but that are down. Prints the first word that names nothing of the specification
-/// instead, if there is one.
+/// Prints the choice from a configuration in a state, by the specification in a file. The line has the rule, its
+/// target, and the processors that the target needs but that are down. If a word names nothing of the specification,
+/// the first such word is refused instead.
 pub fn choose<F: Files, K: Sink>(
     alloc: Global,
     question: Question<'_>,
@@ -69,7 +69,7 @@ fn put_chosen<K: Sink>(out: &mut K, chosen: &Chosen) -> Result<(), SinkFault>
     }
 }
 
-/// Reads the specification, and makes the line of its choice.
+/// Reads the specification and returns the line of the choice, or the refusal.
 fn read_chosen<F: Files>(
     alloc: Global,
     question: Question<'_>,
@@ -120,7 +120,7 @@ fn make_chosen(spec: &Spec, c: ConfId, env: &Env) -> Chosen
     }
 }
 
-// Returns the environment in which a flight opens, changed by words, or the first word that names nothing.
+// Returns the opening environment of a flight changed by the words of a state, or the first word that names nothing.
 fn env_after_all<'a>(spec: &Spec, state: &'a [StateWord]) -> Result<Env, &'a StateWord>
     ensures env { IfOk result (λ v. env_after_all spec.now (opening_env spec.now) state.now ≡ Ok v) }
     ensures belongs { IfOk result (λ v. IsEnv spec.now v) }
@@ -149,7 +149,7 @@ fn env_after(spec: &Spec, env: &Env, word: &StateWord) -> Option<Env>
     }
 }
 
-// Returns the environment in which a factor has a value, or `None` if the specification lacks either.
+// Returns the environment with this value for the factor, or `None` if the specification has no such factor or value.
 fn valued(spec: &Spec, env: &Env, factor: &Name, value: &Name) -> Option<Env>
     requires { IsEnv spec.now env.now }
     ensures env { result ≡ valued spec.now env.now factor.now value.now }
@@ -162,7 +162,7 @@ fn valued(spec: &Spec, env: &Env, factor: &Name, value: &Name) -> Option<Env>
     Some(with_value(env, x.0, number))
 }
 
-// Returns the environment in which factor `x` has this value.
+// Returns the environment with this value for factor `x`.
 fn with_value(env: &Env, x: u8, value: u8) -> Env
     requires { x < 6 }
     ensures { result ≡ with_value env.now x value }
@@ -175,7 +175,7 @@ fn with_value(env: &Env, x: u8, value: u8) -> Env
     }
 }
 
-// Returns the environment in which a processor is down, or `None` if the specification lacks the processor.
+// Returns the environment with the processor down, or `None` if the specification has no such processor.
 fn taken_down(spec: &Spec, env: &Env, proc: &Name) -> Option<Env>
     requires { IsEnv spec.now env.now }
     ensures env { result ≡ taken_down spec.now env.now proc.now }
@@ -190,7 +190,7 @@ fn taken_down(spec: &Spec, env: &Env, proc: &Name) -> Option<Env>
     })
 }
 
-// Returns a set without processor `p`.
+// Returns the set `up` without processor `p`.
 fn others_up(up: u8, p: u8) -> u8
     requires { p < 8 }
     ensures value { result ≡ others_up up p }
@@ -199,7 +199,7 @@ fn others_up(up: u8, p: u8) -> u8
     if has_bit(up, p) { up - (1 << p) } else { up }
 }
 
-// Returns the refusal of a word of a state that names nothing.
+// Returns the refusal of a word of a state that names nothing of the specification.
 fn no_word(alloc: Global, word: &StateWord) -> Refusal
     ensures { IsUnknown (state_word_text word.now) (told result) }
 {
@@ -215,7 +215,8 @@ fn no_word(alloc: Global, word: &StateWord) -> Refusal
     }
 }
 
-// Returns the refusal of a word that names nothing, or the refusal for lack of memory if there is none for its line.
+// Returns the refusal of a word that names nothing of the specification, or the out-of-memory refusal if there is no
+// memory for its line.
 fn no_name(alloc: Global, word: &str) -> Refusal
     ensures { IsUnknown word.now (told result) }
 {

@@ -1,5 +1,5 @@
-//! The forms that show the choice table: `choices` and `choose`. The output of each is the answer to the bytes of the
-//! file that its words name.
+//! The forms `choices` and `choose`, which show the choice table. Their output depends only on their words and the
+//! bytes of the file that the words name.
 #![tactic(auto)]
 
 mod choosing;

@@ -1,4 +1,4 @@
-//! The lines of choices, made without memory.
+//! The lines that show choices, made without allocation.
 
 ghost use Rattle.std.specs.Prelude.{◌≡◌, ◌+◌, ◌≤◌, ◌++◌, length};
 ghost use Rattle.scram_types.specs.declared.limits.TheConstants.{MAX_LINE_BYTES};
@@ -12,8 +12,8 @@ use scram_types::bits::has_bit;
 use scram_types::{ConfId, Env, Place, Spec};
 use trace_text::lines::Line;
 
-/// Returns the line of the environments in scope in which rule `k` is the first that fits configuration `from`: their
-/// number, and the first of them. A `k` past the last rule means the environments in which no rule fits.
+/// Returns the line of rule `k` and configuration `from`. It has the number of environments in scope in which the rule
+/// is the first that fits, and the first of them. If `k` is past the last rule, no rule fits in these environments.
 pub fn make_choice_line(spec: &Spec, from: ConfId, k: usize, count: u32, first: &Env) -> Line
     ensures { result ≡ choice_line spec.now from.0 k count first.now }
 {
@@ -51,8 +51,8 @@ fn add_target(line: &mut Line, spec: &Spec, k: u32, to: ConfId)
     line.text(spec.conf_name(to).as_bytes());
 }
 
-/// Returns the line of the choice from configuration `c` in an environment, without its end. Rule `k` is the first that
-/// fits.
+/// Returns the first piece of the line of the choice from configuration `c` in an environment. Rule `k` is the first
+/// that fits, or is past the last rule if none fits.
 pub fn make_chosen_line(spec: &Spec, c: ConfId, env: &Env, k: usize) -> Line
     ensures { result ≡ choice_piece spec.now c env.now k }
 {
@@ -65,7 +65,7 @@ pub fn make_chosen_line(spec: &Spec, c: ConfId, env: &Env, k: usize) -> Line
     line
 }
 
-// Appends the state of an environment.
+// Appends the difference of an environment from the opening environment of a flight, or `ok` if there is none.
 fn add_state(line: &mut Line, spec: &Spec, env: &Env)
     requires { length line.old + 348 ≤ MAX_LINE_BYTES }
     ensures text { line.new ≡ line.old ++ state_text spec.now env.now }
@@ -79,7 +79,8 @@ fn add_state(line: &mut Line, spec: &Spec, env: &Env)
     }
 }
 
-/// Returns the end of the line of a choice: the processors that the target needs but that are down.
+/// Returns the second piece of the line of a choice: the processors that the target needs but that are down, and the
+/// line feed.
 pub fn make_needs_line(spec: &Spec, env: &Env, k: usize) -> Line
     ensures { result ≡ needs_piece spec.now env.now k }
 {
@@ -102,7 +103,7 @@ fn add_needs(line: &mut Line, spec: &Spec, to: ConfId, env: &Env)
     }
 }
 
-// Returns the processors that configuration `c` does not use or that are up, as bits.
+// Returns the set, as bits, of the processors that are up or that configuration `c` does not use.
 fn spared(spec: &Spec, c: ConfId, env: &Env) -> u8
     ensures { result ≡ spared spec.now c env.now }
 {

@@ -1,4 +1,4 @@
-//! The words that describe a state of the environment by its difference from the one in which a flight opens.
+//! The words that describe a state of the environment by its difference from the opening environment of a flight.
 
 ghost use Rattle.std.specs.Prelude.{◌≡◌, map, string_bytes};
 ghost use Rattle.choice_forms.specs.States.{state_in, state_word, value_word};
@@ -19,7 +19,7 @@ pub enum StateWord {
 }
 
 impl Default for StateWord {
-    /// Returns a word for the unused entries of a list of fixed length.
+    /// Returns the word that fills the unused entries of a list of fixed length.
     fn default() -> StateWord {
         StateWord::Down {
             proc: Name::default(),
@@ -43,7 +43,7 @@ impl std::marker::Model for State {
 }
 
 impl State {
-    /// Returns the words.
+    /// Returns the words of the state.
     pub fn words(&self) -> &[StateWord]
         ensures { result.now ≡ self.now }
     {

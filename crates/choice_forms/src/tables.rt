@@ -1,5 +1,5 @@
-//! The form `choices`: the target of each rule, the configurations from which it is chosen, and the number of
-//! environments.
+//! The form `choices`, which shows for each configuration the rules that choose its target and the number of
+//! environments in which they do.
 
 ghost use Rattle.std.specs.Prelude.{◌≡◌, ◌<◌, ◌≤◌, ◌∷◌, [], IfOk, length};
 ghost use Rattle.scram_types.specs.Lookups.{conf_id};
@@ -32,8 +32,9 @@ struct Table {
     shares: Vec<List<Share>>,
 }
 
-/// Prints the target of each rule of the specification in a file, the configurations from which the rule is chosen and
-/// the number of environments, if few enough environments are in scope.
+/// Prints a line for each configuration and each rule that chooses its target in some environment in scope, with the
+/// number of these environments and the first of them. If too many environments are in scope, it prints the refusal
+/// instead.
 pub fn choices<F: Files, K: Sink>(
     alloc: Global,
     specification: &str,
@@ -53,7 +54,7 @@ pub fn choices<F: Files, K: Sink>(
     }
 }
 
-/// Reads the specification, and computes the shares of its configurations.
+/// Reads the specification and returns it with the shares of its configurations, or returns the refusal.
 fn read_table<F: Files>(alloc: Global, specification: &str, files: &mut F) -> Result<Table, Refusal>
     ensures reads { Prepares (ChoicesAnswers specification.now) TellsChoices (specification.now ∷ []) (F.state files.old) (F.state files.new) result }
     ensures shares { IfOk result ShowsShares }
@@ -135,7 +136,7 @@ fn put_choices_from<K: Sink>(
     Ok(())
 }
 
-// Writes the line of a share, if it has an environment.
+// Writes the line of a share if the share has an environment.
 fn put_choice<K: Sink>(
     out: &mut K,
     spec: &Spec,

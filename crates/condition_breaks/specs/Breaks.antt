@@ -1,4 +1,4 @@
--- The places at which each condition of acceptance does not hold, in order.
+-- The places at which each condition of acceptance does not hold, as ordered lists.
 use Rattle.std.specs.Prelude.{ℕ, ◌==◌, List, [], ◌∷◌, length, slice_get, Option, None, option_and_then, option_map, if◌then◌else◌}
 use Rattle.std.specs.Option.{option_map_or, option_to_list}
 use Rattle.scram_types.specs.Lookups.{app_id, conf_id, proc_id}
@@ -23,78 +23,81 @@ use Rattle.condition_breaks.specs.Form.{first_twin, is_need_off}
 use Rattle.condition_breaks.specs.Lists.{gathered_below, one_if}
 use Rattle.condition_breaks.specs.Ranges.{all_ways, first_unheld, hull_of, interval, range_on}
 
--- A1: application `a` is on in configuration `c`, and application `b`, which it needs, is off.
+-- The place of A1 at which application `a` is on in configuration `c` and application `b`, which it needs, is off, if
+-- so.
 abbrev pub need_break : Parts → ℕ → ℕ → ℕ → List Break
 need_break spec c a b = one_if (is_need_off spec (conf_id c) a b) (broken.NeedOff (conf_id c) (app_id a) (app_id b))
 
--- The places of A1 for all applications `b`, in order.
+-- The places of A1 for configuration `c` and application `a`, by needed application.
 abbrev pub need_breaks_of : Parts → ℕ → ℕ → List Break
 need_breaks_of spec c a = gathered_below (need_break spec c a) (length spec.apps)
 
--- The places of A1 for all applications `a`, in order.
+-- The places of A1 for configuration `c`, by application.
 abbrev pub need_breaks_in : Parts → ℕ → List Break
 need_breaks_in spec c = gathered_below (need_breaks_of spec c) (length spec.apps)
 
--- The places of A1, by configuration, in order.
+-- The places of A1, by configuration.
 abbrev pub need_breaks : Parts → List Break
 need_breaks spec = gathered_below (need_breaks_in spec) (length spec.confs)
 
--- A2: there are too many environments in scope.
+-- The place of A2, if there are too many environments in scope.
 abbrev pub state_breaks : Parts → List Break
 state_breaks spec = one_if (has_too_many_states spec) broken.ManyStates
 
--- A3: configuration `c` has no application on, or is the same as an earlier one, the first of which is shown.
+-- The place of A3 for configuration `c`, if it has no application on or is the same as an earlier configuration. The
+-- first such configuration is shown.
 abbrev pub shape_break : Parts → ℕ → List Break
 shape_break spec c =
     if is_empty spec (conf_id c) then broken.NothingOn (conf_id c) ∷ []
     else option_to_list (option_map (λ (d : ConfId). broken.SameAgain (conf_id c) d) (first_twin spec c))
 
--- The places of A3, by configuration, in order.
+-- The places of A3, by configuration.
 abbrev pub shape_breaks : Parts → List Break
 shape_breaks spec = gathered_below (shape_break spec) (length spec.confs)
 
--- A4: configuration `c` loads processor `p` beyond its capacity.
+-- The place of A4 at which configuration `c` loads processor `p` beyond its capacity, if so.
 abbrev pub load_break : Parts → ℕ → ℕ → List Break
 load_break spec c p = one_if (is_overloaded spec (conf_id c) p) (broken.Overloaded (conf_id c) (proc_id p))
 
--- The places of A4 for all processors, in order.
+-- The places of A4 for configuration `c`, by processor.
 abbrev pub load_breaks_in : Parts → ℕ → List Break
 load_breaks_in spec c = gathered_below (load_break spec c) (length spec.procs)
 
--- The places of A4, by configuration, in order.
+-- The places of A4, by configuration.
 abbrev pub load_breaks : Parts → List Break
 load_breaks spec = gathered_below (load_breaks_in spec) (length spec.confs)
 
--- A5 to A7: configuration `c` does not meet a requirement, with the first environment in scope in which it does not.
+-- The place of A5, A6 or A7 for configuration `c`, if it does not meet the requirement. It has the first environment in
+-- scope in which the requirement is not met.
 abbrev pub unmet_break : Parts → Requirement → ℕ → List Break
 unmet_break spec asked c = option_to_list (option_map (λ (v : Env). broken.Unmet asked (conf_id c) v) (first_unmet_env spec asked (conf_id c)))
 
--- The places of a requirement, by configuration, in order.
+-- The places at which a requirement is not met, by configuration.
 abbrev pub unmet_breaks : Parts → Requirement → List Break
 unmet_breaks spec asked = gathered_below (unmet_break spec asked) (length spec.confs)
 
--- A8: the start configuration is left at once.
+-- The place of A8, if the start configuration is left at once.
 abbrev pub start_breaks : Parts → List Break
 start_breaks spec = one_if (leaves_start spec) broken.StartLeft
 
--- A9: a bound from `i` to `j` is required, and no sufficient bound is given.
+-- The place of A9 for a bound from `i` to `j`, if a bound is required and no sufficient one is given.
 abbrev pub bound_break : Parts → ℕ → ℕ → List Break
 bound_break spec i j = one_if (lacks_bound spec (conf_id i) j) (broken.BoundLacking (conf_id i) (conf_id j))
 
--- The places of A9 for all targets, in order.
+-- The places of A9 for bounds from `i`, by target.
 abbrev pub bound_breaks_from : Parts → ℕ → List Break
 bound_breaks_from spec i = gathered_below (bound_break spec i) (length spec.confs)
 
--- The places of A9, by source, in order.
+-- The places of A9, by source.
 abbrev pub bound_breaks : Parts → List Break
 bound_breaks spec = gathered_below (bound_breaks_from spec) (length spec.confs)
 
--- A10: the window is too short.
+-- The place of A10, if the window is too short.
 abbrev pub window_breaks : Parts → List Break
 window_breaks spec = one_if (has_short_window spec) broken.WindowShort
 
--- The place of an invariant: the first way whose range it does not contain, and the smallest interval that contains all
--- ranges that it has to contain.
+-- The place of invariant `k`, with the given way and the smallest interval that contains all ranges that the invariant
+-- has to contain.
 abbrev pub unheld : Parts → ℕ → Invariant → Way → Break
 unheld spec k inv taken =
     broken.Unheld (record { invariant = k; way = taken; needed = hull_of spec inv (interval (range_on spec inv taken)) (all_ways spec) })
@@ -107,11 +110,11 @@ unheld_of spec k inv = option_map (unheld spec k inv) (first_unheld spec inv (al
 abbrev pub unheld_at : Parts → ℕ → Option Break
 unheld_at spec k = option_map_or (unheld_of spec k) (slice_get spec.invariants k) None
 
--- A11: invariant `k` does not contain a range that it has to contain.
+-- The place of A11 for invariant `k`, if it does not contain a range that it has to contain.
 abbrev pub invariant_break : Parts → ℕ → List Break
 invariant_break spec k = option_to_list (unheld_at spec k)
 
--- The places of A11, by invariant, in order.
+-- The places of A11, by invariant.
 abbrev pub invariant_breaks : Parts → List Break
 invariant_breaks spec = gathered_below (invariant_break spec) (length spec.invariants)
 
@@ -123,38 +126,40 @@ unentered_of spec k pre = shown_if (breaks_entering spec pre) (broken.Preconditi
 abbrev pub unentered_at : Parts → ℕ → Option Break
 unentered_at spec k = option_map_or (unentered_of spec k) (slice_get spec.preconditions k) None
 
--- A12: precondition `k` can fail when its configuration is entered.
+-- The place of A12 for precondition `k`, if it can fail when its configuration is entered.
 abbrev pub precondition_break : Parts → ℕ → List Break
 precondition_break spec k = option_to_list (unentered_at spec k)
 
--- The places of A12, by precondition, in order.
+-- The places of A12, by precondition.
 abbrev pub precondition_breaks : Parts → List Break
 precondition_breaks spec = gathered_below (precondition_break spec) (length spec.preconditions)
 
--- A13: the table misses a demand, which has number `k`, from configuration `c`, with the first environment in scope in
--- which it does.
+-- The place of A13 for configuration `c` and demand `k`, if the table misses the demand. It has the first environment
+-- in scope in which the demand is missed.
 abbrev pub demand_break_of : Parts → ℕ → ℕ → Demand → List Break
 demand_break_of spec c k demand =
     option_to_list (option_map (λ (v : Env). broken.DemandMissed (conf_id c) k v) (first_missed_env spec demand (conf_id c)))
 
--- The place of A13 for configuration `c` and the demand of this number, if there is one.
+-- The place of A13 for configuration `c` and the demand of this number, if there is such a demand and the table misses
+-- it.
 abbrev pub demand_break : Parts → ℕ → ℕ → List Break
 demand_break spec c k = option_map_or (demand_break_of spec c k) (slice_get spec.demands k) []
 
--- The places of A13 for all demands, in order.
+-- The places of A13 for configuration `c`, by demand.
 abbrev pub demand_breaks_in : Parts → ℕ → List Break
 demand_breaks_in spec c = gathered_below (demand_break spec c) (length spec.demands)
 
--- The places of A13, by configuration, in order.
+-- The places of A13, by configuration.
 abbrev pub demand_breaks : Parts → List Break
 demand_breaks spec = gathered_below (demand_breaks_in spec) (length spec.confs)
 
--- The place for configuration `c` and demand `k`, given the first environment found for each demand.
+-- The place for configuration `c` and demand `k`, if any. `found` holds for each demand the first environment in which
+-- it is missed.
 abbrev pub missed_at : List (Option Env) → ℕ → ℕ → Option Break
 missed_at found c k =
     option_and_then (λ (first : Option Env). option_map (λ (v : Env). broken.DemandMissed (conf_id c) k v) first) (slice_get found k)
 
--- The places at which one of the conditions 9 to 13 does not hold.
+-- The places at which a condition does not hold, if its number is 9 to 13, or the empty list.
 abbrev pub later_breaks : Parts → ℕ → List Break
 later_breaks spec condition =
     if condition == 9 then bound_breaks spec else
@@ -163,7 +168,7 @@ later_breaks spec condition =
     if condition == 12 then precondition_breaks spec else
     if condition == 13 then demand_breaks spec else []
 
--- The places at which one of the conditions 5 to 13 does not hold.
+-- The places at which a condition does not hold, if its number is 5 to 13, or the empty list.
 abbrev pub choice_breaks : Parts → ℕ → List Break
 choice_breaks spec condition =
     if condition == 5 then unmet_breaks spec requirement.HasRule else
@@ -171,7 +176,7 @@ choice_breaks spec condition =
     if condition == 7 then unmet_breaks spec requirement.Stays else
     if condition == 8 then start_breaks spec else later_breaks spec condition
 
--- The places at which a condition does not hold, by its number. The list is empty if the number is not 1 to 13.
+-- The places at which the condition of this number does not hold, or the empty list if the number is not 1 to 13.
 abbrev pub breaks : Parts → ℕ → List Break
 breaks spec condition =
     if condition == 1 then need_breaks spec else

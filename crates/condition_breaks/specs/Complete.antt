@@ -1,4 +1,4 @@
--- No place is left out.
+-- The completeness of the lists of places.
 use Rattle.std.specs.Prelude.{◌≡◌, ℕ, ◌<◌, true, false, List, length, slice_get, Some}
 use Rattle.scram_types.specs.declared.rows.Env.{Env}
 use Rattle.scram_types.specs.declared.ids.ConfId.{ConfId}
@@ -20,12 +20,12 @@ use Rattle.condition_breaks.specs.declared.breaks.Unheld.{Unheld}
 use Rattle.condition_breaks.specs.Breaks.{breaks}
 use Rattle.condition_breaks.specs.Form.{is_need_off}
 
--- A list of breaks has a place.
+-- The list contains a place.
 abbrev pub HasPlace : List Break → Break → Type 0
 HasPlace found place = (i : ℕ) × (slice_get found i ≡ Some place)
 
--- Wherever a condition does not hold, its place is among those of the condition. One place represents all equal
--- configurations, all environments and all sources of an invariant.
+-- If a condition does not hold somewhere, the condition's list has a place for this. One place represents all
+-- configurations equal to one, all environments, or all sources of an invariant.
 pub record HasEach (spec : Parts) : Type 0 where
   pub needs : (c a b : ℕ) → c < length spec.confs → a < length spec.apps → b < length spec.apps → is_need_off spec (conf_id c) a b ≡ true
       → HasPlace (breaks spec 1) (broken.NeedOff (conf_id c) (app_id a) (app_id b))
@@ -50,6 +50,6 @@ pub record HasEach (spec : Parts) : Type 0 where
       → is_number_in_scope spec n ≡ true → misses spec demand (conf_id c) (numbered spec n) ≡ true
       → (v : Env) × HasPlace (breaks spec 13) (broken.DemandMissed (conf_id c) k v)
 
--- No place is left out.
+-- The lists of places are complete for every specification.
 abbrev pub NoneIsLeftOut : Type 0
 NoneIsLeftOut = (spec : Parts) → HasEach spec

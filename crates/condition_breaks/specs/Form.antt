@@ -1,4 +1,4 @@
--- Faults of single configurations: needs that are off, and the same configuration twice.
+-- Faults of single configurations: needed applications that are off, and a configuration that is given twice.
 use Rattle.std.specs.Prelude.{ℕ, Bool, false, not, ◌&&◌, ◌==◌, List, slice_get, Option}
 use Rattle.std.specs.List.{list_any}
 use Rattle.std.specs.Option.{option_map_or}

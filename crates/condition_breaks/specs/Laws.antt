@@ -1,4 +1,4 @@
--- The theorems about the places at which conditions do not hold.
+-- Theorems about the places at which conditions do not hold.
 use Rattle.std.specs.Prelude.{◌≡◌, ℕ, ℤ, ◌≤ℤ◌, true, ◌==◌, List, slice_get, Option, Some, None, option_map, if◌then◌else◌}
 use Rattle.std.specs.Option.{option_map_or}
 use Rattle.scram_types.specs.declared.specification.Invariant.{Invariant}
@@ -49,7 +49,7 @@ shown_of spec (broken.DemandMissed c k v) = shown_in 13 c.0 v (other.Demand k)
 abbrev pub first_shown : Parts → List Break → Option Shown
 first_shown spec found = option_map (shown_of spec) (slice_get found 0)
 
--- The refusal of one of the conditions 9 to 13, by its number.
+-- The refusal of a condition whose number is 9 to 13, or `None`.
 abbrev pub later_refusal_by : Parts → ℕ → Option Shown
 later_refusal_by spec condition =
     if condition == 9 then bound_refusal spec else
@@ -58,7 +58,7 @@ later_refusal_by spec condition =
     if condition == 12 then precondition_refusal spec else
     if condition == 13 then demand_refusal spec else None
 
--- The refusal of one of the conditions 5 to 13, by its number.
+-- The refusal of a condition whose number is 5 to 13, or `None`.
 abbrev pub choice_refusal_by : Parts → ℕ → Option Shown
 choice_refusal_by spec condition =
     if condition == 5 then requirement_refusal spec requirement.HasRule else
@@ -74,29 +74,29 @@ refusal_of_condition spec condition =
     if condition == 3 then shape_refusal spec else
     if condition == 4 then load_refusal spec else choice_refusal_by spec condition
 
--- For each condition, its refusal shows the first place, and there is no place if it does not refuse.
+-- The refusal of each condition shows the condition's first place. If there is no refusal, there is no place.
 abbrev pub FirstIsShown : Type 0
 FirstIsShown = (spec : Parts) → IsSpec spec → (condition : ℕ) → first_shown spec (breaks spec condition) ≡ refusal_of_condition spec condition
 
--- The refusal of a specification shows the first place of its condition.
+-- The refusal of a specification shows the first place of the condition that it names.
 abbrev pub RefusalIsFirst : Type 0
 RefusalIsFirst = (spec : Parts) (shown : Shown) → IsSpec spec → first_refusal spec ≡ Some shown → first_shown spec (breaks spec shown.condition) ≡ Some shown
 
--- At each place the condition does not hold.
+-- At each place of a condition, the condition does not hold.
 abbrev pub EachIsBroken : Type 0
 EachIsBroken = (spec : Parts) → IsSpec spec → (condition : ℕ) → Each (λ (found : Break). IsBroken spec (shown_of spec found)) (breaks spec condition)
 
--- An interval contains each range that an invariant has to contain.
+-- The interval from `low` to `high` contains each range that an invariant has to contain.
 abbrev pub HoldsAsked : Parts → Invariant → ℤ → ℤ → Type 0
 HoldsAsked spec inv low high =
     Each (λ (taken : Way). has_source inv.from taken.from ≡ true → holds_range low high (range_on spec inv taken) ≡ true) (all_ways spec)
 
--- An interval contains each range that an invariant has to contain, and lies in every interval that does.
+-- The interval `needed` contains each range that an invariant has to contain, and lies within every interval that does.
 pub record IsLeastInterval (spec : Parts) (inv : Invariant) (needed : Extremes) : Type 0 where
   pub holds : HoldsAsked spec inv needed.least needed.greatest
   pub least : (low high : ℤ) → HoldsAsked spec inv low high → (low ≤ℤ needed.least) × (needed.greatest ≤ℤ high)
 
--- The interval that a failing invariant needs is the smallest that contains all ranges that the invariant has to
+-- The interval that the place of an invariant shows is the smallest that contains all ranges that the invariant has to
 -- contain.
 abbrev pub NeededIsLeast : Type 0
 NeededIsLeast = (spec : Parts) (k : ℕ) (inv : Invariant) (found : Unheld) → slice_get spec.invariants k ≡ Some inv

@@ -1,11 +1,11 @@
--- Lists one after another.
+-- The concatenation of lists, and lists of at most one element.
 use Rattle.std.specs.Prelude.{ℕ, zero, suc, Bool, List, [], ◌∷◌, ◌++◌, if◌then◌else◌}
 
--- The lists of the numbers below `n`, one after another.
+-- The lists of the numbers below `n`, concatenated.
 abbrev pub gathered_below : {A : Type 0} → (ℕ → List A) → ℕ → List A
 gathered_below items zero = []
 gathered_below items (suc n) = gathered_below items n ++ items n
 
--- The list of one element if a test holds, else the empty list.
+-- The list of one element if a test holds, or the empty list.
 abbrev pub one_if : {A : Type 0} → Bool → A → List A
 one_if test item = if test then item ∷ [] else []

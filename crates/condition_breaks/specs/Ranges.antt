@@ -22,28 +22,28 @@ way_of i j = record { from = conf_id i; to = conf_id j }
 abbrev pub is_other_target : Parts → ℕ → ℕ → Bool
 is_other_target spec i j = is_target spec (conf_id i) j && not (i == j)
 
--- The way from `i` to `j` if `j` is another possible target of `i`, else no way.
+-- The way from `i` to `j` if `j` is another possible target of `i`, or the empty list.
 abbrev pub way_to : Parts → ℕ → ℕ → List Way
 way_to spec i j = one_if (is_other_target spec i j) (way_of i j)
 
--- The ways from configuration `i` to its other possible targets, in order.
+-- The ways from configuration `i` to its other possible targets, by target.
 abbrev pub other_ways : Parts → ℕ → List Way
 other_ways spec i = gathered_below (way_to spec i) (length spec.confs)
 
--- The way from configuration `i` to itself, followed by those to its other possible targets.
+-- The way from configuration `i` to itself, followed by the ways to its other possible targets.
 abbrev pub ways_from : Parts → ℕ → List Way
 ways_from spec i = way_of i i ∷ other_ways spec i
 
--- All ways, by source, in order.
+-- All ways, by source.
 abbrev pub all_ways : Parts → List Way
 all_ways spec = gathered_below (ways_from spec) (length spec.confs)
 
--- The interval between two numbers.
+-- The interval whose ends are the two numbers.
 abbrev pub interval : ℤ × ℤ → Extremes
 interval ends = record { least = ends.0; greatest = ends.1 }
 
--- The range of an invariant's variable in a place, over all acts in the place's mode. It is 1 to 4 for the status, and
--- zero if the application is off.
+-- The range of an invariant's variable in a place, over all acts in the place's mode. For the status the range is 1 to
+-- 4. If the application is off, it is zero.
 abbrev pub range_asked : Parts → Invariant → Option Place → ℤ × ℤ
 range_asked spec inv None = (pos 0, pos 0)
 range_asked spec inv (Some place) = if inv.variable == 0 then (pos 1, pos 4) else during (kind_of_app spec inv.app.0) 1 place.mode.0 inv.variable
@@ -52,11 +52,11 @@ range_asked spec inv (Some place) = if inv.variable == 0 then (pos 1, pos 4) els
 abbrev pub range_on : Parts → Invariant → Way → ℤ × ℤ
 range_on spec inv taken = range_asked spec inv (place_of spec taken.to inv.app.0)
 
--- Whether an invariant applies to a way's source and does not contain the range at its end.
+-- Whether an invariant applies to the source of a way and does not contain the range at the way's end.
 abbrev pub is_unheld : Parts → Invariant → Way → Bool
 is_unheld spec inv taken = has_source inv.from taken.from && not (holds_range inv.least inv.greatest (range_on spec inv taken))
 
--- The first way whose range an invariant does not contain, or `None` if it contains all.
+-- The first way whose range an invariant has to contain and does not, or `None` if there is none.
 abbrev pub first_unheld : Parts → Invariant → List Way → Option Way
 first_unheld spec inv [] = None
 first_unheld spec inv (taken ∷ ways) = if is_unheld spec inv taken then Some taken else first_unheld spec inv ways
@@ -65,17 +65,19 @@ first_unheld spec inv (taken ∷ ways) = if is_unheld spec inv taken then Some t
 abbrev pub hull : Extremes → ℤ × ℤ → Extremes
 hull held range = record { least = int_min held.least range.0; greatest = int_max held.greatest range.1 }
 
--- The smallest interval that contains an interval and, if an invariant applies to a way's source, the range on the way.
+-- The smallest interval that contains an interval and, if an invariant applies to the source of a way, the range at the
+-- way's end.
 abbrev pub hull_on : Parts → Invariant → Extremes → Way → Extremes
 hull_on spec inv held taken = if has_source inv.from taken.from then hull held (range_on spec inv taken) else held
 
--- The smallest interval that contains an interval and each range on ways to whose source an invariant applies.
+-- The smallest interval that contains an interval and the range at the end of each way to whose source an invariant
+-- applies.
 abbrev pub hull_of : Parts → Invariant → Extremes → List Way → Extremes
 hull_of spec inv held [] = held
 hull_of spec inv held (taken ∷ ways) = hull_of spec inv (hull_on spec inv held taken) ways
 
--- The range that a precondition has to contain in a place: the range after the init phase, or zero if the application
--- is off.
+-- The range that a precondition has to contain in a place. It is the range after the init phase, or zero if the
+-- application is off.
 abbrev pub range_entering : Parts → Precondition → Option Place → ℤ × ℤ
 range_entering spec pre None = (pos 0, pos 0)
 range_entering spec pre (Some place) = after_init (kind_of_app spec pre.app.0) place.mode.0 pre.variable

@@ -1,4 +1,4 @@
--- Environments in which conditions do not hold belong to their specification.
+-- The environments that places show.
 use Rattle.std.specs.Prelude.{⊤}
 use Rattle.scram_types.specs.Specification.{Parts}
 use Rattle.choice_table.specs.Environments.{IsEnv}

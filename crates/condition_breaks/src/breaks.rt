@@ -4,8 +4,8 @@ use coverage_check::choosing::Requirement;
 use flight_facts::extremes::Extremes;
 use scram_types::{AppId, ConfId, Env, ProcId};
 
-/// A place at which a condition of acceptance does not hold. The places of one condition are ordered lexicographically
-/// by the numbers of their parts, from left to right.
+/// A place at which a condition of acceptance does not hold. The places of one condition are ordered by the numbers of
+/// their parts, lexicographically from left to right.
 #[derive(Clone, Copy, Debug, PartialEq, Eq)]
 pub enum Break {
     /// In a configuration, an application is on and an application that it needs is off.
@@ -14,11 +14,11 @@ pub enum Break {
     ManyStates,
     /// A configuration has no application on.
     NothingOn(ConfId),
-    /// A configuration is the same as an earlier configuration, the first of which is given.
+    /// A configuration is the same as an earlier configuration. The second part is the first such configuration.
     SameAgain(ConfId, ConfId),
     /// A configuration loads a processor beyond its capacity.
     Overloaded(ConfId, ProcId),
-    /// A configuration does not meet a requirement in this environment, which is the first such environment in scope.
+    /// A configuration does not meet a requirement in an environment, which is the first such environment in scope.
     Unmet(Requirement, ConfId, Env),
     /// The start configuration is left at once.
     StartLeft,
@@ -30,20 +30,20 @@ pub enum Break {
     Unheld(Unheld),
     /// The precondition of this number can fail when its configuration is entered.
     PreconditionMissed(u32),
-    /// From a configuration the table misses the demand of this number in this environment, which is the first such
+    /// The table misses the demand of this number from a configuration in an environment, which is the first such
     /// environment in scope.
     DemandMissed(ConfId, u32, Env),
 }
 
-/// A configuration with one of its possible targets, or with itself.
+/// A way from a configuration to one of its possible targets, or to itself.
 #[derive(Clone, Copy, Debug, PartialEq, Eq)]
 pub struct Way {
     pub from: ConfId,
     pub to: ConfId,
 }
 
-/// An invariant by its number, the first way whose range it does not contain, and the smallest interval that contains
-/// all ranges that the invariant has to contain.
+/// The number of an invariant, the first way whose range the invariant does not contain, and the smallest interval that
+/// contains all ranges that it has to contain.
 #[derive(Clone, Copy, Debug, PartialEq, Eq)]
 pub struct Unheld {
     pub invariant: u32,

@@ -1,4 +1,4 @@
-//! The places at which the conditions A5 to A8 do not hold: faults of the choice table.
+//! The places at which the conditions A5 to A8 on the choice table do not hold.
 
 ghost use Rattle.std.specs.Prelude.{◌≡◌, ◌++◌, ◌<◌, IfOk, OnOk, length, option_map};
 ghost use Rattle.scram_types.specs.Lookups.{conf_id};
@@ -15,8 +15,8 @@ use cube_cover::cover;
 use scram_types::{ConfId, Env, NoMemory, Spec};
 use std::alloc::Global;
 
-// Appends, for A5 to A7, each configuration that does not meet a requirement, with the first environment in which it
-// does not.
+// Appends the place of A5, A6 or A7 for each configuration that does not meet the requirement. A place has the first
+// environment in scope in which the requirement is not met.
 pub(crate) fn add_unmet_breaks(
     alloc: Global,
     breaks: &mut Vec<Break>,
@@ -57,7 +57,7 @@ fn unmet_in(asked: Requirement, c: ConfId, unmet: Option<Env>) -> Option<Break>
     }
 }
 
-// Appends, for A8, the place of a start configuration that is left at once.
+// Appends the place of A8 if the start configuration is left at once.
 pub(crate) fn add_start_breaks(breaks: &mut Vec<Break>, spec: &Spec) -> Result<(), NoMemory>
     ensures { OnOk result (breaks.new.items ≡ breaks.old.items ++ start_breaks spec.now) }
 {

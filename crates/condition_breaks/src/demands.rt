@@ -1,4 +1,4 @@
-//! The places at which the condition A13 does not hold: demands that the choice table misses.
+//! The places at which the condition A13 does not hold, since the choice table misses a demand.
 
 ghost use Rattle.std.specs.Prelude.{◌≡◌, ◌++◌, ◌<◌, OnOk, length};
 ghost use Rattle.scram_types.specs.Lookups.{conf_id};
@@ -13,8 +13,8 @@ use cube_cover::misses;
 use scram_types::{ConfId, Env, NoMemory, Spec};
 use std::alloc::Global;
 
-// Appends, for A13, each configuration and demand that the table misses from it, with the first environment in which it
-// does.
+// Appends the place of A13 for each configuration and each demand that the table misses from it. A place has the first
+// environment in scope in which the demand is missed.
 pub(crate) fn add_demand_breaks(
     alloc: Global,
     breaks: &mut Vec<Break>,
@@ -29,7 +29,8 @@ pub(crate) fn add_demand_breaks(
     Ok(())
 }
 
-// Appends the places of configuration `c`. `found` holds for each demand the first environment in which it is missed.
+// Appends the places of A13 for configuration `c`. `found` holds for each demand the first environment in which it is
+// missed.
 fn add_demand_breaks_in(
     breaks: &mut Vec<Break>,
     spec: &Spec,

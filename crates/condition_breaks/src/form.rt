@@ -1,4 +1,4 @@
-//! The places at which the conditions A1 to A4 do not hold: faults of single configurations.
+//! The places at which the conditions A1 to A4 do not hold. All but A2 are conditions on single configurations.
 
 ghost use Rattle.std.specs.Prelude.{◌≡◌, ◌++◌, OnOk};
 ghost use Rattle.condition_breaks.specs.Breaks.{load_break, load_breaks, load_breaks_in, need_break, need_breaks, need_breaks_in, need_breaks_of, shape_break, shape_breaks, state_breaks};
@@ -12,7 +12,7 @@ use coverage_check::places::{count_apps, count_confs, count_procs};
 use scram_types::limits::MAX_ENVIRONMENTS;
 use scram_types::{AppId, ConfId, NoMemory, ProcId, Spec};
 
-// Appends, for A1, each application that is on while an application that it needs is off.
+// Appends the place of A1 for each application that is on in a configuration while an application that it needs is off.
 pub(crate) fn add_need_breaks(breaks: &mut Vec<Break>, spec: &Spec) -> Result<(), NoMemory>
     ensures { OnOk result (breaks.new.items ≡ breaks.old.items ++ need_breaks spec.now) }
 {
@@ -73,14 +73,14 @@ fn is_one_of(needs: &[AppId], b: u8) -> bool
     needs.iter().any(|needed| needed.0 == b)
 }
 
-// Appends, for A2, the place of too many environments in scope.
+// Appends the place of A2 if too many environments are in scope.
 pub(crate) fn add_state_breaks(breaks: &mut Vec<Break>, spec: &Spec) -> Result<(), NoMemory>
     ensures { OnOk result (breaks.new.items ≡ breaks.old.items ++ state_breaks spec.now) }
 {
     push_if(breaks, MAX_ENVIRONMENTS < states(spec), Break::ManyStates)
 }
 
-// Appends, for A3, each configuration that has no application on or is the same as an earlier one.
+// Appends the place of A3 for each configuration that has no application on or is the same as an earlier configuration.
 pub(crate) fn add_shape_breaks(breaks: &mut Vec<Break>, spec: &Spec) -> Result<(), NoMemory>
     ensures { OnOk result (breaks.new.items ≡ breaks.old.items ++ shape_breaks spec.now) }
 {
@@ -115,7 +115,7 @@ fn first_twin(spec: &Spec, c: u8) -> Option<ConfId>
     None
 }
 
-// Appends, for A4, each processor that a configuration loads beyond its capacity.
+// Appends the place of A4 for each processor that a configuration loads beyond its capacity.
 pub(crate) fn add_load_breaks(breaks: &mut Vec<Break>, spec: &Spec) -> Result<(), NoMemory>
     ensures { OnOk result (breaks.new.items ≡ breaks.old.items ++ load_breaks spec.now) }
 {

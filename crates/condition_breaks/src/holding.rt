@@ -1,4 +1,4 @@
-//! The places at which the conditions A11 and A12 do not hold: faults of invariants and preconditions.
+//! The places at which the conditions A11 on invariants and A12 on preconditions do not hold.
 
 ghost use Rattle.std.specs.Prelude.{◌≡◌, ◌++◌, OnOk};
 ghost use Rattle.condition_breaks.specs.Breaks.{invariant_break, invariant_breaks, precondition_break, precondition_breaks, unentered_at, unentered_of, unheld_at, unheld_of};
@@ -11,7 +11,7 @@ use coverage_check::holding::breaks_entering;
 use scram_types::{Invariant, NoMemory, Precondition, Spec};
 use std::alloc::Global;
 
-// Appends, for A11, each invariant that does not contain a range that it has to contain.
+// Appends the place of A11 for each invariant that does not contain a range that it has to contain.
 pub(crate) fn add_invariant_breaks(
     alloc: Global,
     breaks: &mut Vec<Break>,
@@ -55,8 +55,8 @@ fn unheld_at(spec: &Spec, ways: &[Way], k: u32) -> Option<Break>
     }
 }
 
-// Returns the place of an invariant: the first way whose range it does not contain, and the smallest interval that
-// contains all ranges that it has to contain. Returns `None` if the invariant contains all of them.
+// Returns the place of invariant `k`, or `None` if it contains all ranges that it has to contain. The place has the
+// first way whose range it does not contain, and the smallest interval that contains all these ranges.
 fn unheld_of(spec: &Spec, ways: &[Way], k: u32, inv: &Invariant) -> Option<Break>
     requires { ways.now ≡ all_ways spec.now }
     ensures { result ≡ unheld_of spec.now k inv.now }
@@ -71,7 +71,7 @@ fn unheld_of(spec: &Spec, ways: &[Way], k: u32, inv: &Invariant) -> Option<Break
     }
 }
 
-// Appends, for A12, each precondition that can fail.
+// Appends the place of A12 for each precondition that can fail when its configuration is entered.
 pub(crate) fn add_precondition_breaks(breaks: &mut Vec<Break>, spec: &Spec) -> Result<(), NoMemory>
     ensures { OnOk result (breaks.new.items ≡ breaks.old.items ++ precondition_breaks spec.now) }
 {
@@ -96,7 +96,7 @@ fn unentered_at(spec: &Spec, k: u32) -> Option<Break>
     }
 }
 
-// Returns the place of a precondition that can fail, or `None` if it cannot.
+// Returns the place of precondition `k` if it can fail when its configuration is entered, or `None` if it cannot.
 fn unentered_of(spec: &Spec, k: u32, pre: &Precondition) -> Option<Break>
     ensures { result ≡ unentered_of spec.now k pre.now }
 {

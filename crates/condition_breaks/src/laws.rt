@@ -1,32 +1,32 @@
-//! The theorems about the places at which conditions do not hold.
+//! Theorems about the places at which conditions do not hold. Each function states one by its contract.
 
 ghost use Rattle.condition_breaks.specs.Complete.{NoneIsLeftOut};
 ghost use Rattle.condition_breaks.specs.Laws.{EachIsBroken, FirstIsShown, NeededIsLeast, RefusalIsFirst};
 
-/// For each condition, the first place is the one that its refusal shows, and there is no place exactly if the
-/// condition holds.
+/// The refusal of each condition shows the condition's first place. There is no place if and only if the condition
+/// holds.
 pub fn first_is_shown()
     ensures { FirstIsShown }
 {}
 
-/// A specification that is not accepted has places at which the condition of its refusal does not hold, and the refusal
-/// shows the first of them.
+/// The refusal of a specification that is not accepted shows the first place of the condition that it names.
 pub fn refusal_is_first()
     ensures { RefusalIsFirst }
 {}
 
-/// At each place the condition does not hold: the place exists in the specification, and its refusal would be true.
+/// At each place of a condition, the condition does not hold. The place exists in the specification, and its refusal is
+/// true.
 pub fn each_is_broken()
     ensures { EachIsBroken }
 {}
 
-/// No place is left out: wherever a condition does not hold, its place is among those of the condition. One place
-/// represents all equal configurations, all environments and all sources of an invariant.
+/// If a condition does not hold somewhere, the condition's list has a place for this. One place represents all
+/// configurations equal to one, all environments, or all sources of an invariant.
 pub fn none_is_left_out()
     ensures { NoneIsLeftOut }
 {}
 
-/// The interval that a failing invariant needs is the smallest that contains all ranges that the invariant has to
+/// The interval that the place of an invariant shows is the smallest that contains all ranges that the invariant has to
 /// contain.
 pub fn needed_is_least()
     ensures { NeededIsLeast }

@@ -1,4 +1,4 @@
-//! All places at which the conditions of acceptance do not hold, in order, by the condition's number.
+//! The lists of all places at which the conditions of acceptance do not hold, by the condition's number.
 #![tactic(auto)]
 
 pub mod breaks;

@@ -1,4 +1,4 @@
-//! Conditional appending to a list of places.
+//! Appending to a list of places.
 
 ghost use Rattle.std.specs.Prelude.{◌≡◌, ◌++◌, OnOk};
 ghost use Rattle.std.specs.Option.{option_to_list};
@@ -7,7 +7,7 @@ ghost use Rattle.condition_breaks.specs.Lists.{one_if};
 use crate::breaks::Break;
 use scram_types::NoMemory;
 
-// Appends a place if a test holds.
+// Appends a place if `test` is true.
 pub(crate) fn push_if(breaks: &mut Vec<Break>, test: bool, found: Break) -> Result<(), NoMemory>
     ensures { OnOk result (breaks.new.items ≡ breaks.old.items ++ one_if test found) }
 {
@@ -17,7 +17,7 @@ pub(crate) fn push_if(breaks: &mut Vec<Break>, test: bool, found: Break) -> Resu
     Ok(())
 }
 
-// Appends a place if there is one.
+// Appends the place `found` if it is not `None`.
 pub(crate) fn push_found(breaks: &mut Vec<Break>, found: Option<Break>) -> Result<(), NoMemory>
     ensures { OnOk result (breaks.new.items ≡ breaks.old.items ++ option_to_list found) }
 {

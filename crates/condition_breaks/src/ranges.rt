@@ -1,4 +1,4 @@
-//! The ranges that invariants and preconditions have to contain, and the ways on which invariants have to contain them.
+//! The ranges that invariants and preconditions have to contain, and the ways on which invariants are checked.
 
 ghost use Rattle.std.specs.Prelude.{◌≡◌, ◌++◌, ◌<◌, ◌≤◌, IfOk, OnOk, length, option_map};
 ghost use Rattle.scram_types.specs.Lookups.{conf_id};
@@ -16,7 +16,7 @@ use scram_types::bits::is_in;
 use scram_types::{ConfId, Invariant, NoMemory, Place, Precondition, Spec};
 use std::alloc::Global;
 
-// Returns for each configuration the way to itself, followed by those to its other possible targets.
+// Returns all ways, by source. The first way of a source is the way to itself.
 pub(crate) fn all_ways(alloc: Global, spec: &Spec) -> Result<Vec<Way>, NoMemory>
     ensures { IfOk result (λ ways. ways.items ≡ all_ways spec.now) }
 {
@@ -28,7 +28,7 @@ pub(crate) fn all_ways(alloc: Global, spec: &Spec) -> Result<Vec<Way>, NoMemory>
     Ok(ways)
 }
 
-// Appends the ways from configuration `i`, whose possible targets are the set `set`.
+// Appends the ways from configuration `i`. The set of its possible targets is `set`.
 fn add_ways_from(ways: &mut Vec<Way>, spec: &Spec, set: u16, i: u8) -> Result<(), NoMemory>
     requires { set ≡ targets spec.now (conf_id i) }
     ensures { OnOk result (ways.new.items ≡ ways.old.items ++ ways_from spec.now i) }
@@ -64,7 +64,7 @@ fn add_way_to(ways: &mut Vec<Way>, spec: &Spec, set: u16, i: u8, j: u8) -> Resul
     Ok(())
 }
 
-// Returns whether configuration `j` is a possible target of configuration `i` and differs from it.
+// Returns whether configuration `j` is in `set`, the possible targets of configuration `i`, and differs from `i`.
 fn is_other_target(spec: &Spec, set: u16, i: u8, j: u8) -> bool
     requires set { set ≡ targets spec.now (conf_id i) }
     requires inside { j < length spec.now.confs }
@@ -73,14 +73,15 @@ fn is_other_target(spec: &Spec, set: u16, i: u8, j: u8) -> bool
     is_in(set, j) && i != j
 }
 
-/// Returns the interval between two numbers.
+/// Returns the interval from `least` to `greatest`.
 pub fn interval(least: i64, greatest: i64) -> Extremes
     ensures { result ≡ interval (least, greatest) }
 {
     Extremes { least, greatest }
 }
 
-// Returns the range of an invariant's variable in a place, over all acts in the place's mode.
+// Returns the range of an invariant's variable in a place, over all acts in the place's mode, or zero if the
+// application is off.
 fn range_asked(spec: &Spec, inv: &Invariant, place: Option<Place>) -> Extremes
     ensures { result ≡ interval (range_asked spec.now inv.now place) }
 {
@@ -104,7 +105,7 @@ pub fn range_on(spec: &Spec, inv: &Invariant, way: &Way) -> Extremes
     range_asked(spec, inv, spec.place_of(way.to, inv.app))
 }
 
-// Returns the first way whose range an invariant does not contain, or `None` if it contains all.
+// Returns the first way whose range an invariant has to contain and does not, or `None` if there is none.
 pub(crate) fn first_unheld(spec: &Spec, inv: &Invariant, ways: &[Way]) -> Option<Way>
     ensures { result ≡ first_unheld spec.now inv.now ways.now }
 {
@@ -138,8 +139,8 @@ fn holds(inv: &Invariant, range: &Extremes) -> bool
     inv.least <= range.least && range.greatest <= inv.greatest
 }
 
-// Returns the smallest interval that contains the range of the way `first` and each range on ways to whose source an
-// invariant applies.
+// Returns the smallest interval that contains the range at the end of the way `first` and the range at the end of each
+// way to whose source an invariant applies.
 pub(crate) fn hull_of(spec: &Spec, inv: &Invariant, first: &Way, ways: &[Way]) -> Extremes
     ensures { result ≡ hull_of spec.now inv.now (interval (range_on spec.now inv.now first.now)) ways.now }
 {
@@ -170,8 +171,8 @@ fn hull(held: &Extremes, range: &Extremes) -> Extremes
     }
 }
 
-/// Returns the range that a precondition has to contain in a place: the range after the init phase, or zero if the
-/// application is off.
+/// Returns the range that a precondition has to contain in a place. It is the range after the init phase, or zero if
+/// the application is off.
 pub fn range_entering(spec: &Spec, pre: &Precondition, place: Option<Place>) -> Extremes
     ensures { result ≡ interval (range_entering spec.now pre.now place) }
 {

@@ -1,4 +1,4 @@
-//! The places at which the conditions A9 and A10 do not hold: insufficient bounds and an insufficient window.
+//! The places at which the conditions A9 on bounds and A10 on the window do not hold.
 
 ghost use Rattle.std.specs.Prelude.{◌≡◌, ◌++◌, ◌<◌, ◌≤◌, OnOk, length};
 ghost use Rattle.scram_types.specs.Lookups.{conf_id};
@@ -14,7 +14,8 @@ use scram_types::bits::is_in;
 use scram_types::{ConfId, NoMemory, Spec};
 use std::alloc::Global;
 
-// Appends, for A9, each pair for which a bound is required and no sufficient bound is given.
+// Appends the place of A9 for each pair of configurations for which a bound is required and no sufficient bound is
+// given.
 pub(crate) fn add_bound_breaks(
     alloc: Global,
     breaks: &mut Vec<Break>,
@@ -29,8 +30,8 @@ pub(crate) fn add_bound_breaks(
     Ok(())
 }
 
-// Appends the pairs that begin with configuration `i`, where `set` is the set of configurations to which a bound is
-// required.
+// Appends the places of A9 for bounds from configuration `i`. The set of configurations to which a bound is required is
+// `set`.
 fn add_bound_breaks_from(
     breaks: &mut Vec<Break>,
     spec: &Spec,
@@ -55,7 +56,8 @@ fn lacks_bound(spec: &Spec, set: u16, i: ConfId, j: ConfId) -> bool
     is_asked(spec, set, i, j) && !is_bounded(spec, i, j)
 }
 
-// Returns whether a bound from `i` to `j` is required.
+// Returns whether a bound from `i` to `j` is required. The set of configurations to which one is required from `i` is
+// `set`.
 fn is_asked(spec: &Spec, set: u16, i: ConfId, j: ConfId) -> bool
     requires set { set ≡ asked_bounds spec.now i }
     requires inside { j.0 < length spec.now.confs }
@@ -64,7 +66,7 @@ fn is_asked(spec: &Spec, set: u16, i: ConfId, j: ConfId) -> bool
     is_in(set, j.0)
 }
 
-// Appends, for A10, the place of a window that is too short.
+// Appends the place of A10 if the window is too short.
 pub(crate) fn add_window_breaks(breaks: &mut Vec<Break>, spec: &Spec) -> Result<(), NoMemory>
     ensures { OnOk result (breaks.new.items ≡ breaks.old.items ++ window_breaks spec.now) }
 {

@@ -1,4 +1,4 @@
--- The answer to a specification that is to be filled in.
+-- The answers to `fill`.
 use Rattle.std.specs.Prelude.{◌≡◌, ℕ, List, [], Option, Some, None, Vec}
 use Rattle.scram_types.specs.Specification.{Parts}
 use Rattle.scram_io.specs.Outside.{History}
@@ -11,21 +11,21 @@ use Rattle.form_base.specs.Specifications.{AsksSpecification}
 use Rattle.fill_form.specs.Filling.{filled_text}
 use Rattle.fill_form.specs.Refusing.{fill_refusal}
 
--- The answer to `fill`, given the reason why the specification is not filled in, if any.
+-- The answer to `fill`. If the specification is not filled in, `shown` is the reason.
 abbrev pub fill_answer : Parts → Option Shown → ℕ × List ℕ
 fill_answer spec (Some shown) = (NOT_ACCEPTED, shown_line spec shown)
 fill_answer spec None = (ANSWERED, filled_text spec)
 
--- The answer is the printed text with status 0.
+-- The answer has status 0 and the text `printed`.
 abbrev pub TellsText : {A : Type 0} → Vec ℕ A → ℕ → List ℕ → Type 0
 TellsText printed = Gives (ANSWERED, printed.items)
 
--- The answer to `fill` with the name of a specification's file.
+-- The answer to `fill` about the specification in the file of this name.
 abbrev pub FillAnswers : List ℕ → Answer
 FillAnswers specification = AsksSpecification specification (λ (spec : Parts). WithoutFiles (Gives (fill_answer spec (fill_refusal spec))))
 
--- If `fill` ends with status 0, no other file was read and filling in is not refused. The text is then that of the
--- specification with sufficient bounds and a sufficient window.
+-- If `fill` ends with status 0, it has read no other file, and filling in is not refused. The text is that of the
+-- filled-in specification.
 abbrev pub AssuresFill : List ℕ → History → List ℕ → Type 0
 AssuresFill specification =
     OfSpecification specification (λ (spec : Parts) (reads : History) (text : List ℕ). (reads ≡ []) × (fill_refusal spec ≡ None) × (text ≡ filled_text spec))

@@ -1,4 +1,4 @@
--- A specification filled in with sufficient bounds and a sufficient window.
+-- Filled-in specifications, which have sufficient bounds and a sufficient window.
 use Rattle.std.specs.Prelude.{ℕ, zero, suc, ◌+◌, max, Bool, not, ◌&&◌, List, [], ◌∷◌, ◌++◌, length, map, codes, is_some, if◌then◌else◌}
 use Rattle.scram_types.specs.declared.specification.Bound.{Bound}
 use Rattle.scram_types.specs.Lookups.{conf_id}
@@ -6,7 +6,7 @@ use Rattle.scram_types.specs.Specification.{Parts, bound_in}
 use Rattle.coverage_check.specs.Timing.{greatest_bound, is_bound_asked, least}
 use Rattle.spec_text.specs.Texts.{spec_text}
 
--- A given bound, raised to the length that acceptance requires.
+-- A given bound, raised to the smallest sufficient length if it is required and shorter.
 abbrev pub raised : Parts → Bound → Bound
 raised spec bound = record {
   from = bound.from;
@@ -22,20 +22,20 @@ is_bound_missing spec i j = is_bound_asked spec (conf_id i) j && not (is_some (b
 abbrev pub least_bound : Parts → ℕ → ℕ → Bound
 least_bound spec i j = record { from = conf_id i; to = conf_id j; frames = least spec (conf_id i) (conf_id j) }
 
--- The smallest sufficient bound from `i` to `j` if a bound is required and not given, else the empty list.
+-- The smallest sufficient bound from `i` to `j` if a bound is required and not given, or the empty list.
 abbrev pub missing_bound : Parts → ℕ → ℕ → List Bound
 missing_bound spec i j = if is_bound_missing spec i j then least_bound spec i j ∷ [] else []
 
--- The bounds of the numbers below `n`, one after another.
+-- The lists of bounds for the numbers below `n`, concatenated.
 abbrev pub bounds_below : (ℕ → List Bound) → ℕ → List Bound
 bounds_below bounds zero = []
 bounds_below bounds (suc n) = bounds_below bounds n ++ bounds n
 
--- The bounds from `i` that are required and not given, by target.
+-- The smallest sufficient bounds from `i` that are required and not given, by target.
 abbrev pub missing_from : Parts → ℕ → List Bound
 missing_from spec i = bounds_below (missing_bound spec i) (length spec.confs)
 
--- The bounds that are required and not given, by source and then by target.
+-- The smallest sufficient bounds that are required and not given, by source and then by target.
 abbrev pub missing_bounds : Parts → List Bound
 missing_bounds spec = bounds_below (missing_from spec) (length spec.confs)
 
@@ -43,11 +43,11 @@ missing_bounds spec = bounds_below (missing_from spec) (length spec.confs)
 abbrev pub filled_bounds : Parts → List Bound
 filled_bounds spec = map (raised spec) spec.bounds ++ missing_bounds spec
 
--- The given window, or one frame more than the greatest of these bounds if that is greater.
+-- The given window, or one frame more than the greatest filled-in bound if that is longer.
 abbrev pub filled_window : Parts → ℕ
 filled_window spec = max spec.window (greatest_bound (filled_bounds spec) + 1)
 
--- The specification with its bounds and its window replaced by these.
+-- The specification with `bounds` and `window` in place of its bounds and its window.
 abbrev pub with_times : Parts → List Bound → ℕ → Parts
 with_times spec bounds window = record {
   procs = spec.procs;
@@ -67,10 +67,10 @@ with_times spec bounds window = record {
   window = window;
 }
 
--- The specification with sufficient bounds and a sufficient window.
+-- The filled-in specification, which has sufficient bounds and a sufficient window.
 abbrev pub filled : Parts → Parts
 filled spec = with_times spec (filled_bounds spec) (filled_window spec)
 
--- The canonical text of the filled-in specification, as a line.
+-- The line that holds the canonical text of the filled-in specification.
 abbrev pub filled_text : Parts → List ℕ
 filled_text spec = spec_text (filled spec) ++ codes "\n"

@@ -14,12 +14,12 @@ use Rattle.coverage_check.specs.Timing.{greatest_bound, is_bound_asked, least}
 use Rattle.fill_form.specs.declared.filling.Filling.{Filling}
 use Rattle.fill_form.specs.Filling.{filled_bounds}
 
--- Whether a bound from `i` to `j` is required and the smallest sufficient bound is longer than a bound may be. Any
--- given bound is then too short.
+-- Whether a bound from `i` to `j` is required and the smallest sufficient one is above the maximum length of a bound.
+-- No bound that can be given is then sufficient.
 abbrev pub asks_too_long : Parts → ℕ → ℕ → Bool
 asks_too_long spec i j = is_bound_asked spec (conf_id i) j && nat_lt MAX_BOUND (least spec (conf_id i) (conf_id j))
 
--- The refusal for the first target of configuration `i` whose bound would be too long, or `None` if there is none.
+-- The refusal of A9 for the first bound from configuration `i` that would be too long, or `None` if there is none.
 abbrev pub long_refusal_of : Parts → ℕ → Option Shown
 long_refusal_of spec i =
     first_below (λ j. shown_if (asks_too_long spec i j) (shown_at 9 i (other.Least (conf_id j) (least spec (conf_id i) (conf_id j))))) (length spec.confs)
@@ -28,20 +28,21 @@ long_refusal_of spec i =
 abbrev pub long_refusal : Parts → Option Shown
 long_refusal spec = first_below (long_refusal_of spec) (length spec.confs)
 
--- The refusal of A10 if the window for the greatest bound `greatest` would be longer than a window may be.
+-- The refusal of A10 if the window for the greatest bound would be above the maximum length of a window, or `None`.
 abbrev pub wide_refusal : ℕ → Option Shown
 wide_refusal greatest = shown_if (nat_lt MAX_WINDOW (greatest + 1)) (shown_nowhere 10 (other.Count greatest))
 
--- The refusal of a bound or a window that would be too long.
+-- The refusal of a bound or a window that would be too long, or `None` if there is none.
 abbrev pub length_refusal : Parts → Option Shown
 length_refusal spec = option_or (long_refusal spec) (wide_refusal (greatest_bound (filled_bounds spec)))
 
--- The reason why a specification is not filled in, if any: too many environments, or a bound or a window that would be
--- too long.
+-- The reason why a specification is not filled in, or `None` if it is. There are too many environments in scope, or a
+-- bound or a window would be too long.
 abbrev pub fill_refusal : Parts → Option Shown
 fill_refusal spec = option_or (state_refusal spec) (length_refusal spec)
 
--- A filling holds the sufficient bounds, the greatest of them, and the refusal if they may not be given.
+-- A filling holds sufficient bounds of a specification, the greatest of them, and the refusal if a bound or the window
+-- would be too long.
 pub record IsFilling (spec : Parts) (filling : Filling) : Type 0 where
   pub bounds : filling.bounds.items ≡ filled_bounds spec
   pub greatest : filling.greatest ≡ greatest_bound (filled_bounds spec)

@@ -1,4 +1,4 @@
-//! Sufficient bounds and a sufficient window.
+//! The search for sufficient bounds, and for the reason why they or the window may not be given.
 
 ghost use Rattle.std.specs.Prelude.{◌≡◌, ◌<◌, ◌≤◌, ◌++◌, IfOk, OnOk, length, map};
 ghost use Rattle.std.specs.Option.{option_or};
@@ -13,7 +13,8 @@ use scram_types::{Bound, ConfId, NoMemory, Spec};
 use spec_forms::{find_asked, is_asked};
 use std::alloc::{AllocError, Global};
 
-/// The sufficient bounds of a specification, the greatest of them, and the refusal if they may not be given.
+/// Sufficient bounds of a specification, the greatest of them, and the refusal if a bound or the window would be too
+/// long.
 #[derive(Drop)]
 pub struct Filling {
     pub bounds: Vec<Bound>,
@@ -21,8 +22,8 @@ pub struct Filling {
     pub refusal: Option<Shown>,
 }
 
-/// Returns sufficient bounds of a specification: the given bounds, each raised as far as required, followed by the
-/// missing bounds, by source and then by target.
+/// Returns sufficient bounds of a specification. They are the given bounds, each raised as far as required, followed by
+/// the missing bounds, by source and then by target.
 ///
 /// # Errors
 ///
@@ -81,8 +82,8 @@ fn raise_bounds(alloc: Global, spec: &Spec, sets: &[u16; 12]) -> Result<Vec<Boun
     Ok(bounds)
 }
 
-// Returns a given bound, raised to the length that acceptance requires, where `set` is the set of required targets from
-// its source.
+// Returns a given bound, raised to the smallest sufficient length if it is required and shorter. The set of targets for
+// which a bound from its source is required is `set`.
 fn raised(spec: &Spec, set: u16, bound: &Bound) -> Bound
     requires set { set ≡ asked_bounds spec.now bound.now.from }
     requires to { bound.now.to.0 < length spec.now.confs }
@@ -98,7 +99,7 @@ fn raised(spec: &Spec, set: u16, bound: &Bound) -> Bound
     Bound { from, to, frames }
 }
 
-// Appends the bounds that are required and not given.
+// Appends the smallest sufficient bounds that are required and not given.
 fn add_missing(bounds: &mut Vec<Bound>, spec: &Spec, sets: &[u16; 12]) -> Result<(), AllocError>
     requires { HasAskedBounds spec.now sets.now }
     ensures { OnOk result (bounds.new.items ≡ bounds.old.items ++ missing_bounds spec.now) }
@@ -152,7 +153,7 @@ fn is_bound_missing(spec: &Spec, set: u16, from: ConfId, to: ConfId) -> bool
     is_asked(spec, set, from, to) && spec.bound(from, to).is_none()
 }
 
-/// Returns the number of configurations.
+/// Returns the number of configurations of a specification.
 pub(crate) fn count_confs(spec: &Spec) -> u8
     ensures value { result ≡ length spec.now.confs }
     ensures few { result ≤ 12 }

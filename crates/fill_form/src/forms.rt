@@ -1,4 +1,4 @@
-//! The form `fill`.
+//! The form `fill`, which prints a filled-in specification.
 
 ghost use Rattle.std.specs.Prelude.{◌≡◌, ◌∷◌, ◌++◌, [], IfOk, List, None, codes, ℕ};
 ghost use Rattle.scram_types.specs.Specification.{IsSpec};
@@ -27,8 +27,8 @@ use scram_io::{Files, Sink};
 use scram_types::{Bound, List, NoMemory, Spec};
 use std::alloc::Global;
 
-/// Prints the specification in a file with sufficient bounds and a sufficient window, unless it has too many
-/// environments in scope or one of these would be too long.
+/// Prints the specification in a file with sufficient bounds and a sufficient window. If too many environments are in
+/// scope, or a bound or the window would be too long, it prints the refusal instead.
 pub fn fill<F: Files, K: Sink>(
     alloc: Global,
     specification: &str,
@@ -44,7 +44,7 @@ pub fn fill<F: Files, K: Sink>(
     }
 }
 
-/// Reads the specification and returns its text with sufficient bounds and a sufficient window.
+/// Reads the specification and returns the text of the filled-in specification, or the refusal.
 fn read_filled<F: Files>(
     alloc: Global,
     specification: &str,
@@ -74,7 +74,7 @@ fn fill_in(alloc: Global, spec: Spec) -> Result<Vec<u8>, Refusal>
     }
 }
 
-// Returns the refusal of a specification for the reason `shown`.
+// Returns the refusal of a specification that shows the reason `shown`.
 fn refuse(spec: Spec, shown: &Shown) -> Refusal
     ensures { told result ≡ (NOT_ACCEPTED, shown_line spec shown.now) }
 {
@@ -83,7 +83,8 @@ fn refuse(spec: Spec, shown: &Shown) -> Refusal
     Refusal::new(Refused::Acceptance, line)
 }
 
-// Returns the text of the specification with the filling, or the filling's refusal.
+// Returns the text of the specification with the bounds of the filling and a sufficient window, or the filling's
+// refusal.
 fn write_filled(alloc: Global, spec: Spec, filling: Filling) -> Result<Vec<u8>, Refusal>
     requires writable { IsWritable spec }
     requires few { state_refusal spec ≡ None }
@@ -102,7 +103,7 @@ fn write_filled(alloc: Global, spec: Spec, filling: Filling) -> Result<Vec<u8>, 
     }
 }
 
-// Returns the same specification with these bounds and this window.
+// Returns the specification with `bounds` and `window` in place of its bounds and its window.
 fn with_times(spec: Spec, bounds: Vec<Bound>, window: u32) -> Spec
     requires { IsSpec (with_times spec bounds.items window) }
     ensures { result ≡ with_times spec bounds.items window }
@@ -126,7 +127,7 @@ fn with_times(spec: Spec, bounds: Vec<Bound>, window: u32) -> Spec
     }
 }
 
-// Returns the canonical text of a specification, as a line.
+// Returns the line that holds the canonical text of a specification.
 fn write_line(alloc: Global, spec: Spec) -> Result<Vec<u8>, Refusal>
     ensures { PreparesWithoutFiles (Gives (ANSWERED, spec_text spec ++ codes "\n")) TellsText result }
 {

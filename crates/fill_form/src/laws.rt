@@ -1,4 +1,4 @@
-//! The theorem about filled-in specifications. The function states it by its contract.
+//! A theorem about filled-in specifications. The function states it by its contract.
 
 ghost use Rattle.fill_form.specs.Laws.{FilledIsAccepted};
 

@@ -1,4 +1,4 @@
-//! The refusals of bounds or a window that would be too long.
+//! The refusals of bounds and windows that would be too long.
 
 ghost use Rattle.std.specs.Prelude.{◌≡◌};
 ghost use Rattle.coverage_check.specs.Timing.{asked_bounds};
@@ -12,7 +12,7 @@ use scram_types::limits::{MAX_BOUND, MAX_WINDOW};
 use scram_types::{ConfId, Spec};
 use spec_forms::is_asked;
 
-/// Returns the refusal of the first required bound that would be too long, or `None` if there is none.
+/// Returns the refusal of A9 for the first required bound that would be too long, or `None` if there is none.
 pub(crate) fn refuse_long(spec: &Spec, sets: &[u16; 12]) -> Option<Shown>
     requires { HasAskedBounds spec.now sets.now }
     ensures { result ≡ long_refusal spec.now }
@@ -26,7 +26,8 @@ pub(crate) fn refuse_long(spec: &Spec, sets: &[u16; 12]) -> Option<Shown>
     None
 }
 
-// Returns the refusal of the first such bound from configuration `i`, where `set` is the set of required targets.
+// Returns the refusal of A9 for the first required bound from configuration `i` that would be too long, or `None` if
+// there is none. The set of targets for which a bound is required is `set`.
 fn refuse_long_of(spec: &Spec, set: u16, i: u8) -> Option<Shown>
     requires { set ≡ asked_bounds spec.now (conf_id i) }
     ensures { result ≡ long_refusal_of spec.now i }
@@ -45,7 +46,7 @@ fn refuse_long_of(spec: &Spec, set: u16, i: u8) -> Option<Shown>
     None
 }
 
-/// Returns the refusal of the window that the greatest bound requires, or `None` if the window would not be too long.
+/// Returns the refusal of A10 if the window that the greatest bound requires would be too long, or `None`.
 pub(crate) fn refuse_wide(greatest: u32) -> Option<Shown>
     ensures { result ≡ wide_refusal greatest }
 {

@@ -1,23 +1,23 @@
--- Answers: a status and a text, depending on the files that were read.
+-- Answers, each with a status and a text that depend on the files that were read.
 use Rattle.std.specs.Prelude.{◌≡◌, ◌⊎◌, ℕ, ◌<◌, ◌≤◌, List, [], ◌∷◌, length, IfNone}
 use Rattle.scram_io.specs.Outside.{FilesState, Grew, History, Rose}
 use Rattle.form_base.specs.declared.status.TheConstants.{UNREAD_FILE}
 use Rattle.form_base.specs.Refusals.{read_line}
 
--- The status and the text are those of the given answer.
+-- The status and the text are those of the answer `answered`.
 abbrev pub Gives : ℕ × List ℕ → ℕ → List ℕ → Type 0
 Gives answered status text = answered ≡ (status, text)
 
--- An answer: a relation of the files before and after, the reads made meanwhile, a status and a text.
+-- An answer, as a relation between the files before and after, the reads made meanwhile, a status and a text.
 abbrev pub Answer : Type 1
 Answer = FilesState → FilesState → History → ℕ → List ℕ → Type 0
 
--- The answer is given without reading any file.
+-- The answer is given, and no file is read.
 abbrev pub WithoutFiles : (ℕ → List ℕ → Type 0) → Answer
 WithoutFiles Answers before after reads status text = (reads ≡ []) × Answers status text
 
--- The file of this name was read first and has at most `limit` bytes, and the answer depends on these bytes and on what
--- was read after them.
+-- The file of this name was read first and has at most `limit` bytes. The answer depends on these bytes and on the
+-- later reads.
 pub record AnswersBytes (limit : ℕ) (name : List ℕ) (Answers : List ℕ → Answer) (before after : FilesState)
     (reads : History) (status : ℕ) (text : List ℕ) : Type 0 where
   pub bytes : List ℕ
@@ -28,8 +28,8 @@ pub record AnswersBytes (limit : ℕ) (name : List ℕ) (Answers : List ℕ → 
   pub grew : Grew before between ((name, bytes) ∷ [])
   pub answers : Answers bytes between after rest status text
 
--- Only the file of this name was read, it has more than `limit` bytes, and the answer is `long`. If the files have no
--- known map, their fault count rose.
+-- Only the file of this name was read. It has more than `limit` bytes, and the answer is `long`. If the map of the
+-- files is not known, their fault count rose.
 pub record AnswersLonger (limit : ℕ) (long : ℕ × List ℕ) (name : List ℕ) (before after : FilesState)
     (reads : History) (status : ℕ) (text : List ℕ) : Type 0 where
   pub bytes : List ℕ
@@ -42,17 +42,18 @@ pub record AnswersLonger (limit : ℕ) (long : ℕ × List ℕ) (name : List ℕ
 abbrev pub AnswersFailed : List ℕ → Answer
 AnswersFailed name before after reads status text = (reads ≡ []) × Rose before.faults after.faults × Gives (UNREAD_FILE, read_line name) status text
 
--- The file of this name is too long or reading it failed, and the answer says so.
+-- The file of this name is too long or was not read, and the answer says so.
 abbrev pub AnswersUnread : ℕ → ℕ × List ℕ → List ℕ → Answer
 AnswersUnread limit long name before after reads status text =
     AnswersLonger limit long name before after reads status text ⊎ AnswersFailed name before after reads status text
 
--- The file of this name is requested, and others are requested only if its bytes are there.
+-- The answer to the bytes of the file of this name. If the file was not read or is too long, the answer says so.
 abbrev pub AnswersFile : ℕ → ℕ × List ℕ → List ℕ → (List ℕ → Answer) → Answer
 AnswersFile limit long name Answers before after reads status text =
     AnswersBytes limit name Answers before after reads status text ⊎ AnswersUnread limit long name before after reads status text
 
--- The bytes encode a value, to which the answer is given, or they break a rule, which the answer reports.
+-- The bytes encode a value, and the answer is that to the value. Otherwise they break a rule, and the answer reports
+-- it.
 abbrev pub AnswersDocument : {T : Type 0} → (T → List ℕ → Type 0) → (ℕ × List ℕ → List ℕ → Type 0) → (T → Answer) → List ℕ → Answer
 AnswersDocument {T} Says Breaks Then bytes before after reads status text =
     ((value : T) × Says value bytes × Then value before after reads status text) ⊎ ((reads ≡ []) × Breaks (status, text) bytes)

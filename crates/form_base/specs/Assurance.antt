@@ -1,4 +1,4 @@
--- Assurances of status 0: what holds for the files that were read and for the text.
+-- Assurances of status 0: facts about the files that were read and the text.
 use Rattle.std.specs.Prelude.{◌≡◌, ℕ, List, ◌∷◌}
 use Rattle.scram_io.specs.Outside.{FilesState, Grew, History}
 use Rattle.scram_types.specs.Specification.{Parts}
@@ -6,7 +6,7 @@ use Rattle.form_base.specs.declared.status.TheConstants.{ANSWERED}
 use Rattle.form_base.specs.Answers.{Answer}
 use Rattle.form_base.specs.Specifications.{SaysSpecification}
 
--- The assurance holds for the reads and the text of every answer with status 0.
+-- For every answer with status 0, the assurance holds for the reads and the text.
 abbrev pub IsAssuring : Answer → (History → List ℕ → Type 0) → Type 0
 IsAssuring Answers Assures = (before after : FilesState) (reads : History) (text : List ℕ) → Answers before after reads ANSWERED text → Assures reads text
 

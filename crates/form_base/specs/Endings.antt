@@ -1,4 +1,4 @@
--- The result of a form: the files that it read, and the fate of its text.
+-- The result of a form: the files that it read, its answer, and what the sink took of its text.
 use Rattle.std.specs.Prelude.{◌≡◌, ◌≢◌, ◌⊎◌, ℕ, ◌≤◌, List, [], ◌∷◌, ◌++◌, length, map, IsTrue, Some, IsSome, IfSome, Result, Ok, Err, ⊤}
 use Rattle.scram_io.specs.Outside.{Agrees, FileMap, FilesState, Grew, History, Rose, SinkState, TakesSurely, Took, TookPrefix, Unrisen, file_at, taken}
 use Rattle.form_base.specs.declared.refusals.Refusal.{Refusal}
@@ -10,7 +10,7 @@ use Rattle.form_base.specs.Refusals.{memory_line, told}
 abbrev pub IsMemoryRefusal : ℕ → List ℕ → Type 0
 IsMemoryRefusal status text = (status ≡ OUT_OF_MEMORY) × (text ≡ memory_line)
 
--- The reads are of the first of these files, each once, in order.
+-- The files that were read are the first of the named files, each read once, in order.
 abbrev pub AreInTurn : List (List ℕ) → History → Type 0
 AreInTurn names reads = (rest : List (List ℕ)) × (names ≡ map (λ (read : List ℕ × List ℕ). read.0) reads ++ rest)
 
@@ -19,12 +19,12 @@ abbrev pub AreThere : FileMap → List (List ℕ) → Type 0
 AreThere map [] = ⊤
 AreThere map (name ∷ names) = IsSome (file_at name map) × AreThere map names
 
--- If the map is known, the files are steady and these files exist, the fault count of the files did not rise.
+-- If the map is known, the files are steady and the named files exist, the fault count of the files did not rise.
 abbrev pub StaysQuiet : List (List ℕ) → FilesState → FilesState → Type 0
 StaysQuiet names before after = IfSome before.known_map (λ map. IsTrue before.steady → AreThere map names → Unrisen before.faults after.faults)
 
--- The status and the text are the answer to what was read of the named files, in this order, or the allocator was out
--- of memory. A file is reported as unread only if the fault count rose.
+-- The status and the text are the answer to the reads, or the named files were read in order until the allocator was
+-- out of memory. A file is reported as unread only if the fault count rose.
 pub record Decides (Answers : Answer) (names : List (List ℕ)) (before after : FilesState) (status : ℕ) (text : List ℕ) : Type 0 where
   pub reads : History
   pub grew : Grew before after reads
@@ -32,8 +32,8 @@ pub record Decides (Answers : Answer) (names : List (List ℕ)) (before after : 
   pub answer : Answers before after reads status text ⊎ (IsMemoryRefusal status text × AreInTurn names reads)
   pub unread : status ≡ UNREAD_FILE → Rose before.faults after.faults
 
--- All files that the answer needs were read, in the order of these names, and every answer of the rest is an answer of
--- the whole.
+-- The files that the answer needs were read, in the order of these names. Every answer that `Rest` allows is an answer
+-- to these reads.
 pub record IsPrepared (Answers : Answer) (Rest : ℕ → List ℕ → Type 0) (names : List (List ℕ)) (before after : FilesState) : Type 0 where
   pub reads : History
   pub grew : Grew before after reads
@@ -41,31 +41,32 @@ pub record IsPrepared (Answers : Answer) (Rest : ℕ → List ℕ → Type 0) (n
   pub turn : AreInTurn names reads
   pub answers : (status : ℕ) (text : List ℕ) → Rest status text → Answers before after reads status text
 
--- The result of reading the files of an answer is a value, from which the rest of the answer is made, or a refusal,
+-- The files of an answer were read. The result is a value, from which the rest of the answer is made, or a refusal,
 -- which is the answer.
 abbrev pub Prepares : {T : Type 0} → Answer → (T → ℕ → List ℕ → Type 0) → List (List ℕ) → FilesState → FilesState → Result T Refusal → Type 0
 Prepares Answers Rest names before after (Ok value) = IsPrepared Answers (Rest value) names before after
 Prepares Answers Rest names before after (Err refusal) = Decides Answers names before after (told refusal).0 (told refusal).1
 
--- The result of a decision that reads no file is a value, from which the rest of the answer is made, or a refusal. The
--- refusal is the answer or says that the allocator was out of memory.
+-- A decision was made without reading a file. The result is a value, from which the rest of the answer is made, or a
+-- refusal. The refusal is the answer or says that the allocator was out of memory.
 abbrev pub PreparesWithoutFiles : {T : Type 0} → (ℕ → List ℕ → Type 0) → (T → ℕ → List ℕ → Type 0) → Result T Refusal → Type 0
 PreparesWithoutFiles Answers Rest (Ok value) = (status : ℕ) (text : List ℕ) → Rest value status text → Answers status text
 PreparesWithoutFiles Answers Rest (Err refusal) =
     (Answers (told refusal).0 (told refusal).1 ⊎ IsMemoryRefusal (told refusal).0 (told refusal).1) × ((told refusal).0 ≢ UNREAD_FILE)
 
--- The sink took the text and the code is its status, or the sink failed, a prefix was taken, and the code is 4.
+-- The sink took the text, and the code is the status of the text. If the sink failed, it took a prefix, and the code is
+-- 4.
 pub record IsTaken (old new : SinkState) (code status : ℕ) (text : List ℕ) : Type 0 where
   pub shown : ((code ≡ status) × Took old new text) ⊎ ((code ≡ UNWRITTEN_OUTPUT) × TookPrefix old new text × Rose old.faults new.faults)
   pub surely : TakesSurely old new text
   pub count : old.faults ≤ new.faults
 
--- The text was sent after all that was taken before, and nothing is held back.
+-- The text was sent after all bytes that the sink had taken, and nothing is held back.
 pub record WentOut (old new : SinkState) (text : List ℕ) : Type 0 where
   pub sent : new.sent ≡ taken old ++ text
   pub held : new.held ≡ []
 
--- The bytes sent are a prefix of all that was taken before followed by the text, and the sink's fault count rose.
+-- The bytes sent are a prefix of the bytes that the sink had taken followed by the text. The sink's fault count rose.
 pub record StoppedIn (old new : SinkState) (text : List ℕ) : Type 0 where
   pub rest : List ℕ
   pub parts : taken old ++ text ≡ new.sent ++ rest
@@ -75,13 +76,14 @@ pub record StoppedIn (old new : SinkState) (text : List ℕ) : Type 0 where
 abbrev pub IsQuietFor : List ℕ → SinkState → SinkState → Type 0
 IsQuietFor text old new = IfSome old.surely (λ room. length text ≤ room → Unrisen old.faults new.faults)
 
--- The text was sent and the code is its status, or the bytes sent stop within it and the code is 4.
+-- The text was sent, and the code is the status of the text. If the sending stopped before the end of the text, the
+-- code is 4.
 pub record IsSent (old new : SinkState) (code status : ℕ) (text : List ℕ) : Type 0 where
   pub shown : ((code ≡ status) × WentOut old new text) ⊎ ((code ≡ UNWRITTEN_OUTPUT) × StoppedIn old new text)
   pub surely : IsQuietFor text old new
 
--- The sink took an answer that needs no file, or the out-of-memory line. Its status is about neither a file nor the
--- sink.
+-- The sink took an answer that needs no file, or the out-of-memory line, or a prefix of it. The status is neither that
+-- of an unread file nor that of unwritten output.
 pub record Tells (Answers : ℕ → List ℕ → Type 0) (old new : SinkState) (code : ℕ) : Type 0 where
   pub status : ℕ
   pub text : List ℕ
@@ -90,8 +92,8 @@ pub record Tells (Answers : ℕ → List ℕ → Type 0) (old new : SinkState) (
   pub written : status ≢ UNWRITTEN_OUTPUT
   pub taken : IsTaken old new code status text
 
--- The result of a form that names these files in this order: the reads decide a status and a text, and `Shown` holds
--- for them.
+-- The result of a form that reads the named files in order. The reads decide a status and a text, and `Shown` holds for
+-- both.
 pub record Ends (Answers : Answer) (names : List (List ℕ)) (before after : FilesState) (Shown : ℕ → List ℕ → Type 0) : Type 0 where
   pub status : ℕ
   pub text : List ℕ
@@ -99,8 +101,7 @@ pub record Ends (Answers : Answer) (names : List (List ℕ)) (before after : Fil
   pub written : status ≢ UNWRITTEN_OUTPUT
   pub shown : Shown status text
 
--- The sink surely takes the bytes of the out-of-memory line, and those of any answer to the files of the map without a
--- fault.
+-- The sink surely takes the out-of-memory line, and every answer to reads of the map's files without a fault.
 pub record HasRoom (Answers : Answer) (map : FileMap) (files : FilesState) (sink : SinkState) : Type 0 where
   pub room : ℕ
   pub told : sink.surely ≡ Some room

@@ -1,4 +1,4 @@
--- The lines of refusals that several forms print, and pieces of lines.
+-- The lines of refusals that several forms print, and the parts of these lines.
 use Rattle.std.specs.Prelude.{ℕ, ◌==◌, ◌+◌, ◌%◌, ◌/◌, List, [], ◌∷◌, ◌++◌, length, slice_get, slice_index, Option, Some, None, codes, decimal, if◌then◌else◌}
 use Rattle.std.specs.Option.{option_map_or}
 use Rattle.scram_types.specs.Lookups.{app_name, conf_name, proc_name, value_name}
@@ -16,11 +16,11 @@ use Rattle.coverage_check.specs.declared.shown.Other.{Other}
 use Rattle.coverage_check.specs.declared.shown.Other.TheVariants as other
 use Rattle.trace_text.specs.Names.{conf_or_dash, further_joined}
 
--- A broken rule of a document, and the place at which it is broken.
+-- The text of a broken rule of a document, with the place at which it is broken.
 abbrev pub rule_text : ℕ → List ℕ → List ℕ
 rule_text rule path = codes " rule " ++ decimal rule ++ codes " at " ++ path_text path
 
--- The names of the applications of a cycle of needs, or the empty text if there is none.
+-- The text of the names of the applications in a cycle of needs, or the empty text if there is none.
 abbrev pub cycle_text : List (List ℕ) → List ℕ
 cycle_text [] = []
 cycle_text (name ∷ names) = codes " cycle " ++ name ++ further_joined names
@@ -30,18 +30,18 @@ abbrev pub specification_line : SpecFault → List ℕ
 specification_line fault =
     codes "refused: specification" ++ rule_text fault.rule fault.path ++ cycle_text fault.names.items ++ codes "\n"
 
--- Each factor and its value, each followed by a comma, where `i` is the number of the first factor.
+-- The text of each factor with its value, each followed by a comma. The number of the first factor is `i`.
 abbrev pub factors_text : List Factor → ℕ → List ℕ → List ℕ
 factors_text [] i values = []
 factors_text (factor ∷ factors) i values =
     factor.name ++ codes "=" ++ value_name factor (slice_index values i) ++ codes "," ++ factors_text factors (i + 1) values
 
--- The names of the processors whose bits are clear, where the lowest bit of `up` is that of the first processor.
+-- The names of the processors whose bits are clear in `up`. The lowest bit is that of the first processor.
 abbrev pub names_down : List Proc → ℕ → List (List ℕ)
 names_down [] up = []
 names_down (proc ∷ procs) up = if up % 2 == 1 then names_down procs (up / 2) else proc.name ∷ names_down procs (up / 2)
 
--- The names after the first, each preceded by a plus.
+-- The further names, each preceded by a plus.
 abbrev pub further_added : List (List ℕ) → List ℕ
 further_added [] = []
 further_added (name ∷ names) = codes "+" ++ name ++ further_added names
@@ -51,11 +51,11 @@ abbrev pub added : List (List ℕ) → List ℕ
 added [] = codes "-"
 added (name ∷ names) = name ++ further_added names
 
--- Each factor with its value, then the names of the processors that are down.
+-- The text of an environment: each factor with its value, and the names of the processors that are down.
 abbrev pub env_text : Parts → Env → List ℕ
 env_text spec env = factors_text spec.factors 0 env.factors ++ codes "down=" ++ added (names_down spec.procs env.up)
 
--- An environment, or `-` if there is none.
+-- The text of an environment, or `-` if there is none.
 abbrev pub env_or_dash : Parts → Option Env → List ℕ
 env_or_dash spec None = codes "-"
 env_or_dash spec (Some env) = env_text spec env
@@ -64,7 +64,7 @@ env_or_dash spec (Some env) = env_text spec env
 abbrev pub demand_name : Parts → ℕ → List ℕ
 demand_name spec k = option_map_or (λ (demand : Demand). demand.name) (slice_get spec.demands k) []
 
--- The part at which a condition is broken, other than the configuration and the environment.
+-- The text of the part at which a condition is broken, other than the configuration and the environment.
 abbrev pub other_text : Parts → Other → List ℕ
 other_text spec other.Nothing = codes "-"
 other_text spec (other.App app) = app_name spec app.0
@@ -81,6 +81,6 @@ shown_line spec shown =
     codes "refused: A" ++ decimal shown.condition ++ codes " " ++ conf_or_dash spec shown.conf ++ codes " "
     ++ env_or_dash spec shown.env ++ codes " " ++ other_text spec shown.other ++ codes "\n"
 
--- The numbers of frames and of reconfigurations, including an unfinished one.
+-- The text of the number of frames and the number of reconfigurations, including an unfinished one.
 abbrev pub counts_text : List Row → List Report → List ℕ
 counts_text rows reports = codes " frames " ++ decimal (length rows) ++ codes " reconfigurations " ++ decimal (length reports)

@@ -5,24 +5,24 @@ use Rattle.form_base.specs.declared.refusals.Refusal.{Refusal}
 use Rattle.form_base.specs.declared.status.TheConstants.{OUT_OF_MEMORY, UNREAD_FILE}
 use Rattle.form_base.specs.Refusals.{memory_line, read_line, told}
 
--- The file was read, and no other, and `Fact` holds for its bytes, of which there are at most `limit`.
+-- Only the file of this name was read. It has at most `limit` bytes, and `Fact` holds for them.
 pub record HasRead (limit : ℕ) (name : List ℕ) (Fact : List ℕ → Type 0) (before after : FilesState) : Type 0 where
   pub bytes : List ℕ
   pub grew : Grew before after ((name, bytes) ∷ [])
   pub fits : length bytes ≤ limit
   pub fact : Fact bytes
 
--- A refusal says that the allocator was out of memory.
+-- The refusal says that the allocator was out of memory.
 abbrev pub IsOutOfMemory : ℕ × List ℕ → Type 0
 IsOutOfMemory refusal = refusal ≡ (OUT_OF_MEMORY, memory_line)
 
--- The result of reading bytes: a value that they encode, a rule that they break, or out of memory.
+-- The result of reading bytes is a value that they encode, or a refusal that reports a broken rule or out of memory.
 abbrev pub ReadsAs : {T : Type 0} → (T → List ℕ → Type 0) → (ℕ × List ℕ → List ℕ → Type 0) → List ℕ → Result T Refusal → Type 0
 ReadsAs Says Breaks bytes (Ok value) = Says value bytes
 ReadsAs Says Breaks bytes (Err refusal) = Breaks (told refusal) bytes ⊎ IsOutOfMemory (told refusal)
 
--- A file was not loaded: its bytes break a rule, it is too long, the files failed, or the allocator was out of memory
--- before or after the reading.
+-- The reason why a file was not loaded. Its bytes break a rule, it is too long, the files failed, or the allocator was
+-- out of memory before or after the reading.
 abbrev pub IsUnloaded : (ℕ × List ℕ → List ℕ → Type 0) → ℕ → ℕ × List ℕ → List ℕ → FilesState → FilesState → ℕ × List ℕ → Type 0
 IsUnloaded Breaks limit long name before after refusal =
     HasRead limit name (Breaks refusal) before after
@@ -30,7 +30,7 @@ IsUnloaded Breaks limit long name before after refusal =
     ⊎ (Grew before after [] × Rose before.faults after.faults × (refusal ≡ (UNREAD_FILE, read_line name)))
     ⊎ ((Grew before after [] ⊎ HasRead limit name (λ (bytes : List ℕ). ⊤) before after) × IsOutOfMemory refusal)
 
--- The result of loading a file.
+-- The result of loading a file is a value that its bytes encode, or the refusal that says why the file was not loaded.
 abbrev pub Loads : {T : Type 0} → (T → List ℕ → Type 0) → (ℕ × List ℕ → List ℕ → Type 0) → ℕ → ℕ × List ℕ → List ℕ
     → FilesState → FilesState → Result T Refusal → Type 0
 Loads Says Breaks limit long name before after (Ok value) = HasRead limit name (Says value) before after

@@ -1,4 +1,4 @@
--- Refusals: a status and a line.
+-- Refusals, each with a status and a line.
 use Rattle.std.specs.Prelude.{◌≡◌, ◌⊎◌, ℕ, List, ◌++◌, codes, string_bytes}
 use Rattle.form_base.specs.declared.refusals.Refusal.{Refusal}
 use Rattle.form_base.specs.declared.refusals.RefusalLine.{RefusalLine}
@@ -20,7 +20,7 @@ code_of Trace = BROKEN_TRACE
 code_of Schedule = BROKEN_SCHEDULE
 code_of Name = UNKNOWN_NAME
 
--- The bytes of a line.
+-- The bytes of a refusal's line.
 abbrev pub line_text : RefusalLine → List ℕ
 line_text (Short line) = line
 line_text (Naming line) = string_bytes line
@@ -37,6 +37,6 @@ memory_line = codes "refused: memory\n"
 abbrev pub read_line : List ℕ → List ℕ
 read_line name = codes "refused: read " ++ name ++ codes "\n"
 
--- A status and a line say that the file of this name was not read, or that there was no memory for that line.
+-- The status and the line say that the file of this name was not read, or that there was no memory for that line.
 abbrev pub IsUnread : List ℕ → ℕ × List ℕ → Type 0
 IsUnread name refusal = (refusal ≡ (UNREAD_FILE, read_line name)) ⊎ (refusal ≡ (OUT_OF_MEMORY, memory_line))

@@ -1,4 +1,4 @@
--- The answers to a specification's file.
+-- Specifications in files, and the answers to them.
 use Rattle.std.specs.Prelude.{◌≡◌, ℕ, List, [], Result, Ok, Err}
 use Rattle.scram_types.specs.declared.ids.AppId.{AppId}
 use Rattle.scram_types.specs.declared.limits.TheConstants.{MAX_SPECIFICATION_BYTES}
@@ -14,21 +14,22 @@ use Rattle.form_base.specs.declared.status.TheConstants.{BROKEN_SPECIFICATION}
 use Rattle.form_base.specs.Answers.{Answer, AnswersDocument, AnswersFile}
 use Rattle.form_base.specs.Lines.{specification_line}
 
--- The bytes encode this specification, which keeps the invariant of specifications and has no name twice in a list.
+-- The bytes encode this specification. It keeps the invariant of specifications, and no list of it has a name twice.
 pub record SaysSpecification (spec : Parts) (bytes : List ℕ) : Type 0 where
   pub is : spec_of bytes ≡ Ok spec
   pub sound : IsSpec spec
   pub writable : IsWritable spec
 
--- The fault of a specification with these names of a cycle of needs.
+-- The fault of a specification, with the names of the applications in a cycle of needs.
 abbrev pub showing : List (List ℕ) → DocFault → SpecFault
 showing cycle fault = record { rule = fault.rule; path = fault.path; cycle = record { items = [] }; names = record { items = cycle } }
 
--- The names are those of a cycle of the needs as they were read, if there is a cycle.
+-- If the needs that were read have a cycle, these are the names of the applications in a cycle.
 abbrev pub NamesCycle : Result (List AppSpec) DocFault → List (List ℕ) → Type 0
 NamesCycle unranked names = (cycle : List AppId) × CycleAmong unranked cycle × NamedAmong unranked cycle names
 
--- The refusal of bytes as a specification: it shows the fault, and the names of some cycle of needs if there is one.
+-- The refusal of bytes that do not encode a specification. It shows the fault, and the names of some cycle of needs if
+-- there is one.
 pub record BreaksSpecification (refusal : ℕ × List ℕ) (bytes : List ℕ) : Type 0 where
   pub fault : DocFault
   pub is : spec_of bytes ≡ Err fault
@@ -36,10 +37,10 @@ pub record BreaksSpecification (refusal : ℕ × List ℕ) (bytes : List ℕ) : 
   pub shows : NamesCycle (unranked_of bytes) cycle
   pub line : refusal ≡ (BROKEN_SPECIFICATION, specification_line (showing cycle fault))
 
--- The answer to a specification with too many bytes.
+-- The answer to a specification's file that is too long.
 abbrev pub long_specification : ℕ × List ℕ
 long_specification = (BROKEN_SPECIFICATION, specification_line (showing [] (record { rule = rule.TOO_LONG; path = [] })))
 
--- The file of this name is requested, and the answer is that to the specification in it.
+-- The answer to the specification in the file of this name, or the answer that says why the file has none.
 abbrev pub AsksSpecification : List ℕ → (Parts → Answer) → Answer
 AsksSpecification name Then = AnswersFile MAX_SPECIFICATION_BYTES long_specification name (AnswersDocument SaysSpecification BreaksSpecification Then)

@@ -1,4 +1,4 @@
-//! The basis of every form of the command: the statuses, refusals as values, the files that words name, and printing. A
+//! The base of the forms of the command: statuses, refusals, the loading of the files that words name, and printing. A
 //! form reads its files, makes its text and prints it.
 #![tactic(auto)]
 

@@ -1,4 +1,4 @@
-//! The lines of refusals that several forms print, and pieces of lines, made without allocation.
+//! The lines of refusals that several forms print, and the parts of these lines, made without allocation.
 
 ghost use Rattle.std.specs.Prelude.{◌≡◌, ◌+◌, ◌*◌, ◌≤◌, ◌++◌, [], ◌<◌, ◌^◌, length, codes, if◌then◌else◌};
 ghost use Rattle.scram_types.specs.declared.limits.TheConstants.{MAX_LINE_BYTES};
@@ -12,8 +12,8 @@ use scram_types::{Env, Factor, Flown, Name, Spec};
 use trace_text::lines::Line;
 use trace_text::row_lines::add_conf_or_dash;
 
-/// Returns the line for a specification document that breaks a rule. If its needs have a cycle, the line names the
-/// applications of the cycle.
+/// Returns the line for a specification document that breaks a rule. If the needs have a cycle, the line names the
+/// applications in it.
 pub fn make_specification_line(fault: &SpecFault) -> Line
     ensures { result ≡ specification_line fault.now }
 {
@@ -25,8 +25,8 @@ pub fn make_specification_line(fault: &SpecFault) -> Line
     line
 }
 
-/// Returns the line for a specification that is not accepted: the condition, and the configuration, the environment and
-/// the further part at which it is broken.
+/// Returns the line for a specification that is not accepted. It has the condition, and the configuration, the
+/// environment and the further part at which the condition is broken.
 pub fn make_shown_line(spec: &Spec, shown: &Shown) -> Line
     ensures { result ≡ shown_line spec.now shown.now }
 {
@@ -105,7 +105,7 @@ fn add_env_or_dash(line: &mut Line, spec: &Spec, env: &Option<Env>)
     }
 }
 
-/// Appends an environment, as refusals write it.
+/// Appends an environment in the form in which refusals show it.
 pub fn add_env(line: &mut Line, spec: &Spec, env: &Env)
     requires { length line.old + 346 ≤ MAX_LINE_BYTES }
     ensures text { line.new ≡ line.old ++ env_text spec.now env.now }
@@ -182,8 +182,8 @@ fn add_other(line: &mut Line, spec: &Spec, other: &Other)
     }
 }
 
-/// Returns the name of a demand, of at most 16 bytes, by its index among the demands, or the empty text if it does not
-/// exist.
+/// Returns the name of the demand of this index, which has at most 16 bytes, or the empty text if there is no such
+/// demand.
 pub fn demand_name(spec: &Spec, place: u32) -> &str
     ensures name { result.now ≡ demand_name spec.now place }
     ensures short { length result.now ≤ 16 }

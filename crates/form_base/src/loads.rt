@@ -1,4 +1,4 @@
-//! Loading of the files that words name.
+//! The loading of the files that words name.
 
 ghost use Rattle.std.specs.Prelude.{◌≡◌, ◌≢◌, IfErr, ℕ, List};
 ghost use Rattle.scram_io.specs.Outside.{Rose, StaysSteady};
@@ -10,7 +10,7 @@ use crate::refusals::Refusal;
 use scram_io::{Files, ReadFault};
 use std::alloc::Global;
 
-/// A kind of document: its maximum length, and the values that its bytes encode.
+/// A kind of document, with its maximum length and the values that its bytes encode.
 pub trait Document<T> {
     ghost limit: { Self → ℕ };
 
@@ -20,11 +20,12 @@ pub trait Document<T> {
 
     ghost Breaks: { Self → ℕ × List ℕ → List ℕ → Type 0 };
 
-    /// Returns the maximum number of bytes.
+    /// Returns the maximum length of a document, in bytes.
     fn limit(&self) -> usize
         ensures { result ≡ limit self.now };
 
-    /// Returns the value that the bytes encode, or the refusal of the first rule that they break.
+    /// Returns the value that the bytes encode. The error is the refusal of the first rule that they break, or out of
+    /// memory.
     fn read(&self, alloc: Global, bytes: &[u8]) -> Result<T, Refusal>
         ensures reads { ReadsAs (Says self.now) (Breaks self.now) bytes.now result }
         ensures other { IfErr result (λ refusal. (told refusal).0 ≢ UNREAD_FILE) };
@@ -35,7 +36,7 @@ pub trait Document<T> {
         ensures other { (told result).0 ≢ UNREAD_FILE };
 }
 
-/// Loads the file of this name as a document.
+/// Reads the file of this name and returns the value that it encodes, or the refusal that says why there is none.
 pub fn load<T, D: Document<T>, F: Files>(
     alloc: Global,
     document: &D,

@@ -1,4 +1,4 @@
-//! Refusals: a status and a line that are printed instead of an answer.
+//! Refusals, which are printed instead of an answer. Each has a status and a line.
 
 ghost use Rattle.std.specs.Prelude.{◌≡◌};
 ghost use Rattle.form_base.specs.Refusals.{IsUnread, code_of, line_text, memory_line, told};
@@ -53,7 +53,7 @@ impl Refused {
     }
 }
 
-/// The line of a refusal.
+/// The line of a refusal, with or without allocated memory.
 #[derive(Drop)]
 pub enum RefusalLine {
     /// A line that is made without allocation.
@@ -62,7 +62,7 @@ pub enum RefusalLine {
     Naming(String),
 }
 
-/// A refusal: its kind and its line.
+/// A refusal, with its kind and its line.
 #[derive(Drop)]
 pub struct Refusal {
     pub refused: Refused,
@@ -70,7 +70,7 @@ pub struct Refusal {
 }
 
 impl Refusal {
-    /// Returns the refusal with a line that is made without allocation.
+    /// Returns a refusal of this kind, with a line that is made without allocation.
     pub fn new(refused: Refused, line: Line) -> Refusal
         ensures { told result ≡ (code_of refused, line) }
     {
@@ -89,8 +89,8 @@ impl Refusal {
         Refusal::new(Refused::Memory, line)
     }
 
-    /// Returns the refusal of a file that was not read, which contains the file's name, or the out-of-memory refusal if
-    /// there is no memory for that line.
+    /// Returns the refusal of a file that was not read. The line contains the file's name. If there is no memory for
+    /// the line, the refusal is the out-of-memory refusal.
     pub fn unread(alloc: Global, name: &str) -> Refusal
         ensures { IsUnread name.now (told result) }
     {

@@ -1,4 +1,4 @@
-//! Specifications as files.
+//! Specifications as documents in files.
 
 ghost use Rattle.std.specs.Prelude.{◌≡◌};
 ghost use Rattle.scram_types.specs.declared.limits.TheConstants.{MAX_SPECIFICATION_BYTES};
@@ -17,7 +17,7 @@ use scram_types::Spec;
 use scram_types::limits::MAX_SPECIFICATION_BYTES;
 use std::alloc::Global;
 
-/// The document kind of specifications.
+/// The kind of document that encodes a specification.
 #[derive(Clone, Copy)]
 pub struct Specification;
 

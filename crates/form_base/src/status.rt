@@ -1,6 +1,6 @@
 //! The statuses of the command.
 
-/// The status with which the command ended, one of the constants below.
+/// The status with which the command ends, which is one of the constants below.
 #[derive(Clone, Copy, Debug, PartialEq, Eq)]
 pub struct Status {
     pub code: u8,
@@ -15,7 +15,7 @@ pub const BROKEN_USAGE: u8 = 2;
 /// A file was not read.
 pub const UNREAD_FILE: u8 = 3;
 
-/// The output was not written, or only a part of it.
+/// The output was not written, or only a prefix of it.
 pub const UNWRITTEN_OUTPUT: u8 = 4;
 
 /// The specification's file breaks a rule of specifications.

@@ -67,7 +67,7 @@ line_event spec line =
 abbrev pub event_read : Parts → List ℕ → Result Event ℕ
 event_read spec line = if is_legible line then line_event spec line else Err BROKEN_LINE
 
--- The fault of line `k`, counted from 0, that breaks the rule of this number. The fault counts lines from 1.
+-- The fault of a line that breaks a rule, with the numbers of both. Lines are counted from 1.
 abbrev pub schedule_fault : ℕ → ℕ → ScheduleFault
 schedule_fault line rule = record { line = line; rule = rule }
 

@@ -34,7 +34,7 @@ pub record IsWholeSchedule (m : Flight) (list : List Event) : Type 0 where
   pub replay : IsReplay m list at words
   pub over : IsOver m at
 
--- The events before index `index` are a schedule. The event `given` at that index is not the next of its actor after
+-- The events before index `index` are a schedule. The event `given` at that index is not its actor's next event after
 -- them, which is `next`.
 pub record IsIllegal (m : Flight) (list : List Event) (index : ℕ) (given : Event) (next : Option Event) : Type 0 where
   pub at : Places
@@ -54,8 +54,9 @@ pub record IsShort (m : Flight) (list : List Event) (events : ℕ) (next : Event
   pub count : events ≡ length list
   pub next_is : first_next m at words ≡ Some next
 
--- An answer to a list of events. It is the one-thread trace, the first event that is not the next of its actor, the
--- event that would come next if the list ends too early, or out of memory.
+-- An answer to a list of events. It is the one-thread trace if the list is a whole schedule. Otherwise it is the first
+-- event that is not the next of its actor, or the event that would come next if the list ends too early. Out of memory
+-- is always an answer.
 abbrev pub AnswersReplay : Parts → ScriptParts → List Event → Result Flown ReplayError → Type 0
 AnswersReplay spec script list (Ok flown) = IsWholeSchedule (flight_of spec script) list × (flown.rows ≡ rows_of spec script)
     × (flown.reports ≡ reports_of spec script)

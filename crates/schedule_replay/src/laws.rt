@@ -20,8 +20,9 @@ pub fn least_rule_is_reported()
     ensures { LeastEventRuleIsReported }
 {}
 
-/// Apart from out of memory, a list of events has one answer. The answer is the trace of a whole schedule, the first
-/// event that is not the next of its actor, or the event that would come next if the list ends too early.
+/// Apart from out of memory, a list of events has one answer. If the list is a whole schedule, the answer is the trace.
+/// Otherwise it is the first event that is not the next of its actor, or the event that would come next if the list
+/// ends too early.
 pub fn a_list_has_one_answer()
     ensures { OneAnswer }
 {}

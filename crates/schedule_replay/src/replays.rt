@@ -54,8 +54,8 @@ impl From<NoMemory> for ReplayError {
 ///
 /// # Errors
 ///
-/// The error is the first event that is not the next of its actor, the event that would come next if the list ends
-/// before the flight is over, or out of memory.
+/// Returns the first event that is not the next of its actor, or the event that would come next if the list ends before
+/// the flight is over. Out of memory is an error too.
 pub fn replay(
     alloc: Global,
     spec: &Spec,

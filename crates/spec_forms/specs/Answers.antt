@@ -1,4 +1,4 @@
--- The answers about a specification.
+-- The answers to questions about a specification.
 use Rattle.std.specs.Prelude.{◌≡◌, ℕ, List, [], Option, Some, None}
 use Rattle.scram_types.specs.Specification.{Parts}
 use Rattle.scram_io.specs.Outside.{History}
@@ -13,29 +13,30 @@ use Rattle.form_base.specs.Specifications.{AsksSpecification}
 use Rattle.spec_forms.specs.Bounds.{bounds_text}
 use Rattle.spec_forms.specs.Lines.{accepted_line}
 
--- The answer to `check`, given the reason why the specification is not accepted, if any.
+-- The answer to `check`. If the specification is not accepted, `shown` is the reason.
 abbrev pub check_answer : Parts → Option Shown → ℕ × List ℕ
 check_answer spec (Some shown) = (NOT_ACCEPTED, shown_line spec shown)
 check_answer spec None = (ANSWERED, accepted_line spec)
 
--- The answer to `bounds`, given the refusal of too many environments, if any.
+-- The answer to `bounds`. If the specification has too many environments in scope, `shown` is the refusal.
 abbrev pub bounds_answer : Parts → Option Shown → ℕ × List ℕ
 bounds_answer spec (Some shown) = (NOT_ACCEPTED, shown_line spec shown)
 bounds_answer spec None = (ANSWERED, bounds_text spec)
 
--- The answer to `check` with the name of a specification's file.
+-- The answer to `check` about the specification in the file of this name.
 abbrev pub CheckAnswers : List ℕ → Answer
 CheckAnswers specification = AsksSpecification specification (λ (spec : Parts). WithoutFiles (Gives (check_answer spec (first_refusal spec))))
 
--- The answer to `bounds` with the name of a specification's file.
+-- The answer to `bounds` about the specification in the file of this name.
 abbrev pub BoundsAnswers : List ℕ → Answer
 BoundsAnswers specification = AsksSpecification specification (λ (spec : Parts). WithoutFiles (Gives (bounds_answer spec (state_refusal spec))))
 
--- If `check` ends with status 0, no other file was read, the specification is accepted, and the text is its line.
+-- If `check` ends with status 0, it has read no other file, the specification is accepted, and the text says so.
 abbrev pub AssuresCheck : List ℕ → History → List ℕ → Type 0
 AssuresCheck specification =
     OfSpecification specification (λ (spec : Parts) (reads : History) (text : List ℕ). (reads ≡ []) × Accepts spec × (text ≡ accepted_line spec))
 
--- If `bounds` ends with status 0, no other file was read, and the text lists the bounds of the specification.
+-- If `bounds` ends with status 0, it has read no other file, and the text lists the required bounds of the
+-- specification.
 abbrev pub AssuresBounds : List ℕ → History → List ℕ → Type 0
 AssuresBounds specification = OfSpecification specification (λ (spec : Parts) (reads : History) (text : List ℕ). (reads ≡ []) × (text ≡ bounds_text spec))

@@ -1,4 +1,4 @@
--- The text of the bounds that a specification is required to give.
+-- The text of the bounds that a specification must give.
 use Rattle.std.specs.Prelude.{◌≡◌, ℕ, ◌<◌, List, [], length, slice_get, Some, if◌then◌else◌}
 use Rattle.scram_types.specs.Lookups.{conf_id}
 use Rattle.scram_types.specs.Specification.{Parts}
@@ -6,18 +6,18 @@ use Rattle.coverage_check.specs.Timing.{asked_bounds, is_bound_asked}
 use Rattle.form_base.specs.Texts.{texts_below}
 use Rattle.spec_forms.specs.Lines.{bound_line}
 
--- The line of a pair if a bound from `i` to `j` is required, else the empty text.
+-- The line of the bound from `i` to `j` if it is required, or the empty text.
 abbrev pub bound_text_of : Parts → ℕ → ℕ → List ℕ
 bound_text_of spec i j = if is_bound_asked spec (conf_id i) j then bound_line spec (conf_id i) (conf_id j) else []
 
--- The lines of the pairs that begin with `i`.
+-- The lines of the required bounds from `i`, by target.
 abbrev pub bounds_text_from : Parts → ℕ → List ℕ
 bounds_text_from spec i = texts_below (bound_text_of spec i) (length spec.confs)
 
--- The lines of all pairs for which a bound is required.
+-- The lines of all required bounds, by source.
 abbrev pub bounds_text : Parts → List ℕ
 bounds_text spec = texts_below (bounds_text_from spec) (length spec.confs)
 
--- Each set holds, as bits, the configurations to which a bound from its configuration is required.
+-- Set `i` holds, as bits, the configurations to which a bound from configuration `i` is required.
 abbrev pub HasAskedBounds : Parts → List ℕ → Type 0
 HasAskedBounds spec sets = (i set : ℕ) → i < length spec.confs → slice_get sets i ≡ Some set → set ≡ asked_bounds spec (conf_id i)

@@ -7,14 +7,14 @@ use Rattle.choice_table.specs.Numbering.{states}
 use Rattle.coverage_check.specs.Timing.{least}
 use Rattle.trace_text.specs.Text.{bound_text}
 
--- The line of an accepted specification: the numbers of its configurations, of its environments in scope and of the
--- bounds that it gives.
+-- The line of an accepted specification. It has the numbers of its configurations, of its environments in scope and of
+-- its given bounds.
 abbrev pub accepted_line : Parts → List ℕ
 accepted_line spec =
     codes "accepted: configurations " ++ decimal (length spec.confs) ++ codes " states " ++ decimal (states spec)
     ++ codes " bounds " ++ decimal (length spec.bounds) ++ codes "\n"
 
--- The smallest sufficient bound for a pair of configurations, and the bound that is given for the pair.
+-- The line of a pair of configurations. It has the smallest bound that suffices and the bound that is given.
 abbrev pub bound_line : Parts → ConfId → ConfId → List ℕ
 bound_line spec from to =
     codes "bound " ++ conf_name spec from.0 ++ codes " " ++ conf_name spec to.0 ++ codes " least " ++ decimal (least spec from to)

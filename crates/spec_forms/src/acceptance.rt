@@ -1,4 +1,4 @@
-//! The form `check`: whether a specification is accepted.
+//! The form `check`, which says whether a specification is accepted.
 
 ghost use Rattle.std.specs.Prelude.{◌∷◌, [], List, ℕ};
 ghost use Rattle.coverage_check.specs.Acceptance.{first_refusal};
@@ -20,7 +20,7 @@ use scram_types::Spec;
 use std::alloc::Global;
 use trace_text::lines::Line;
 
-/// Prints whether the specification in a file is accepted.
+/// Prints that the specification in a file is accepted, with its counts, or prints the refusal.
 pub fn check<F: Files, K: Sink>(
     alloc: Global,
     specification: &str,
@@ -36,7 +36,7 @@ pub fn check<F: Files, K: Sink>(
     }
 }
 
-/// Reads the specification and returns the line that says that it is accepted.
+/// Reads the specification and returns the line for an accepted specification, or the refusal.
 fn read_line<F: Files>(alloc: Global, specification: &str, files: &mut F) -> Result<Line, Refusal>
     ensures { Prepares (CheckAnswers specification.now) (λ (line : List ℕ). Gives (ANSWERED, line)) (specification.now ∷ [])
         (F.state files.old) (F.state files.new) result }

@@ -1,4 +1,4 @@
-//! The form `bounds`: the bounds that a specification is required to give.
+//! The form `bounds`, which lists the bounds that a specification must give.
 
 ghost use Rattle.std.specs.Prelude.{◌≡◌, ◌<◌, ◌≤◌, ◌∷◌, [], IfOk, length};
 ghost use Rattle.scram_types.specs.Bits.{has_bit};
@@ -24,16 +24,16 @@ use scram_io::{Files, Sink, SinkFault};
 use scram_types::{ConfId, NoMemory, Spec};
 use std::alloc::Global;
 
-/// A specification, and for each configuration the set, as bits, of configurations to which a bound from it is
-/// required.
+/// A specification with a set for each configuration. The set holds, as bits, the configurations to which a bound from
+/// it is required.
 #[derive(Drop)]
 struct Asked {
     spec: Spec,
     sets: [u16; 12],
 }
 
-/// Prints the bounds that the specification in a file is required to give, unless it has too many environments in
-/// scope.
+/// Prints each bound that the specification in a file must give, with the smallest value that suffices and the given
+/// value. If too many environments are in scope, it prints the refusal instead.
 pub fn bounds<F: Files, K: Sink>(
     alloc: Global,
     specification: &str,
@@ -53,7 +53,7 @@ pub fn bounds<F: Files, K: Sink>(
     }
 }
 
-/// Reads the specification and finds the bounds that it is required to give.
+/// Reads the specification and finds the bounds that it must give.
 fn read_asked<F: Files>(alloc: Global, specification: &str, files: &mut F) -> Result<Asked, Refusal>
     ensures reads { Prepares (BoundsAnswers specification.now) TellsBounds (specification.now ∷ []) (F.state files.old) (F.state files.new) result }
     ensures asked { IfOk result AreAsked }
@@ -82,7 +82,7 @@ fn find_bounds(alloc: Global, spec: Spec) -> Result<Asked, Refusal>
     }
 }
 
-/// Returns for each configuration the set, as bits, of configurations to which a bound from it is required.
+/// Returns a set for each configuration. It holds, as bits, the configurations to which a bound from it is required.
 ///
 /// # Errors
 ///
@@ -135,7 +135,7 @@ fn put_bounds_from<K: Sink>(
     Ok(())
 }
 
-// Writes the line of a pair if a bound is required for it.
+// Writes the line of a pair of configurations if a bound is required for the pair.
 fn put_bound<K: Sink>(
     out: &mut K,
     spec: &Spec,
@@ -155,7 +155,7 @@ fn put_bound<K: Sink>(
     }
 }
 
-/// Returns whether a bound is required, where `set` is the set of targets for which one is required from `from`.
+/// Returns whether a bound from `from` to `to` is required. The set of targets for which one is required is `set`.
 pub fn is_asked(spec: &Spec, set: u16, from: ConfId, to: ConfId) -> bool
     requires set { set ≡ asked_bounds spec.now from }
     requires to { to.0 < length spec.now.confs }

@@ -1,5 +1,5 @@
-//! The forms that answer a question about a specification: `check` and `bounds`. Their output depends only on the bytes
-//! of the file that their words name.
+//! The forms `check` and `bounds`, which answer a question about a specification. Their output depends only on the
+//! bytes of the file that their words name.
 #![tactic(auto)]
 
 mod acceptance;

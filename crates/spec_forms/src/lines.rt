@@ -9,8 +9,8 @@ use scram_types::{ConfId, Spec};
 use trace_text::lines::Line;
 use trace_text::report_lines::add_bound;
 
-/// Returns the line for an accepted specification: the numbers of its configurations, of its environments in scope
-/// and of the bounds that it gives.
+/// Returns the line for an accepted specification. It has the numbers of its configurations, of its environments in
+/// scope and of its given bounds.
 pub fn make_accepted_line(spec: &Spec) -> Line
     ensures { result ≡ accepted_line spec.now }
 {
@@ -25,7 +25,8 @@ pub fn make_accepted_line(spec: &Spec) -> Line
     line
 }
 
-/// Returns the line of a pair of configurations: the smallest sufficient bound, in frames, and the bound that is given.
+/// Returns the line of a pair of configurations. It has the smallest bound that suffices, in frames, and the bound that
+/// is given.
 pub fn make_bound_line(spec: &Spec, from: ConfId, to: ConfId) -> Line
     ensures { result ≡ bound_line spec.now from to }
 {
