@@ -85,8 +85,8 @@ impl<'a> PairCore<'a> {
         })
     }
 
-    /// Returns the next event of unit 0 or 1. It returns `None` if and only if the unit waits for an actor, has halted
-    /// or has made its last note, or the flight has no frame. A unit waits for a processor or for the other unit.
+    /// Returns the next event of unit 0 or 1. It returns `None` if and only if the unit waits for a processor or for
+    /// the other unit, has halted or has made its last note, or the flight has no frame.
     pub fn next(&self, unit: u8) -> Option<PairEvent>
         requires { unit < 2 }
         ensures { result ≡ next_unit (pair_flight self.now) self.now.halt (pair_in self.now) unit }
@@ -218,8 +218,8 @@ impl<'a> PairCore<'a> {
         self.machine.over()
     }
 
-    /// Returns the rows and reports of a flight that is over, from a unit that has not halted. They are those of the
-    /// one-thread trace.
+    /// Returns the rows and reports of a unit that has not halted. The flight is over. The rows and reports are those
+    /// of the one-thread trace.
     pub fn finish(self) -> Flown
         requires { IsPairOver (pair_flight self) (pair_in self) }
         ensures rows { result.rows ≡ rows_of self.entry.spec self.entry.script }

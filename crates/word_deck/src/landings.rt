@@ -123,8 +123,8 @@ pub(crate) fn fly_crew<R: Wait>(
     unreachable!()
 }
 
-/// Starts a thread for a processor. If no thread can be created, it returns a landing whose `flown` is false, and the
-/// boxes are in the cell.
+/// Starts a thread for a processor. If no thread can be created, it returns a landing that has not flown, and the boxes
+/// are in the cell.
 pub(crate) fn start<'s, E, R: Wait + Threads + Sync>(
     scope: &Scope<'s, E>,
     rt: &'s R,

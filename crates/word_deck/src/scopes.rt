@@ -40,7 +40,7 @@ pub(crate) enum Boarding {
     Landed(Seat),
 }
 
-/// Flies all processors and the kernel. Returns the kernel after its last note, and the seats of the landed processors.
+/// Flies all processors and the kernel, and returns the kernel after its last note.
 pub(crate) fn fly<K: KernelActor, R: Threads + Wait + Sync>(
     rt: &R,
     shared: &Shared<'_>,
