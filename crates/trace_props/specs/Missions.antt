@@ -26,12 +26,12 @@ abbrev pub ReconfigurationsAreAssured : Type 0
 ReconfigurationsAreAssured = (spec : Parts) (script : ScriptParts) → IsSpec spec → IsMission (mission_of spec script)
     → HoldsAll spec (rows_of spec script) (reports_of spec script)
 
--- The frame in which the reconfiguration of frame f began, given the reading of the rows before f.
+-- The frame in which the reconfiguration of frame `f` began, given the reading of the rows before frame `f`.
 abbrev pub begin_in : Reading → ℕ → ℕ
 begin_in (Steady c) f = f
 begin_in (Leaving c begin) f = begin
 
--- The frame in which the reconfiguration of frame f of a mission began.
+-- The frame in which the reconfiguration of frame `f` of a mission began.
 abbrev pub begin_at : Parts → ScriptParts → ℕ → ℕ
 begin_at spec script f = begin_in (reading_of spec (listed_below (row_at spec script) f)) f
 
@@ -40,7 +40,7 @@ abbrev pub first_moving_in : KMode → ℕ → ℕ
 first_moving_in (Stable c) begin = suc begin
 first_moving_in (Moving from halting to since) begin = begin
 
--- The first moving frame of the reconfiguration of frame f of a mission.
+-- The first moving frame of the reconfiguration of frame `f` of a mission.
 abbrev pub first_moving : Parts → ScriptParts → ℕ → ℕ
 first_moving spec script f = first_moving_in (decided spec script (begin_at spec script f)) (begin_at spec script f)
 

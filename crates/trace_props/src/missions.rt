@@ -18,9 +18,9 @@ pub fn reconfigurations_are_assured()
     know();
 }
 
-/// States that in each frame in which a reconfiguration is under way, its target can run and was chosen from its source
-/// in an environment seen since its first moving frame. Under `Retarget` the target was chosen in this frame's
-/// environment.
+/// States that the target of a reconfiguration can run in each frame in which the reconfiguration is under way. The
+/// target was chosen from its source in an environment seen since the first moving frame. Under `Retarget` the target
+/// was chosen in this frame's environment.
 pub fn targets_are_chosen()
     ensures { TargetsAreChosen }
 {
