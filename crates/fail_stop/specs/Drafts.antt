@@ -51,8 +51,8 @@ draft_made spec snap p = image_of (slot_made
     (image_in snap.images p)
     p)
 
--- A snapshot is that of frame `f` of a script: it has the kernel image of the frame and the images of all processors
--- before it.
+-- The snapshot shows frame `f` of a script: it has the kernel image of the frame and the images of all processors
+-- before the frame.
 pub record IsSnapshot (spec : Parts) (script : ScriptParts) (f : ℕ) (snap : Snapshot) : Type 0 where
   pub kernel : snap.kernel ≡ kernel_image spec script f
   pub images : (q : ℕ) → q < length spec.procs → image_in snap.images q ≡ image_after spec script q f

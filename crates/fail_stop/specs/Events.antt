@@ -81,7 +81,7 @@ next_kernel m at words =
     else None))
     else None
 
--- The next event of the actor of an event.
+-- The next event of the actor of an event, or `None` if the actor has none.
 abbrev pub next_of_actor : Flight → Places → (Word → ℕ) → Event → Option Event
 next_of_actor m at words (Start p) = next_of m at words p.0
 next_of_actor m at words (Look p q) = next_of m at words p.0
