@@ -26,8 +26,8 @@ pub record IsHaltKind (spec : Parts) (proc step : ℕ) : Type 0 where
   pub there : proc < length spec.procs
   pub moment : (step ≡ 0) ⊎ (step ≡ words spec + 1)
 
--- The kind of fault is one of the specification's. It is a change of a factor to one of its values, a halt of a
--- processor before all stores of a frame or after its mark, or a restart of a processor.
+-- The kind of fault is one of the specification's: a change of a factor to one of its values, a halt of a processor, or
+-- a restart of a processor. The halt comes before all stores of a frame or after the mark.
 abbrev pub IsKind : Parts → FaultKind → Type 0
 IsKind spec (Change factor value) = IsChangeKind spec factor.0 value
 IsKind spec (Halt proc step) = IsHaltKind spec proc.0 step

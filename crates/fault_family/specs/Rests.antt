@@ -42,7 +42,7 @@ pub record IsAtRest (spec : Parts) (script : ScriptParts) (b : ℕ) (c : ConfId)
   pub chosen : choose spec c (env_at spec script (b - 1)) ≡ c
   pub quiet : Each (λ (halt : HaltAt). halt.frame ≢ b - 1) script.halts
 
--- The reconfigurations of the second flight are those of the first. Some are unchanged, and all that follow come `d`
+-- The second flight has the reconfigurations of the first flight. Some are unchanged, and all that follow come `d`
 -- frames later.
 pub record GoOnLater (d : ℕ) (one other : List Report) : Type 0 where
   pub before : List Report
