@@ -73,7 +73,7 @@ pub(crate) fn images_read(spec: &Spec, stored: &[u64], frame: u32) -> [Image; 8]
     ]
 }
 
-/// Returns the kernel image of a frame, decoded from its words. The words must be those of `image`.
+/// Returns the kernel image of a frame, decoded from its words. The stored words must be the words of `image`.
 pub(crate) fn kernel_read(stored: &[u64], image: &KernelImage) -> KernelImage
     requires stored { length stored.now ≡ word_index_count }
     requires held { (i : ℕ) → i < 20 → stored_in stored.now (KernelWord i) ≡ word_in (kernel_encode image.now) i }
