@@ -26,7 +26,7 @@ use std::thread::{Scope, Threads};
 use trace_props::missions::reconfigurations_are_assured;
 
 /// A flight of a mission before its first step, with all memory that the flight needs. Clauses state that its
-/// processors are those of the mission. Two fields are public so that clauses can name them.
+/// processors belong to the mission. Two fields are public so that clauses can name them.
 #[derive(Drop)]
 pub struct LockFlight<'a> {
     pub mission: &'a Mission,
