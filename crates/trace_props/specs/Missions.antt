@@ -1,4 +1,5 @@
--- Theorems on missions: accepted specifications with a script that fits and keeps to the failure assumption.
+-- Theorems on missions. A mission is an accepted specification and a script that fits it and keeps to its failure
+-- assumption.
 use Rattle.std.specs.Prelude.{◌≡◌, ℕ, suc, ◌+◌, ◌-◌, ◌*◌, ◌≤◌, true, length, Option}
 use Rattle.scram_types.specs.declared.ids.ConfId.{ConfId}
 use Rattle.scram_types.specs.declared.orders.KMode.{KMode}
@@ -44,7 +45,7 @@ first_moving_in (Moving from halting to since) begin = begin
 abbrev pub first_moving : Parts → ScriptParts → ℕ → ℕ
 first_moving spec script f = first_moving_in (decided spec script (begin_at spec script f)) (begin_at spec script f)
 
--- The number of change frames after the first moving frame, up to and including f.
+-- The number of change frames after the first moving frame, up to and including frame `f`.
 abbrev pub changes_since : Parts → ScriptParts → ℕ → ℕ
 changes_since spec script f = changes_upto spec script f - changes_upto spec script (first_moving spec script f)
 
@@ -64,7 +65,7 @@ pub record IsTargetChosen (spec : Parts) (script : ScriptParts) (f : ℕ) (from 
   pub chosen : choose spec from (env_at spec script chosen_at) ≡ to
   pub anew : spec.policy ≡ Retarget → choose spec from (env_at spec script f) ≡ to
 
--- In each moving frame of a mission the target can run and was chosen.
+-- In each moving frame of a mission the target can run, and was chosen as `IsTargetChosen` states.
 abbrev pub TargetsAreChosen : Type 0
 TargetsAreChosen = InMovingFrames IsTargetChosen
 
