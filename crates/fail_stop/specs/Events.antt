@@ -211,7 +211,7 @@ same_word (EndWord p) (EndWord q) = nat_eq p q
 same_word (BankWord p b i) (BankWord q c j) = nat_eq p q && (nat_eq b c && nat_eq i j)
 same_word _ _ = false
 
--- The value of a word after a write, if there is one.
+-- The value of a word after an optional write.
 abbrev pub written : Option (Word × ℕ) → (Word → ℕ) → Word → ℕ
 written None words w = words w
 written (Some t) words w = if same_word t.0 w then t.1 else words w

@@ -40,7 +40,7 @@ abbrev pub reaches_mark : ℕ → Option ℕ → Bool
 reaches_mark width None = true
 reaches_mark width (Some s) = nat_lt width s
 
--- Whether processor `p` commits frame `f`: it is up and reaches its mark.
+-- Whether processor `p` commits frame `f`: it is up in the frame and reaches its mark.
 unfoldable pub is_committed : Flight → ℕ → ℕ → Bool
 is_committed m p f = m.up p f && reaches_mark m.width (m.halt p f)
 
