@@ -43,7 +43,7 @@ halt_of_fault fault = halt_fault_in fault.frame fault.kind
 abbrev pub restart_of_fault : Fault → Option RestartAt
 restart_of_fault fault = restart_fault_in fault.frame fault.kind
 
--- The script with this number of frames and these faults.
+-- The script with a given number of frames and given faults.
 abbrev pub faults_in_frames : ℕ → List Fault → ScriptParts
 faults_in_frames frames faults = record {
   frames = frames;

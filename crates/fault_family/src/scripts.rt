@@ -94,12 +94,12 @@ pub fn greatest(spec: &Spec) -> u32
     ensures value { result ≡ greatest_bound spec.now.bounds }
     ensures few { result ≤ 1000 }
 {
-    // Using a field of a specification shows that it keeps its invariant.
+    // Using a field of the specification shows that the specification keeps its invariant.
     let _ = &spec.bounds;
     greatest_bound(spec)
 }
 
-/// Returns the value of a factor in a frame.
+/// Returns the value of a factor in a frame of the script of these faults.
 pub fn value_at(faults: &[Fault], factor: FactorId, frame: u32) -> u8
     ensures { result ≡ value_after (filter_map change_of_fault faults.now) factor.0 frame 0 }
 {
@@ -130,7 +130,7 @@ pub fn is_up(script: &FaultScript<'_>, p: u8, frame: u32) -> bool
     are_halts_over(script, p, frame)
 }
 
-// Returns whether a processor has restarted since each of its halts in frames before this one.
+// Returns whether a processor has restarted since each of its halts in the frames before a frame.
 fn are_halts_over(script: &FaultScript<'_>, p: u8, frame: u32) -> bool
     ensures { result ≡ list_all (is_over (faults_in_frames script.now.frames script.now.faults.now) p frame) (filter_map halt_of_fault script.now.faults.now) }
 {
