@@ -63,7 +63,8 @@ HappensIn old event new = Happens (flown old) (core_places old) (core_words old)
 abbrev pub RefusesEvent : CoreParts → Event → Illegal → Type 0
 RefusesEvent core event told = (next_event core event ≢ Some event) × (told.given ≡ event) × (told.next ≡ next_event core event)
 
--- The number of frames that have ended for the kernel, including its own frame once all processors are noted in it.
+-- The number of frames that have ended. The kernel's own frame has ended once the kernel has noted all processors in
+-- it.
 abbrev pub frames_ended : Parts → KeptPlaces → ℕ
 frames_ended spec places = if nat_le (length spec.procs) places.step then places.frame + 1 else places.frame
 
