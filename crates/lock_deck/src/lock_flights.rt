@@ -167,7 +167,7 @@ fn take_rack(racks: &mut Vec<Rack>) -> Option<Rack>
     racks.pop()
 }
 
-// Adds a processor to those that wait for a thread.
+// Adds a processor to the processors that wait for a thread.
 fn add_member(members: &mut Vec<CachePadded<Member>>, member: Member) -> Result<(), NoMemory>
     ensures { OnOk result ((mission : MissionParts) → MemberFits mission member → All (λ member. MemberFits mission member.value) members.old.items
         → All (λ member. MemberFits mission member.value) members.new.items) }
@@ -332,7 +332,7 @@ fn take_member(members: &mut Vec<CachePadded<Member>>) -> Option<Member>
     }
 }
 
-// Adds a processor, if there is one, to those that the caller flies.
+// Adds a processor, if there is one, to the processors that the caller flies.
 fn keep_member(back: &mut Vec<Member>, member: Option<Member>)
     requires room { vec_len back.old < vec_capacity back.old }
     ensures fits { (mission : MissionParts) → IfSome member (MemberFits mission) → All (MemberFits mission) back.old.items

@@ -69,7 +69,7 @@ fn make_turn_of_kernel<'a, J: FlightOf>(
     true
 }
 
-// Makes a turn of each of these processors.
+// Makes one turn of each processor in a list.
 fn make_turn_of_each<'a, J: FlightOf, R: Wait>(
     rt: &R,
     mission: &Mission,
