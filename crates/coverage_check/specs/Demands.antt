@@ -30,7 +30,8 @@ demand_refusal_at spec c k = option_map_or (demand_refusal_of spec c k) (slice_g
 abbrev pub demand_refusal_in : Parts → ℕ → Option Shown
 demand_refusal_in spec c = first_below (demand_refusal_at spec c) (length spec.demands)
 
--- The refusal for demand `k` and configuration `c`, from a list of the first environments found for the demands.
+-- The refusal for demand `k` and configuration `c`, or none, from a list of the first environments found for the
+-- demands.
 abbrev pub miss_shown : List (Option Env) → ℕ → ℕ → Option Shown
 miss_shown found c k =
     option_and_then (λ (least : Option Env). option_map (λ (v : Env). shown_in 13 c v (other.Demand k)) least) (slice_get found k)

@@ -9,8 +9,8 @@ use Rattle.choice_table.specs.Environments.{IsEnv, factor_in, in_scope, is_up_in
 use Rattle.choice_table.specs.Numbering.{value_count}
 use Rattle.cube_cover.specs.declared.cubes.Cube.{Cube}
 
--- The digit of an environment at place `x`. Places 0 to 5 are the factors, and the digit is the factor's value. Place
--- `6 + p` is processor `p`, with digit 0 if it is up and 1 if it is down.
+-- The digit of an environment at place `x`. Places 0 to 5 are the factors, whose digits are their values. Place `6 + p`
+-- is processor `p`, with digit 0 if the processor is up and 1 if it is down.
 unfoldable pub digit_in : Env → ℕ → ℕ
 digit_in v x = if nat_lt x 6 then factor_in v x else (if is_up_in v (x - 6) then 0 else 1)
 

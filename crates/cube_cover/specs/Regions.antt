@@ -24,19 +24,20 @@ unfoldable pub is_ruled : List Choice → ConfId → (ℕ → Bool) → Env → 
 is_ruled [] c passes v = false
 is_ruled (rule ∷ rules) c passes v = if rule_fits c v rule then passes rule.to.0 else is_ruled rules c passes v
 
--- In scope, the regions hold the environments of the cubes that a rule of configuration `c` fits, by its target, and
--- the rest holds those that no rule fits.
+-- In scope, the regions hold the environments of the cubes that some rule of configuration `c` fits, each with the
+-- target of its first such rule. The rest holds the environments that no rule fits.
 pub record AreRegions (spec : Parts) (c : ConfId) (cubes : List Cube) (ruled : List Region) (unruled : List Cube) : Type 0 where
   pub targets : (passes : ℕ → Bool) → Agree spec (is_marked ruled passes) (λ v. is_in cubes v && is_ruled spec.rules c passes v)
   pub rest : Agree spec (is_in unruled) (λ v. is_in cubes v && not (has_rule spec c v))
 
--- The regions mark what they marked before, and the environments in the cubes if the target passes the test.
+-- The second list of regions marks the environments that the first list marks. If the target passes the test, it also
+-- marks the environments in the cubes.
 abbrev pub MarksMore : List Region → List Region → List Cube → ConfId → Type 0
 MarksMore before after cubes target =
     (passes : ℕ → Bool) (v : Env) → is_marked after passes v ≡ (is_marked before passes v || (is_in cubes v && passes target.0))
 
--- In scope, the regions mark what they marked before, and the environments in the cubes that the rule fits, if its
--- target passes the test.
+-- In scope, the second list of regions marks the environments that the first list marks. If the rule's target passes
+-- the test, it also marks the environments in the cubes that the rule fits.
 abbrev pub Rule : Parts → ConfId → Choice → List Cube → List Region → List Region → Type 0
 Rule spec c rule cubes before after = (passes : ℕ → Bool) →
     Agree spec (is_marked after passes) (λ v. is_marked before passes v || (is_in cubes v && (rule_fits c v rule && passes rule.to.0)))
@@ -45,10 +46,11 @@ Rule spec c rule cubes before after = (passes : ℕ → Bool) →
 abbrev pub HoldsMarked : List Region → (ℕ → Bool) → List Cube → Type 0
 HoldsMarked regions passes cubes = (v : Env) → is_in cubes v ≡ is_marked regions passes v
 
--- The cubes hold the environments that they held before, and those of another cube if that cube is selected.
+-- The second list of cubes holds the environments that the first list holds, and, if a further cube is selected, the
+-- environments in that cube.
 abbrev pub HoldsMore : List Cube → List Cube → Cube → Bool → Type 0
 HoldsMore before after cube wanted = (v : Env) → is_in after v ≡ (is_in before v || (wanted && holds cube v))
 
--- In scope, the region that holds an environment has the target that is chosen from configuration `i`.
+-- In scope, a region that holds an environment has the target that is chosen from configuration `i` in the environment.
 abbrev pub AreAll : Parts → ConfId → List Region → Type 0
 AreAll spec i regions = (passes : ℕ → Bool) → Agree spec (is_marked regions passes) (λ v. passes (choose spec i v).0)

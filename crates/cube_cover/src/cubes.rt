@@ -14,9 +14,9 @@ ghost use Rattle.cube_cover.specs.Cubes.{HasDigits, allows, digit_in, holds, is_
 use scram_types::bits::has_bit;
 use scram_types::{Choice, ConfId, Demand, Env, Place, Spec, Want};
 
-/// A set of environments. It has a set of values for each factor, and for each processor up, down or either. Bit `4 * x
-/// + d` says whether digit `d` is open at place `x`. Places 0 to 5 are the factors, whose digits are their values.
-/// Place `6 + p` is processor `p`, with digit 0 if it is up and 1 if it is down.
+/// A set of environments, given by a set of digits for each place. Bit `4 * x + d` says whether digit `d` is open at
+/// place `x`. Places 0 to 5 are the factors, whose digits are their values. Place `6 + p` is processor `p`, with digit
+/// 0 if the processor is up and 1 if it is down.
 #[derive(Clone, Copy, Debug, PartialEq, Eq)]
 pub(crate) struct Cube {
     pub(crate) bits: u64,

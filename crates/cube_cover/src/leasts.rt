@@ -26,7 +26,7 @@ pub(crate) fn least_of(spec: &Spec, cubes: &[Cube]) -> Option<Env>
 }
 
 // Returns the environment with the smaller number of two optional environments. If only one is present, returns that
-// environment; if neither is, returns `None`.
+// environment. If neither is present, returns `None`.
 pub(crate) fn earlier_env(spec: &Spec, one: Option<Env>, other: Option<Env>) -> Option<Env>
     ensures { result ≡ earlier_env spec.now one other }
 {

@@ -11,7 +11,7 @@ use crate::splits::split_by;
 use scram_types::{Choice, ConfId, NoMemory, Spec};
 use std::alloc::Global;
 
-// A cube of environments in all of which the same target is chosen.
+// A cube of environments, and the target that is chosen in all of them.
 #[derive(Clone, Copy)]
 pub(crate) struct Region {
     pub(crate) cube: Cube,

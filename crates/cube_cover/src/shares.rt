@@ -30,8 +30,8 @@ struct Taken {
     rest: Vec<Cube>,
 }
 
-/// Returns for each rule, in order, the share of the environments in scope in which it is the first that fits
-/// configuration `c`. The last share is that of the environments in which no rule fits.
+/// Returns for each rule, in order, the share of the environments in scope in which the rule is the first that fits
+/// configuration `c`. The last share has the environments in which no rule fits.
 ///
 /// # Errors
 ///

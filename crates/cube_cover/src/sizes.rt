@@ -38,7 +38,7 @@ fn size_of(spec: &Spec, cube: Cube) -> u32
     }
 }
 
-// Returns whether digit 0 is open at each place past the last factor. Each environment has digit 0 there.
+// Returns whether digit 0 is open at each place past the last factor. All environments have digit 0 at these places.
 fn are_zeros_open(spec: &Spec, cube: Cube) -> bool
     requires { IsSpec spec.now }
     ensures { result ≡ are_open cube (length spec.now.factors) (replicate (6 - length spec.now.factors) 0) }

@@ -17,7 +17,8 @@ use Rattle.event_core.specs.Rooms.{events_left}
 use Rattle.event_core.specs.declared.cores.Illegal.{Illegal}
 use Rattle.event_core.specs.Stores.{IsEventWord}
 
--- The specification and the script of a core, the places of all actors, the stored words, and the events so far.
+-- The parts of a core: its specification and its script, the places of all actors, the stored words, and the events so
+-- far.
 pub record CoreParts : Type 0 where
   pub spec : Parts
   pub script : ScriptParts
@@ -25,11 +26,11 @@ pub record CoreParts : Type 0 where
   pub stored : List ℕ
   pub history : List Event
 
--- The parts of a core with these places, these words in one list, and this history.
+-- The parts of a core, given its places, its words in one list, and its history.
 abbrev pub core_of : Parts → ScriptParts → KeptPlaces → List ℕ → List Event → CoreParts
 core_of spec script places stored history = record { spec = spec; script = script; places = places; stored = stored; history = history }
 
--- The flight of the machine that a core flies.
+-- The flight that a core flies, as a flight of the event machine.
 abbrev pub flown : CoreParts → Flight
 flown core = flight_of core.spec core.script
 
@@ -41,7 +42,7 @@ core_places core = machine_places core.places
 abbrev pub core_words : CoreParts → Word → ℕ
 core_words core = stored_in core.stored
 
--- An event is the next of its actor in a core.
+-- The event is the next event of its actor in the core.
 abbrev pub IsNextIn : CoreParts → Event → Type 0
 IsNextIn core event = IsNext (flown core) (core_places core) (core_words core) event
 
@@ -49,23 +50,25 @@ IsNextIn core event = IsNext (flown core) (core_places core) (core_words core) e
 abbrev pub next_event : CoreParts → Event → Option Event
 next_event core event = next_of_actor (flown core) (core_places core) (core_words core) event
 
--- A word is a valid argument for an event in a core: the word that the event stores, if it is a store.
+-- The word is a valid argument for the event in the core. If the event is a store, it is the word that the event
+-- stores.
 abbrev pub IsWordIn : CoreParts → Event → ℕ → Type 0
 IsWordIn core event word = IsEventWord (flown core) (core_places core) event word
 
--- An event takes one core to another.
+-- The event takes the first core to the second.
 abbrev pub HappensIn : CoreParts → Event → CoreParts → Type 0
 HappensIn old event new = Happens (flown old) (core_places old) (core_words old) event (core_places new) (core_words new)
 
--- An event is not the next of its actor, and the error holds that event and the actor's next event.
+-- The event is not the next of its actor, and the error has that event and the actor's next event.
 abbrev pub RefusesEvent : CoreParts → Event → Illegal → Type 0
 RefusesEvent core event told = (next_event core event ≢ Some event) × (told.given ≡ event) × (told.next ≡ next_event core event)
 
--- The number of frames that have ended for the kernel, including its own frame once all processors are noted in it.
+-- The number of frames that have ended. The kernel's own frame has ended once the kernel has noted all processors in
+-- it.
 abbrev pub frames_ended : Parts → KeptPlaces → ℕ
 frames_ended spec places = if nat_le (length spec.procs) places.step then places.frame + 1 else places.frame
 
--- Whether an event is the last note of a frame.
+-- Whether an event is the last note of a frame, the note of the last processor.
 abbrev pub ends_frame : Parts → Event → Bool
 ends_frame spec (KNote p) = nat_eq (p.0 + 1) (length spec.procs)
 ends_frame spec (Start p) = false
@@ -86,7 +89,8 @@ pub record MachineKeeps (spec : Parts) (script : ScriptParts) (places : KeptPlac
   pub replay : IsReplay (flight_of spec script) history (machine_places places) (stored_in stored)
   pub room_left : count + events_left (flight_of spec script) (machine_places places) ≤ room
 
--- The invariant of a core: that of its machine, and its kernel is the kernel after the frames that have ended.
+-- The invariant of a core: its machine keeps its own invariant, and its kernel is the kernel after the frames that have
+-- ended.
 pub record CoreKeeps (spec : Parts) (script : ScriptParts) (places : KeptPlaces) (stored : List ℕ) (history : List Event)
     (room count : ℕ) (kernel : KernelParts) : Type 0 where
   pub machine : MachineKeeps spec script places stored history room count

@@ -1,4 +1,4 @@
--- The number of frames that have ended, by the kernel's events.
+-- The number of frames that have ended, counted by the kernel's events.
 use Rattle.std.specs.Prelude.{◌≡◌, ℕ, suc, ◌+◌, ◌*◌, ◌/◌, min, List, [], ◌∷◌, length}
 use Rattle.scram_types.specs.Scripts.{ScriptParts}
 use Rattle.scram_types.specs.Specification.{IsSpec, Parts}
@@ -11,7 +11,7 @@ use Rattle.event_core.specs.Cores.{frames_ended}
 use Rattle.event_core.specs.Places.{machine_places}
 use Rattle.event_core.specs.Replays.{IsReplay}
 
--- The number plus one if the event is a note of the kernel, else the number itself.
+-- A number, increased by one if an event is a note of the kernel.
 abbrev pub with_note : Event → ℕ → ℕ
 with_note (KNote p) n = suc n
 with_note (Start p) n = n
@@ -23,7 +23,7 @@ with_note (Halt p) n = n
 with_note (KStore i) n = n
 with_note Release n = n
 
--- The number plus one if the event is a release, else the number itself.
+-- A number, increased by one if an event is a release.
 abbrev pub with_release : Event → ℕ → ℕ
 with_release Release n = suc n
 with_release (Start p) n = n
@@ -35,19 +35,19 @@ with_release (Halt p) n = n
 with_release (KNote p) n = n
 with_release (KStore i) n = n
 
--- The number of notes among these events.
+-- The number of notes in a list of events.
 abbrev pub notes_in : List Event → ℕ
 notes_in [] = 0
 notes_in (event ∷ events) = with_note event (notes_in events)
 
--- The number of releases among these events.
+-- The number of releases in a list of events.
 abbrev pub releases_in : List Event → ℕ
 releases_in [] = 0
 releases_in (event ∷ events) = with_release event (releases_in events)
 
 -- The number of the kernel's frame is the number of releases. The notes are one for each processor before each release,
--- and those of the kernel's current frame. The number of frames that have ended is the number of notes divided by the
--- number of processors.
+-- and the notes in the kernel's current frame. The number of frames that have ended is the number of notes divided by
+-- the number of processors.
 pub record AreCounted (spec : Parts) (events : List Event) (places : KeptPlaces) : Type 0 where
   pub frame : places.frame ≡ releases_in events
   pub notes : notes_in events ≡ length spec.procs * releases_in events + min places.step (length spec.procs)

@@ -19,11 +19,11 @@ kept_place procs p = slice_index_or procs p (kept.At 0 0)
 abbrev pub machine_places : KeptPlaces → Places
 machine_places places = record { proc = λ p. machine_place (kept_place places.procs p); frame = places.frame; step = places.step }
 
--- The places at the opening: all actors are at the beginning of frame 0.
+-- The places at the opening: all actors are at the start of frame 0.
 abbrev pub kept_opening : KeptPlaces
 kept_opening = record { procs = replicate 8 (kept.At 0 0); frame = 0; step = 0 }
 
--- The numbers of a place can be increased by one without overflow.
+-- The numbers in a place can be increased by one without overflow.
 abbrev pub CanGoOn : KeptPlace → Type 0
 CanGoOn (kept.At f n) = (f + 1 < 2 ^ 32) × (n + 1 < 2 ^ 32)
 CanGoOn (kept.Halted h) = h + 1 < 2 ^ 32

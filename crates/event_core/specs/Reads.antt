@@ -7,15 +7,15 @@ use Rattle.fault_script.specs.Times.{words}
 use Rattle.fail_stop.specs.Events.{BankWord, KernelWord, MarkWord}
 use Rattle.fail_stop.specs.Listed.{stored_in}
 
--- The bank of processor `p` that a reader in frame `f` picks.
+-- The bank of processor `p` that a reader in frame `f` takes.
 abbrev pub bank_taken : List ℕ → ℕ → ℕ → ℕ
 bank_taken stored f p = pick (stored_in stored (MarkWord p)) f
 
--- Word `i` of the image of processor `p` that a reader in frame `f` finds, or 0 past the words of the specification.
+-- Word `i` of the image of processor `p` that a reader in frame `f` finds, or 0 if the specification has no such word.
 abbrev pub word_read : Parts → List ℕ → ℕ → ℕ → ℕ → ℤ
 word_read spec stored f p i = if nat_lt i (words spec) then decode (stored_in stored (BankWord p (bank_taken stored f p) i)) else pos 0
 
--- The kernel's twenty words.
+-- The kernel's twenty words in a list of stored words.
 abbrev pub kernel_words_stored : List ℕ → List ℕ
 kernel_words_stored stored =
     stored_in stored (KernelWord 0) ∷ stored_in stored (KernelWord 1) ∷ stored_in stored (KernelWord 2) ∷ stored_in stored (KernelWord 3)

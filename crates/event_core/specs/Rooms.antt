@@ -4,7 +4,7 @@ use Rattle.fail_stop.specs.Events.{At, Halted, Place, Places}
 use Rattle.fail_stop.specs.Flights.{Flight}
 
 -- The maximum number of events of a processor in a frame: a start, a look at each processor, the stores, the flip, and
--- done or a halt.
+-- then done or a halt.
 abbrev pub events_a_frame : Flight → ℕ
 events_a_frame m = m.procs + m.width + 3
 
@@ -18,8 +18,8 @@ abbrev pub left_below : Flight → Places → ℕ → ℕ
 left_below m at zero = 0
 left_below m at (suc n) = left_below m at n + left_at m (at.proc n)
 
--- The maximum number of events that can still come from the kernel: in each frame a note of each processor, twenty
--- stores and the release.
+-- The maximum number of events that can still come from the kernel. In each frame these are a note of each processor,
+-- twenty stores and the release.
 abbrev pub left_of_kernel : Flight → Places → ℕ
 left_of_kernel m at = (m.frames - at.frame) * (m.procs + 21) - at.step
 

@@ -1,4 +1,4 @@
--- The word of an event, and ranges of an event's numbers.
+-- The word of an event, and the ranges of an event's numbers.
 use Rattle.std.specs.Prelude.{◌≡◌, ℕ, suc, ◌+◌, ◌^◌, ◌<◌}
 use Rattle.bank_words.specs.declared.events.Event.{Event}
 use Rattle.bank_words.specs.declared.events.Event.TheVariants.{Start, Look, Store, Flip, Done, Halt, KNote, KStore, Release}
@@ -8,7 +8,7 @@ use Rattle.fail_stop.specs.Events.{Places, frame_of}
 use Rattle.fail_stop.specs.Flights.{Flight, word_in}
 
 -- A word is valid for an event. A store needs a word of the draft, and a store of the kernel needs a word of the
--- kernel's next image. With any other event the word is arbitrary.
+-- kernel's next image. For any other event the word is arbitrary.
 abbrev pub IsEventWord : Flight → Places → Event → ℕ → Type 0
 IsEventWord m at (Store p i) word = word ≡ word_in (m.draft p.0 (frame_of (at.proc p.0))) i
 IsEventWord m at (KStore i) word = word ≡ word_in (m.kernel_image (suc at.frame)) i
@@ -33,7 +33,7 @@ IsInside (Halt p) = p.0 < 8
 IsInside (KNote p) = p.0 < 8
 IsInside Release = Unit {0}
 
--- The numbers of the actor of an event can be increased by one without overflow.
+-- The numbers that the event increases in the place of its actor can be increased by one without overflow.
 abbrev pub CanMove : KeptPlaces → Event → Type 0
 CanMove places (Start p) = CanGoOn (kept_place places.procs p.0)
 CanMove places (Look p q) = CanGoOn (kept_place places.procs p.0)

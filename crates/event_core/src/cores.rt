@@ -83,23 +83,23 @@ impl<'a> Core<'a> {
         })
     }
 
-    /// Returns the next event of a processor. Returns `None` exactly if the processor waits for the release, has halted
-    /// for good, has flown all frames, or does not exist.
+    /// Returns the next event of a processor, or `None` if there is none. There is none if and only if the processor
+    /// waits for the release, has halted for good, has flown all frames, or does not exist.
     pub fn next_of(&self, p: ProcId) -> Option<Event>
         ensures { result ≡ next_of (flown self.now) (core_places self.now) (core_words self.now) p.0 }
     {
         next_of(self.spec, self.script, &self.places, &self.stored, p)
     }
 
-    /// Returns the next event of the kernel. Returns `None` exactly if the processor that it would note may not be
-    /// noted yet, or if all frames are noted.
+    /// Returns the next event of the kernel, or `None` if there is none. There is none if and only if the processor
+    /// that the kernel would note may not be noted yet, or all frames are noted.
     pub fn next_kernel(&self) -> Option<Event>
         ensures { result ≡ next_kernel (flown self.now) (core_places self.now) (core_words self.now) }
     {
         next_kernel(self.spec, self.script, &self.places, &self.stored)
     }
 
-    /// Returns the frame in which a processor is or in which it has halted.
+    /// Returns a processor's current frame, or the frame in which it halted.
     pub fn frame_of(&self, p: ProcId) -> u32
         requires { p.0 < length self.now.spec.procs }
         ensures { result ≡ frame_of ((core_places self.now).proc p.0) }
@@ -107,15 +107,14 @@ impl<'a> Core<'a> {
         frame_of(kept_place(&self.places.procs, p))
     }
 
-    /// Returns the frame in which the kernel is.
+    /// Returns the kernel's current frame.
     pub fn kernel_frame(&self) -> u32
         ensures { result ≡ (core_places self.now).frame }
     {
         self.places.frame
     }
 
-    /// Returns the events so far. They are a schedule from the opening that leads to the current places and stored
-    /// words.
+    /// Returns the events so far. They are a schedule from the opening to the current places and stored words.
     pub fn history(&self) -> &[Event]
         ensures history { result.now ≡ self.now.history }
         ensures schedule { IsReplay (flown self.now) self.now.history (core_places self.now) (core_words self.now) }
@@ -124,8 +123,8 @@ impl<'a> Core<'a> {
         &self.history
     }
 
-    /// Returns the rows of the frames that have ended, in which the kernel has noted every processor. They are the
-    /// first rows of the one-thread trace.
+    /// Returns the rows of the frames that have ended, which are the frames in which the kernel has noted every
+    /// processor. They are the first rows of the one-thread trace.
     pub fn rows(&self) -> &[Row]
         ensures rows { result.now ≡ rows_below self.now.spec self.now.script (frames_ended self.now.spec self.now.places) }
         ensures noted { length result.now ≡ notes_in self.now.history / length self.now.spec.procs }
@@ -133,8 +132,8 @@ impl<'a> Core<'a> {
         self.kernel.rows()
     }
 
-    /// Returns the snapshot of a processor that has made all looks of its frame, but neither its flip nor its halt. It
-    /// holds the kernel image of that frame and every processor's image before it.
+    /// Returns the snapshot of a processor that has made all looks of its frame, but neither its flip nor its halt. The
+    /// snapshot holds the kernel image of that frame and every processor's image before it.
     pub fn snapshot(&self, p: ProcId) -> Snapshot
         requires known { p.0 < length self.now.spec.procs }
         requires looked { HasLooked (flown self.now) ((core_places self.now).proc p.0) }
@@ -148,7 +147,7 @@ impl<'a> Core<'a> {
         }
     }
 
-    /// States that some actor has a next event if the flight is not over, and does nothing.
+    /// States that some actor has a next event if the flight is not over. The call has no effect.
     pub fn goes_on(&self)
         ensures { IsOver (flown self.now) (core_places self.now) ⊎ ((event : Event) × IsNextIn self.now event) }
     {
@@ -165,8 +164,8 @@ impl<'a> Core<'a> {
         kernel_encode(&self.kernel.image())[usize::from(i)]
     }
 
-    /// Returns whether no further event can come. Then each processor has flown all frames or has halted for good and
-    /// the kernel has made its last note, or the flight has no frame.
+    /// Returns whether no further event can come. In that case the flight has no frame, or each processor has flown all
+    /// frames or has halted for good and the kernel has made its last note.
     pub fn over(&self) -> bool
         ensures { IsTrue result ↔ IsOver (flown self.now) (core_places self.now) }
     {
@@ -177,7 +176,7 @@ impl<'a> Core<'a> {
         frames == 0 || self.places.frame == frames - 1 && self.places.step >= procs
     }
 
-    /// Returns the rows and reports of a flight that is over, which are the one-thread trace whatever its schedule was.
+    /// Returns the rows and reports of a flight that is over. They are the one-thread trace, whatever the schedule was.
     pub fn finish(self) -> Flown
         requires { IsOver (flown self) (core_places self) }
         ensures rows { result.rows ≡ rows_of self.entry.spec self.entry.script }
@@ -203,9 +202,9 @@ impl<'a> Core<'a> {
         }
     }
 
-    /// Makes an event if it is the next of its actor. For a store, `word` is the word of the draft; for a store of the
-    /// kernel, it is the word of the next frame's image. Otherwise returns `Err` with the actor's next event and
-    /// changes nothing.
+    /// Makes an event if it is the next of its actor. Otherwise returns an error with the actor's next event and
+    /// changes nothing. For a store, `word` is the word of the draft. For a store of the kernel, `word` is the word of
+    /// the next frame's image.
     pub fn step(&mut self, event: Event, word: u64) -> Result<(), Illegal>
         requires { IsNextIn self.old event → IsWordIn self.old event word }
         ensures spec { self.new.spec ≡ self.old.spec }
@@ -287,7 +286,7 @@ fn is_event(next: Option<Event>, event: Event) -> bool
     next == Some(event)
 }
 
-// Returns whether an event is the last note of a frame.
+// Returns whether an event is the last note of a frame, the note of the last processor.
 fn ends_frame(spec: &Spec, event: Event) -> bool
     ensures { result ≡ ends_frame spec.now event }
 {

@@ -50,8 +50,8 @@ impl Flyers {
     }
 
     /// Returns the word for an event, which must be the next of its actor, and makes the actor do its part. A processor
-    /// drafts before the first store of a frame, once in a frame. It halts with its halt and becomes live again with
-    /// the start of its restart.
+    /// makes one draft in a frame, before its first store. It halts with its halt and becomes live again with the start
+    /// of its restart.
     pub fn word(&mut self, core: &Core, spec: &Spec, event: Event) -> u64
         requires spec { core.now.spec ≡ spec.now }
         requires next { IsNextIn core.now event }
@@ -113,7 +113,8 @@ impl Flyers {
         stored_word(&image, i)
     }
 
-    // Returns the draft of processor `p` in its current frame: the last draft if it is of that frame, else a new one.
+    // Returns the draft of processor `p` in its current frame. This is the last draft if it is of that frame, or else a
+    // new one.
     fn image(&mut self, core: &Core, spec: &Spec, p: ProcId) -> Image
         requires spec { core.now.spec ≡ spec.now }
         requires known { p.0 < length spec.now.procs }
@@ -160,7 +161,7 @@ fn stored_word(image: &Image, i: u8) -> u64
     encode(image[usize::from(i)])
 }
 
-// Returns the drafted image, or `None` if there is no draft of this frame.
+// Returns the drafted image, or `None` if there is no draft of the given frame.
 fn drafted_in(drafted: &Option<Draft>, frame: u32) -> Option<Image>
     ensures { (spec : Parts) (script : ScriptParts) (p : ℕ) → IsLastDraft spec script p drafted.now
         → IfSome result (λ image. image ≡ draft spec script p frame) }

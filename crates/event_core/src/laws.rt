@@ -1,9 +1,9 @@
-//! Theorems about histories. Each function states one by its contract and does nothing.
+//! Theorems about histories. Each function states a theorem by its contract and does nothing.
 
 ghost use Rattle.event_core.specs.Counts.{HistoriesCountFrames};
 
-/// The history gives the number of frames that have ended. The number of the kernel's frame is the number of releases,
-/// and a frame has ended for each set of notes of all processors.
+/// States that the history gives the number of frames that have ended. The number of the kernel's frame is the number
+/// of releases. A frame has ended for each full set of notes, one note of each processor.
 pub fn histories_count_frames()
     ensures { HistoriesCountFrames }
 {}

@@ -1,4 +1,4 @@
-//! The next event of an actor, by its place.
+//! The next event of an actor, given its place.
 
 ghost use Rattle.std.specs.Prelude.{◌≡◌, ◌<◌, length, option_map, Some, None, if◌then◌else◌};
 ghost use Rattle.scram_types.specs.Lookups.{proc_id};
@@ -18,7 +18,7 @@ use fail_stop::words::end_index;
 use fault_script::{halt_in, restart_of};
 use scram_types::{HaltAt, ProcId, Script, Spec};
 
-/// Returns the place of a processor, or the opening place if its number is past the last.
+/// Returns the place of a processor, or the opening place if there is no such processor in the list.
 pub(crate) fn kept_place(procs: &[Place; 8], p: ProcId) -> Place
     ensures { result ≡ kept_place procs.now p.0 }
 {
@@ -28,7 +28,7 @@ pub(crate) fn kept_place(procs: &[Place; 8], p: ProcId) -> Place
     }
 }
 
-/// Returns the next event of a processor, by the places and the words.
+/// Returns the next event of a processor, given the places and the words, or `None` if there is none.
 pub(crate) fn next_of(
     spec: &Spec,
     script: &Script,
@@ -117,7 +117,7 @@ fn next_halted(p: ProcId, frame: u32, release: u64, restart: Option<u32>) -> Opt
     }
 }
 
-/// Returns the next event of the kernel, by the places and the words.
+/// Returns the next event of the kernel, given the places and the words, or `None` if there is none.
 pub(crate) fn next_kernel(
     spec: &Spec,
     script: &Script,

@@ -1,6 +1,7 @@
 //! The places of the actors of a flight.
 
-/// The place of a processor: in a frame after a number of steps, or halted in a frame.
+/// The place of a processor. Either the processor is in a frame and has made a number of steps in it, or it has halted
+/// in a frame.
 #[derive(Clone, Copy, Debug, PartialEq, Eq)]
 pub enum Place {
     At(u32, u32),

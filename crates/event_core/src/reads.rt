@@ -55,7 +55,7 @@ pub(crate) fn image_read(spec: &Spec, stored: &[u64], frame: u32, p: usize) -> I
     image
 }
 
-/// Returns the images of the processors that a reader in a frame finds.
+/// Returns the images of all processors that a reader in a frame finds.
 pub(crate) fn images_read(spec: &Spec, stored: &[u64], frame: u32) -> [Image; 8]
     requires { length stored.now ≡ word_index_count }
     ensures words { (p : ℕ) → p < 8 → (i : ℕ) → i < 64 → slice_index_or (image_in result p) i (pos 0) ≡ word_read spec.now stored.now frame p i }
@@ -73,7 +73,7 @@ pub(crate) fn images_read(spec: &Spec, stored: &[u64], frame: u32) -> [Image; 8]
     ]
 }
 
-/// Returns the kernel image of a frame, decoded from its words, which are those of `image`.
+/// Returns the kernel image of a frame, decoded from its words. The stored words must be the words of `image`.
 pub(crate) fn kernel_read(stored: &[u64], image: &KernelImage) -> KernelImage
     requires stored { length stored.now ≡ word_index_count }
     requires held { (i : ℕ) → i < 20 → stored_in stored.now (KernelWord i) ≡ word_in (kernel_encode image.now) i }

@@ -13,7 +13,8 @@ use bank_words::{Event, mark_word};
 use fail_stop::words::{bank_index, end_index, kernel_index, mark_index};
 use scram_types::ProcId;
 
-/// Writes the word that an event stores. For a store, its value is `word`.
+/// Writes the word that an event changes, if it changes one. For a store of a processor or of the kernel, the new value
+/// is `word`.
 pub(crate) fn store(stored: &mut Vec<u64>, places: &Places, event: Event, word: u64)
     requires stored { length stored.old.items ≡ word_index_count }
     requires event { IsInside event }
@@ -57,7 +58,7 @@ pub(crate) fn frame_of(place: Place) -> u32
     }
 }
 
-// Returns the number of frames up to and including that of a place.
+// Returns the number of frames up to and including the frame of a place.
 fn frames_through(place: Place) -> u32
     requires { CanGoOn place }
     ensures { result ≡ suc (frame_of (machine_place place)) }

@@ -81,7 +81,7 @@ next_kernel m at words =
     else None))
     else None
 
--- The next event of the actor of an event.
+-- The next event of the actor of an event, or `None` if the actor has none.
 abbrev pub next_of_actor : Flight → Places → (Word → ℕ) → Event → Option Event
 next_of_actor m at words (Start p) = next_of m at words p.0
 next_of_actor m at words (Look p q) = next_of m at words p.0
@@ -211,7 +211,7 @@ same_word (EndWord p) (EndWord q) = nat_eq p q
 same_word (BankWord p b i) (BankWord q c j) = nat_eq p q && (nat_eq b c && nat_eq i j)
 same_word _ _ = false
 
--- The value of a word after a write, if there is one.
+-- The value of a word after an optional write.
 abbrev pub written : Option (Word × ℕ) → (Word → ℕ) → Word → ℕ
 written None words w = words w
 written (Some t) words w = if same_word t.0 w then t.1 else words w

@@ -3,8 +3,9 @@
 use Rattle.std.specs.Prelude.{◌≡◌, ℕ, zero, suc, ◌+◌, ◌-◌, ◌*◌, ◌<◌, ◌≤◌, min, Bool, true, false, ◌&&◌, List, get_or, Option, Some, None, if◌then◌else◌, nat_lt, nat_le, nat_eq}
 use Rattle.bank_words.specs.Marks.{mark_word}
 
--- A flight as functions: the numbers of frames, of processors and of words of an image, the processors that are up, the
--- step of a halt and the frame of a restart, start images, drafts and the kernel's words.
+-- A flight as functions. They give the numbers of frames, of processors and of words of an image, the processors that
+-- are up, the step of each halt and the frame of each restart. They also give the start images, the drafts and the
+-- kernel's words.
 pub record Flight : Type 0 where
   pub frames : ℕ
   pub procs : ℕ
@@ -39,7 +40,7 @@ abbrev pub reaches_mark : ℕ → Option ℕ → Bool
 reaches_mark width None = true
 reaches_mark width (Some s) = nat_lt width s
 
--- Whether processor `p` commits frame `f`: it is up and reaches its mark.
+-- Whether processor `p` commits frame `f`: it is up in the frame and reaches its mark.
 unfoldable pub is_committed : Flight → ℕ → ℕ → Bool
 is_committed m p f = m.up p f && reaches_mark m.width (m.halt p f)
 

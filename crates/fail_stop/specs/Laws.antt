@@ -39,8 +39,8 @@ abbrev pub OpeningKeeps : Type 0
 OpeningKeeps = (spec : Parts) (script : ScriptParts) → Fits spec script
     → Kept (flight_of spec script) opening_places (opening_words (flight_of spec script))
 
--- A list holds the words before the first event. The release is 1, or 0 if the flight has no frame, the kernel's words
--- are those of frame 0, and marks and end words are 0. Bank 0 of each processor holds its image before frame 0, and
+-- A list holds the words before the first event. The release is 1, or 0 if the flight has no frame. The kernel's words
+-- are those of frame 0, and all marks and end words are 0. Bank 0 of each processor holds its image before frame 0, and
 -- bank 1 holds zeros.
 pub record IsOpening (spec : Parts) (script : ScriptParts) (list : List ℕ) : Type 0 where
   pub long : length list ≡ word_index_count
@@ -85,8 +85,8 @@ SchedulesKeep = (spec : Parts) (script : ScriptParts) → Fits spec script → (
     → IsSchedule (flight_of spec script) (opening (flight_of spec script)) events state
     → Kept (flight_of spec script) state.at state.words × IsConsistent (flight_of spec script) state.at state.words
 
--- A processor that reads in frame `f` finds the words of that frame. The bank that it picks of `q` does not change and
--- holds the image of `q` after the first `f` frames. The kernel's words are those of frame `f`.
+-- A processor that reads in frame `f` finds the words of that frame. The bank that it picks of processor `q` does not
+-- change and holds the image of `q` after the first `f` frames. The kernel's words are those of frame `f`.
 pub record Finds (spec : Parts) (script : ScriptParts) (words : Word → ℕ) (f : ℕ) : Type 0 where
   pub picked : (q : ℕ) → q < length spec.procs → pick (words (MarkWord q)) f ≡ image_bank_after spec script q f
   pub held : (q i : ℕ) → q < length spec.procs → i < width_of spec

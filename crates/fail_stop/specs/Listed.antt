@@ -21,7 +21,7 @@ word_index_count = 1120
 abbrev pub stored_in : List ℕ → Word → ℕ
 stored_in list w = slice_index list (index_of w)
 
--- The list after a write, if there is one.
+-- The list of words after an optional write.
 abbrev pub list_after : List ℕ → Option (Word × ℕ) → List ℕ
 list_after list None = list
 list_after list (Some t) = slice_set list (index_of t.0) t.1

@@ -13,22 +13,25 @@ use Rattle.fault_family.specs.Faults.{may_come_after}
 use Rattle.fault_family.specs.Scripts.{is_within, script_of_faults}
 
 -- Whether a fault of this kind in a frame makes a difference to a script. A change does if the factor had another value
--- in the previous frame, and a halt always does. A restart does if the processor has halted at least two frames before.
+-- in the previous frame. A halt always does. A restart does if the processor has halted at least two frames before.
 abbrev pub differs_in : ScriptParts → ℕ → FaultKind → Bool
 differs_in script frame (Change factor value) = not (factor_at script factor.0 (frame - 1) == value)
 differs_in script frame (Halt proc step) = true
 differs_in script frame (Restart proc) = list_any (is_halt_before proc.0 frame) script.halts
 
--- Whether a fault may follow these: it may come after each of them, and it makes a difference to their script.
+-- Whether a fault may follow a list of faults: it may come after each of them, and it makes a difference to their
+-- script.
 abbrev pub may_follow : Parts → List Fault → Fault → Bool
 may_follow spec before fault = list_all (may_come_after fault) before && differs_in (script_of_faults spec before) fault.frame fault.kind
 
--- The scripts that begin with these faults and have `more` further faults, in order.
+-- The lists of the given faults and `more` further faults, each of which may follow the preceding ones, whose scripts
+-- keep the failure assumption, in order.
 abbrev pub extended : Parts → ℕ → List Fault → List (List Fault)
 extended spec zero before = if is_within spec (script_of_faults spec before) then before ∷ [] else []
 extended spec (suc more) before =
     flat_map (λ (fault : Fault). if may_follow spec before fault then extended spec more (before ++ fault ∷ []) else []) (candidates spec before)
 
--- The scripts with this number of faults that keep the failure assumption, in order.
+-- The family: the lists of `count` faults, each of which may follow the preceding ones, whose scripts keep the failure
+-- assumption, in order.
 abbrev pub family : Parts → ℕ → List (List Fault)
 family spec count = extended spec count []

@@ -11,7 +11,7 @@ rank (Change factor value) = 0
 rank (Halt proc step) = 1
 rank (Restart proc) = 2
 
--- The number of the factor that changes, or of the processor.
+-- The number of the factor that a fault changes, or of the processor that halts or restarts.
 abbrev pub subject : FaultKind → ℕ
 subject (Change factor value) = factor.0
 subject (Halt proc step) = proc.0
@@ -23,7 +23,8 @@ detail (Change factor value) = value
 detail (Halt proc step) = step
 detail (Restart proc) = 0
 
--- Whether a fault comes before another: by frame, then by kind, then by factor and value, or by processor and step.
+-- Whether a fault comes before another. The order is by frame, then by kind, then by factor and value, or by processor
+-- and step.
 abbrev pub precedes : Fault → Fault → Bool
 precedes fault next =
     comes_after fault.frame (rank fault.kind) next.frame (rank next.kind)
@@ -35,6 +36,6 @@ abbrev pub repeats : Fault → Fault → Bool
 repeats fault next =
     rank fault.kind == rank next.kind && subject fault.kind == subject next.kind && (not (rank fault.kind == 0) || fault.frame == next.frame)
 
--- Whether the first fault may come after the second: it follows the second in order and does not repeat it.
+-- Whether the first fault may come after the second: the first comes later in the order and does not repeat the second.
 abbrev pub may_come_after : Fault → Fault → Bool
 may_come_after next fault = precedes fault next && not (repeats fault next)

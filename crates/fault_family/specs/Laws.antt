@@ -1,4 +1,4 @@
--- The theorems about the family of fault scripts: which scripts it has, and in which order.
+-- The theorems about the family of fault scripts: its members and their order.
 use Rattle.std.specs.Prelude.{◌≡◌, ◌⊎◌, ℕ, ◌+◌, ◌<◌, ◌≤◌, true, List, [], ◌∷◌, ◌++◌, length, slice_get, Option, Some, None, ⊤}
 use Rattle.scram_types.specs.declared.specification.Factor.{Factor}
 use Rattle.scram_types.specs.Specification.{IsSpec, Parts}
@@ -15,44 +15,44 @@ use Rattle.fault_family.specs.Families.{family, may_follow}
 use Rattle.fault_family.specs.Faults.{precedes}
 use Rattle.fault_family.specs.Scripts.{script_of_faults}
 
--- A factor exists and has a value of this number.
+-- The factor exists and has a value of this number.
 pub record IsChangeKind (spec : Parts) (factor value : ℕ) : Type 0 where
   pub is : Factor
   pub there : slice_get spec.factors factor ≡ Some is
   pub below : value < length is.values
 
--- A processor exists, and the step is before all stores or after its mark.
+-- The processor exists, and the step is before all stores or after the mark.
 pub record IsHaltKind (spec : Parts) (proc step : ℕ) : Type 0 where
   pub there : proc < length spec.procs
   pub moment : (step ≡ 0) ⊎ (step ≡ words spec + 1)
 
--- A kind of fault is one of the specification's. It is a change of a factor to one of its values, a halt of a processor
--- before all stores of a frame or after its mark, or a restart of a processor.
+-- The kind of fault is one of the specification's: a change of a factor to one of its values, a halt of a processor, or
+-- a restart of a processor. The halt comes before all stores of a frame or after the mark.
 abbrev pub IsKind : Parts → FaultKind → Type 0
 IsKind spec (Change factor value) = IsChangeKind spec factor.0 value
 IsKind spec (Halt proc step) = IsHaltKind spec proc.0 step
 IsKind spec (Restart proc) = proc.0 < length spec.procs
 
--- The first fault comes in frame 1. A further fault comes after the previous fault by at most one frame more than the
--- greatest bound, or by exactly one frame more than the window.
+-- A fault may come in this frame. The first fault comes in frame 1. A further fault comes at most one frame more than
+-- the greatest bound after the previous fault, or exactly one frame more than the window after it.
 abbrev pub IsNear : Parts → Option Fault → ℕ → Type 0
 IsNear spec None frame = frame ≡ 1
 IsNear spec (Some last) frame =
     ((last.frame ≤ frame) × (frame ≤ last.frame + greatest_bound spec.bounds + 1)) ⊎ (frame ≡ last.frame + (spec.window + 1))
 
--- A fault may be the next after these: it is one of the specification's, comes in one of the frames allowed, and may
--- follow them.
+-- A fault may be the next after a list of faults: its kind is one of the specification's, its frame is one of those
+-- allowed, and it may follow the list.
 pub record IsNextFault (spec : Parts) (before : List Fault) (fault : Fault) : Type 0 where
   pub kind : IsKind spec fault.kind
   pub near : IsNear spec (last_of before) fault.frame
   pub follows : may_follow spec before fault ≡ true
 
--- Each of these faults may be the next after the preceding ones.
+-- Each fault of the second list may be the next after the faults that precede it.
 abbrev pub Follow : Parts → List Fault → List Fault → Type 0
 Follow spec before [] = ⊤
 Follow spec before (fault ∷ faults) = IsNextFault spec before fault × Follow spec (before ++ fault ∷ []) faults
 
--- These faults make a script of the family: there are `count` of them, each may follow the preceding ones, and their
+-- The faults make a script of the family. There are `count` of them, each may follow the preceding ones, and their
 -- script keeps the failure assumption.
 pub record IsMember (spec : Parts) (count : ℕ) (faults : List Fault) : Type 0 where
   pub many : length faults ≡ count
@@ -63,7 +63,7 @@ pub record IsMember (spec : Parts) (count : ℕ) (faults : List Fault) : Type 0 
 abbrev pub Contains : {A : Type 0} → List A → A → Type 0
 Contains {A} xs x = (i : ℕ) × (slice_get xs i ≡ Some x)
 
--- The family contains a list of faults exactly if it is a member.
+-- The family contains a list of faults if and only if the list is a member.
 pub record HasMembers (spec : Parts) (count : ℕ) (faults : List Fault) : Type 0 where
   pub sound : Contains (family spec count) faults → IsMember spec count faults
   pub complete : IsMember spec count faults → Contains (family spec count) faults
@@ -77,16 +77,16 @@ abbrev pub MembersFit : Type 0
 MembersFit = (spec : Parts) (count : ℕ) (faults : List Fault) → IsSpec spec → count ≤ 3 → IsMember spec count faults
     → Fits spec (script_of_faults spec faults)
 
--- A script comes before another by the first position at which their faults differ.
+-- A list of faults comes before another by the first position at which their faults differ.
 pub data ComesFirst : List Fault → List Fault → Type 0 where
   here : (fault next : Fault) (faults others : List Fault) → precedes fault next ≡ true → ComesFirst (fault ∷ faults) (next ∷ others)
   further : (fault : Fault) (faults others : List Fault) → ComesFirst faults others → ComesFirst (fault ∷ faults) (fault ∷ others)
 
--- Lists of faults are in order, so none occurs twice.
+-- The lists of faults are in order, so no list occurs twice.
 pub record AreInOrder (all : List (List Fault)) : Type 0 where
   pub ordered : EachLater ComesFirst all
   pub once : EachLater (λ (faults others : List Fault). faults ≡ others → ⊥) all
 
--- The scripts of the family of an accepted specification are in order.
+-- The members of the family of an accepted specification are in order.
 abbrev pub FamiliesAreOrdered : Type 0
 FamiliesAreOrdered = (spec : Parts) (count : ℕ) → IsSpec spec → Accepts spec → AreInOrder (family spec count)

@@ -1,4 +1,4 @@
--- The faults that may be the next of a script, in order.
+-- The faults that may come next in a script, in order.
 use Rattle.std.specs.Prelude.{ℕ, ◌+◌, List, [], ◌∷◌, ◌++◌, map, length, slice_get, flat_map, Option, Some, None}
 use Rattle.std.specs.Option.{option_map_or}
 use Rattle.scram_types.specs.declared.specification.Factor.{Factor}
@@ -12,7 +12,7 @@ use Rattle.fault_family.specs.declared.faults.Fault.{Fault}
 use Rattle.fault_family.specs.declared.faults.FaultKind.{FaultKind}
 use Rattle.fault_family.specs.declared.faults.FaultKind.TheVariants.{Change, Halt, Restart}
 
--- The numbers below n, in order.
+-- The numbers below `n`, in order.
 abbrev pub numbers_below : ℕ → List ℕ
 numbers_below n = listed_below (λ k. k) n
 
@@ -24,39 +24,39 @@ factor_value_count spec x = option_map_or (λ (factor : Factor). length factor.v
 abbrev pub factor_changes : Parts → ℕ → List FaultKind
 factor_changes spec x = listed_below (λ value. Change (factor_id x) value) (factor_value_count spec x)
 
--- The halts of processor `p`: before all stores, and after the mark.
+-- The halts of processor `p`: the halt before all stores, and the halt after the mark.
 abbrev pub proc_halts : Parts → ℕ → List FaultKind
 proc_halts spec p = Halt (proc_id p) 0 ∷ Halt (proc_id p) (words spec + 1) ∷ []
 
--- The restarts, in the order of processors.
+-- The restarts of all processors, in order.
 abbrev pub restarts_of : Parts → List FaultKind
 restarts_of spec = listed_below (λ p. Restart (proc_id p)) (length spec.procs)
 
--- The kinds of fault, in order: changes by factor, halts and restarts by processor.
+-- The kinds of fault of a specification, in order. Changes are ordered by factor, halts and restarts by processor.
 abbrev pub kinds_of : Parts → List FaultKind
 kinds_of spec =
     flat_map (factor_changes spec) (numbers_below (length spec.factors))
     ++ flat_map (proc_halts spec) (numbers_below (length spec.procs))
     ++ restarts_of spec
 
--- The numbers of frames by which a fault may come after the previous one: 0 to one more than the greatest bound, and
--- one more than the window.
+-- The numbers of frames by which a fault may come after the previous one. They are the numbers from 0 to one more than
+-- the greatest bound, and one more than the window.
 abbrev pub gaps : Parts → List ℕ
 gaps spec = numbers_below (greatest_bound spec.bounds + 2) ++ (spec.window + 1) ∷ []
 
--- The frames in which a fault may come after the last fault, or frame 1 if there is none.
+-- The frames in which a fault may come after an optional last fault. Without a last fault the only frame is frame 1.
 abbrev pub frames_behind : Parts → Option Fault → List ℕ
 frames_behind spec None = 1 ∷ []
 frames_behind spec (Some last) = map (λ gap. last.frame + gap) (gaps spec)
 
--- The frames in which a fault may come after these faults, or frame 1 if there are none.
+-- The frames in which a fault may come after a list of faults. If the list is empty, the only frame is frame 1.
 abbrev pub frames_after : Parts → List Fault → List ℕ
 frames_after spec before = frames_behind spec (last_of before)
 
--- The faults of a frame, in order.
+-- The faults in a frame, one for each kind, in order.
 abbrev pub faults_in : Parts → ℕ → List Fault
 faults_in spec frame = map (λ (kind : FaultKind). record { frame = frame; kind = kind }) (kinds_of spec)
 
--- All faults of the frames in which a fault may come after these, in order.
+-- The faults in all frames in which a fault may come after a list of faults, in order.
 abbrev pub candidates : Parts → List Fault → List Fault
 candidates spec before = flat_map (faults_in spec) (frames_after spec before)

@@ -18,7 +18,7 @@ use Rattle.frame_model.specs.Readings.{reading_of}
 use Rattle.frame_model.specs.Runs.{runs}
 use Rattle.fault_family.specs.Shifts.{mode_later, report_later}
 
--- A frame: unchanged before frame `b`, and `d` frames later from frame `b` on.
+-- A frame as moved by a longer rest: unchanged before frame `b`, and `d` frames later from frame `b` on.
 abbrev pub later_frame : ℕ → ℕ → ℕ → ℕ
 later_frame b d frame = if nat_lt frame b then frame else d + frame
 
@@ -31,8 +31,8 @@ later_from b d script = record {
   restarts = map (λ (restart : RestartAt). record { proc = restart.proc; frame = later_frame b d restart.frame }) script.restarts;
 }
 
--- A flight is at rest in configuration `c` at the beginning of frame `b`. In the previous frame the phase is to run
--- `c`, the row runs `c` and is read as running `c`, the table chooses `c` again, and no processor halts.
+-- A flight is at rest in configuration `c` at the start of frame `b`. In the previous frame the phase is to run `c`,
+-- the row runs `c` and is read as running `c`, the table chooses `c` again, and no processor halts.
 pub record IsAtRest (spec : Parts) (script : ScriptParts) (b : ℕ) (c : ConfId) : Type 0 where
   pub first : 1 ≤ b
   pub inside : b ≤ script.frames
@@ -42,22 +42,22 @@ pub record IsAtRest (spec : Parts) (script : ScriptParts) (b : ℕ) (c : ConfId)
   pub chosen : choose spec c (env_at spec script (b - 1)) ≡ c
   pub quiet : Each (λ (halt : HaltAt). halt.frame ≢ b - 1) script.halts
 
--- The reconfigurations of the second flight are those of the first, some unchanged and the remaining ones `d` frames
--- later.
+-- The second flight has the reconfigurations of the first flight. Some are unchanged, and all that follow come `d`
+-- frames later.
 pub record GoOnLater (d : ℕ) (one other : List Report) : Type 0 where
   pub before : List Report
   pub after : List Report
   pub parts : one ≡ before ++ after
   pub later : other ≡ before ++ map (report_later d) after
 
--- The flight of `later` equals that of `script` up to frame `b` and then continues `d` frames later.
+-- The flight of `later` equals the flight of `script` before frame `b`, and then continues `d` frames later.
 pub record HasFlightFrom (spec : Parts) (b d : ℕ) (script later : ScriptParts) : Type 0 where
   pub rows : (f : ℕ) → f < b → row_at spec later f ≡ row_at spec script f
   pub acts : (f : ℕ) → b ≤ f → (row_at spec later (d + f)).acts ≡ (row_at spec script f).acts
   pub modes : (f : ℕ) → b ≤ f → (row_at spec later (d + f)).mode ≡ mode_later d (row_at spec script f).mode
   pub reports : GoOnLater d (reports_of spec script) (reports_of spec later)
 
--- The length of a rest does not matter: if a flight is at rest, what follows may come later.
+-- The length of a rest does not matter: if a flight is at rest, everything that follows may come later.
 abbrev pub RestsMayBeLonger : Type 0
 RestsMayBeLonger = (spec : Parts) (b d : ℕ) (c : ConfId) (script : ScriptParts) → IsAtRest spec script b c
     → HasFlightFrom spec b d script (later_from b d script)

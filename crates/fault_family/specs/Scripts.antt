@@ -13,37 +13,37 @@ use Rattle.fault_family.specs.declared.faults.Fault.{Fault}
 use Rattle.fault_family.specs.declared.faults.FaultKind.{FaultKind}
 use Rattle.fault_family.specs.declared.faults.FaultKind.TheVariants as kind
 
--- The change in a frame that a kind of fault makes, or `None` if it is no change.
+-- The change that a kind of fault makes in a frame, or `None` if the kind is not a change.
 abbrev pub change_fault_in : ℕ → FaultKind → Option Change
 change_fault_in frame (kind.Change factor value) = Some (record { frame = frame; factor = factor; value = value })
 change_fault_in frame (kind.Halt proc step) = None
 change_fault_in frame (kind.Restart proc) = None
 
--- The halt in a frame that a kind of fault makes, or `None` if it is no halt.
+-- The halt that a kind of fault makes in a frame, or `None` if the kind is not a halt.
 abbrev pub halt_fault_in : ℕ → FaultKind → Option HaltAt
 halt_fault_in frame (kind.Change factor value) = None
 halt_fault_in frame (kind.Halt proc step) = Some (record { proc = proc; frame = frame; step = step })
 halt_fault_in frame (kind.Restart proc) = None
 
--- The restart in a frame that a kind of fault makes, or `None` if it is no restart.
+-- The restart that a kind of fault makes in a frame, or `None` if the kind is not a restart.
 abbrev pub restart_fault_in : ℕ → FaultKind → Option RestartAt
 restart_fault_in frame (kind.Change factor value) = None
 restart_fault_in frame (kind.Halt proc step) = None
 restart_fault_in frame (kind.Restart proc) = Some (record { proc = proc; frame = frame })
 
--- A fault as a change, or `None` if it is no change.
+-- A fault as a change, or `None` if the fault is not a change.
 abbrev pub change_of_fault : Fault → Option Change
 change_of_fault fault = change_fault_in fault.frame fault.kind
 
--- A fault as a halt, or `None` if it is no halt.
+-- A fault as a halt, or `None` if the fault is not a halt.
 abbrev pub halt_of_fault : Fault → Option HaltAt
 halt_of_fault fault = halt_fault_in fault.frame fault.kind
 
--- A fault as a restart, or `None` if it is no restart.
+-- A fault as a restart, or `None` if the fault is not a restart.
 abbrev pub restart_of_fault : Fault → Option RestartAt
 restart_of_fault fault = restart_fault_in fault.frame fault.kind
 
--- The script with this number of frames and these faults.
+-- The script with a given number of frames and given faults.
 abbrev pub faults_in_frames : ℕ → List Fault → ScriptParts
 faults_in_frames frames faults = record {
   frames = frames;
@@ -52,15 +52,16 @@ faults_in_frames frames faults = record {
   restarts = filter_map restart_of_fault faults;
 }
 
--- The frame of the last fault, or 0 if there is none.
+-- The frame of the last fault of a list, or 0 if the list is empty.
 abbrev pub last_fault_frame : List Fault → ℕ
 last_fault_frame faults = option_map_or (λ (fault : Fault). fault.frame) (last_of faults) 0
 
--- The number of frames of the script of these faults: the frame of the last fault plus the greatest bound plus three.
+-- The number of frames of the script of a list of faults: the frame of the last fault plus the greatest bound plus
+-- three.
 abbrev pub frames_of_faults : Parts → List Fault → ℕ
 frames_of_faults spec faults = last_fault_frame faults + greatest_bound spec.bounds + 3
 
--- The script of these faults.
+-- The script of a list of faults.
 abbrev pub script_of_faults : Parts → List Fault → ScriptParts
 script_of_faults spec faults = faults_in_frames (frames_of_faults spec faults) faults
 

@@ -1,4 +1,4 @@
--- The halts that the scripts of the family represent: halts after any other step.
+-- The halts that the scripts of the family represent, which come after any step.
 use Rattle.std.specs.Prelude.{◌≡◌, ℕ, ◌+◌, nat_le, map, if◌then◌else◌}
 use Rattle.scram_types.specs.declared.scripts.HaltAt.{HaltAt}
 use Rattle.scram_types.specs.Scripts.{ScriptParts}
@@ -6,8 +6,8 @@ use Rattle.scram_types.specs.Specification.{Parts}
 use Rattle.fault_script.specs.Times.{words}
 use Rattle.frame_model.specs.Flights.{reports_of, rows_of}
 
--- The step that represents the step of a halt: before all stores if the halt comes before the mark, else after the
--- mark.
+-- The step that represents the step of a halt: the step before all stores if the halt comes before the mark, or else
+-- the step after the mark.
 abbrev pub listed_step : Parts → ℕ → ℕ
 listed_step spec step = if nat_le step (words spec) then 0 else words spec + 1
 

@@ -128,7 +128,7 @@ fn words(spec: &Spec) -> u8
     8 * spec.apps.items().len() as u8
 }
 
-/// Returns the number of faults in the frames in which a fault may come after these.
+/// Returns the number of faults in all frames in which a fault may come after the faults `before`.
 pub fn candidate_count(spec: &Spec, kinds: &[FaultKind], before: &[Fault]) -> u32
     requires kinds { kinds.now ≡ kinds_of spec.now }
     requires few { length kinds.now ≤ 48 }
@@ -137,7 +137,7 @@ pub fn candidate_count(spec: &Spec, kinds: &[FaultKind], before: &[Fault]) -> u3
     frame_count(spec, before) * kinds.len() as u32
 }
 
-/// Returns fault `k` of all faults in the frames in which a fault may come after these.
+/// Returns fault `k` of the faults in all frames in which a fault may come after the faults `before`.
 pub fn candidate(spec: &Spec, kinds: &[FaultKind], before: &[Fault], k: u32) -> Fault
     requires kinds { kinds.now ≡ kinds_of spec.now }
     requires few { length kinds.now ≤ 48 }
@@ -153,7 +153,7 @@ pub fn candidate(spec: &Spec, kinds: &[FaultKind], before: &[Fault], k: u32) -> 
     }
 }
 
-// Returns the number of frames in which a fault may come after these.
+// Returns the number of frames in which a fault may come after the faults `before`.
 fn frame_count(spec: &Spec, before: &[Fault]) -> u32
     ensures value { result ≡ length (frames_after spec.now before.now) }
     ensures few { result ≤ 1003 }
@@ -164,7 +164,7 @@ fn frame_count(spec: &Spec, before: &[Fault]) -> u32
     }
 }
 
-// Returns frame `i` of the frames in which a fault may come after these.
+// Returns frame `i` of the frames in which a fault may come after the faults `before`.
 fn frame_after(spec: &Spec, before: &[Fault], i: u32) -> u32
     requires i { i < length (frames_after spec.now before.now) }
     requires before { last_fault_frame before.now ≤ 4000 }
@@ -177,7 +177,7 @@ fn frame_after(spec: &Spec, before: &[Fault], i: u32) -> u32
     }
 }
 
-// Returns gap `i`, in frames.
+// Returns entry `i` of the gaps by which a fault may come after the previous one, in frames.
 fn gap(spec: &Spec, i: u32) -> u32
     requires { i < greatest_bound spec.now.bounds + 3 }
     ensures value { slice_get (gaps spec.now) i ≡ Some result }
@@ -190,11 +190,12 @@ fn gap(spec: &Spec, i: u32) -> u32
     }
 }
 
-/// Returns whether a fault may follow these: it may come after each of them, and it makes a difference to their script.
+/// Returns whether a fault may follow the faults `before`: it may come after each of them, and it makes a difference to
+/// their script.
 pub fn may_follow(spec: &Spec, before: &[Fault], fault: &Fault) -> bool
     ensures { result ≡ may_follow spec.now before.now fault.now }
 {
-    // Using a field of a specification shows that it keeps its invariant.
+    // Using a field of the specification shows that the specification keeps its invariant.
     let _ = &spec.procs;
     may_come_after_all(before, fault) && differs_in(before, fault)
 }

@@ -13,7 +13,7 @@ pub const MAX_FAULTS: usize = 3;
 /// A kind of fault.
 #[derive(Clone, Copy, Debug, PartialEq, Eq)]
 pub enum FaultKind {
-    /// A change of a factor to a value, given by its number among the factor's values.
+    /// A change of a factor to a value, which is given by its index among the factor's values.
     Change { factor: FactorId, value: u8 },
     /// A halt of a processor after `step` stores, or after its mark.
     Halt { proc: ProcId, step: u8 },
@@ -92,7 +92,7 @@ fn rank(kind: &FaultKind) -> u8
     }
 }
 
-// Returns the number of the factor or of the processor.
+// Returns the number of the factor that changes, or of the processor that halts or restarts.
 fn subject(kind: &FaultKind) -> u8
     ensures { result ≡ subject kind.now }
 {
@@ -103,7 +103,7 @@ fn subject(kind: &FaultKind) -> u8
     }
 }
 
-// Returns the number of the value or the step, or 0 for a restart.
+// Returns the number of the value to which a factor changes, the step of a halt, or 0 for a restart.
 fn detail(kind: &FaultKind) -> u8
     ensures { result ≡ detail kind.now }
 {
@@ -120,8 +120,9 @@ fn comes_after(last: u32, last_number: u8, next: u32, number: u8) -> bool
     last < next || last == next && last_number < number
 }
 
-/// Returns whether a fault comes before another. The order is by frame, then changes before halts before restarts, then
-/// by the numbers of the factor and of the value, or by the processor and the step.
+/// Returns whether a fault comes before another. The order is by frame, then by kind: changes before halts before
+/// restarts. Faults of one kind in one frame are ordered by the numbers of the factor and of the value, or by the
+/// processor and the step.
 pub fn precedes(fault: &Fault, next: &Fault) -> bool
     ensures { result ≡ precedes fault.now next.now }
 {
@@ -136,8 +137,8 @@ pub fn precedes(fault: &Fault, next: &Fault) -> bool
             )
 }
 
-/// Returns whether two faults are of a class that may come only once: changes of one factor in one frame, halts of one
-/// processor, or restarts of one processor.
+/// Returns whether two faults are of a class that may come only once. The classes are the changes of one factor in one
+/// frame, the halts of one processor, and the restarts of one processor.
 pub fn repeats(fault: &Fault, next: &Fault) -> bool
     ensures { result ≡ repeats fault.now next.now }
 {

@@ -23,8 +23,8 @@ impl<'a> FaultScript<'a> {
     ghost use Rattle.std.specs.Prelude.{◌≡◌, ◌≤◌};
     ghost use Rattle.fault_family.specs.Scripts.{frames_of_faults, last_fault_frame};
 
-    /// Returns the script of these faults. Its number of frames is the frame of the last fault plus the greatest bound
-    /// plus three.
+    /// Returns the script of a list of faults. Its number of frames is the frame of the last fault plus the greatest
+    /// bound plus three.
     pub fn new(spec: &Spec, faults: &'a [Fault]) -> FaultScript<'a>
         requires { last_fault_frame faults.now ≤ 4000 }
         ensures frames { result.frames ≡ frames_of_faults spec.now faults.now }
@@ -38,7 +38,7 @@ impl<'a> FaultScript<'a> {
     }
 }
 
-/// Returns a fault as a change, or `None` if it is no change.
+/// Returns a fault as a change, or `None` if the fault is not a change.
 pub fn change_of_fault(fault: &Fault) -> Option<Change>
     ensures { result ≡ change_of_fault fault.now }
 {
@@ -52,7 +52,7 @@ pub fn change_of_fault(fault: &Fault) -> Option<Change>
     }
 }
 
-/// Returns a fault as a halt, or `None` if it is no halt.
+/// Returns a fault as a halt, or `None` if the fault is not a halt.
 pub fn halt_of_fault(fault: &Fault) -> Option<HaltAt>
     ensures { result ≡ halt_of_fault fault.now }
 {
@@ -66,7 +66,7 @@ pub fn halt_of_fault(fault: &Fault) -> Option<HaltAt>
     }
 }
 
-/// Returns a fault as a restart, or `None` if it is no restart.
+/// Returns a fault as a restart, or `None` if the fault is not a restart.
 pub fn restart_of_fault(fault: &Fault) -> Option<RestartAt>
     ensures { result ≡ restart_of_fault fault.now }
 {
@@ -79,7 +79,7 @@ pub fn restart_of_fault(fault: &Fault) -> Option<RestartAt>
     }
 }
 
-/// Returns the frame of the last fault, or 0 if there is none.
+/// Returns the frame of the last fault of a list, or 0 if the list is empty.
 pub fn last_fault_frame(faults: &[Fault]) -> u32
     ensures { result ≡ last_fault_frame faults.now }
 {
@@ -94,12 +94,12 @@ pub fn greatest(spec: &Spec) -> u32
     ensures value { result ≡ greatest_bound spec.now.bounds }
     ensures few { result ≤ 1000 }
 {
-    // Using a field of a specification shows that it keeps its invariant.
+    // Using a field of the specification shows that the specification keeps its invariant.
     let _ = &spec.bounds;
     greatest_bound(spec)
 }
 
-/// Returns the value of a factor in a frame.
+/// Returns the value of a factor in a frame of the script of these faults.
 pub fn value_at(faults: &[Fault], factor: FactorId, frame: u32) -> u8
     ensures { result ≡ value_after (filter_map change_of_fault faults.now) factor.0 frame 0 }
 {
@@ -130,7 +130,7 @@ pub fn is_up(script: &FaultScript<'_>, p: u8, frame: u32) -> bool
     are_halts_over(script, p, frame)
 }
 
-// Returns whether a processor has restarted since each of its halts in frames before this one.
+// Returns whether a processor has restarted since each of its halts in the frames before a frame.
 fn are_halts_over(script: &FaultScript<'_>, p: u8, frame: u32) -> bool
     ensures { result ≡ list_all (is_over (faults_in_frames script.now.frames script.now.faults.now) p frame) (filter_map halt_of_fault script.now.faults.now) }
 {
@@ -142,8 +142,8 @@ fn are_halts_over(script: &FaultScript<'_>, p: u8, frame: u32) -> bool
     true
 }
 
-// Returns whether a fault leaves a processor up in a frame: it is not a halt of the processor before the frame, or the
-// processor has restarted since.
+// Returns whether a fault leaves a processor up in a frame. It does if it is not a halt of the processor before the
+// frame, or if the processor has restarted since.
 fn is_over(script: &FaultScript<'_>, fault: &Fault, p: u8, frame: u32) -> bool
     ensures { result ≡ list_all (is_over (faults_in_frames script.now.frames script.now.faults.now) p frame) (filter_map halt_of_fault (fault.now ∷ [])) }
 {

@@ -1,4 +1,4 @@
-//! The test whether the script of a list of faults keeps the failure assumption.
+//! The check whether the script of a list of faults keeps the failure assumption.
 
 ghost use Rattle.std.specs.Prelude.{◌≡◌, ◌+◌, ◌-◌, ◌≤◌, is_some, length, not};
 ghost use Rattle.scram_types.specs.Bits.{bits_below};
@@ -28,8 +28,8 @@ pub fn is_within(spec: &Spec, script: &FaultScript<'_>) -> bool
     true
 }
 
-// The number of frames up to a frame that change the environment, and the number of those before the window that ends
-// with the frame.
+// The number of frames up to a frame that change the environment, and the number of such frames before the window that
+// ends with the frame.
 #[derive(Clone, Copy)]
 struct Counts {
     upto: u32,
@@ -66,7 +66,7 @@ fn count_with(spec: &Spec, script: &FaultScript<'_>, count: u32, frame: u32) -> 
     }
 }
 
-// Returns whether the script violates the assumption in a frame.
+// Returns whether the script violates the failure assumption in a frame.
 fn is_outside_at(spec: &Spec, script: &FaultScript<'_>, counts: &Counts, frame: u32) -> bool
     requires few { script.now.frames ≤ 5003 }
     requires frame { frame ≤ script.now.frames }
@@ -76,7 +76,7 @@ fn is_outside_at(spec: &Spec, script: &FaultScript<'_>, counts: &Counts, frame: 
     brings_too_many_down(spec, script, frame) || is_change_too_many(spec, script, counts, frame)
 }
 
-// Returns whether a frame is a change that exceeds the limit of the window that ends with it.
+// Returns whether a frame changes the environment and thereby exceeds the limit of the window that ends with the frame.
 fn is_change_too_many(spec: &Spec, script: &FaultScript<'_>, counts: &Counts, frame: u32) -> bool
     requires counts { AreChangeFrameCounts spec.now (faults_in_frames script.now.frames script.now.faults.now) frame counts.now }
     ensures { result ≡ is_change_too_many spec.now (faults_in_frames script.now.frames script.now.faults.now) frame }
@@ -148,7 +148,7 @@ fn has_too_many_down(spec: &Spec, script: &FaultScript<'_>, frame: u32) -> bool
     spec.halts < count_down(script, spec.procs.items().len() as u8, frame)
 }
 
-// Returns the number of the first `processors` processors that are down in a frame.
+// Returns how many of the first `processors` processors are down in a frame.
 fn count_down(script: &FaultScript<'_>, processors: u8, frame: u32) -> u8
     ensures value { result ≡ down_below (faults_in_frames script.now.frames script.now.faults.now) frame processors }
     ensures most { result ≤ processors }

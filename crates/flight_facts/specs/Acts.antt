@@ -1,4 +1,4 @@
--- Acts of applications, without the frames of a phase.
+-- Acts of applications, reduced to their first word, their mode and their processor.
 use Rattle.std.specs.Prelude.{ℕ, ◌==◌, List, slice_index_or, Option, Some, None, codes}
 use Rattle.std.specs.List.{count_by}
 use Rattle.scram_types.specs.declared.rows.Row.{Row}
@@ -8,7 +8,7 @@ use Rattle.scram_types.specs.declared.orders.Act.TheVariants as act
 use Rattle.flight_facts.specs.declared.acts.ActWord.{ActWord}
 use Rattle.flight_facts.specs.declared.acts.ActWord.TheVariants.{Ran, Halting, Preparing, Initialising, Held, Off, Lost}
 
--- The act of application a in a row.
+-- The act of application `a` in a row, or `Off` if there is no such application.
 abbrev pub act_of : Row → ℕ → Act
 act_of row a = slice_index_or row.acts a act.Off
 
@@ -22,7 +22,7 @@ act_word (act.Initialising k n proc) = Initialising
 act_word act.Off = Off
 act_word act.Lost = Lost
 
--- The word as a trace spells it.
+-- The text of a word, as a trace spells it.
 abbrev pub word_text : ActWord → List ℕ
 word_text Ran = codes "ran"
 word_text Halting = codes "halting"
@@ -32,7 +32,7 @@ word_text Held = codes "held"
 word_text Off = codes "off"
 word_text Lost = codes "lost"
 
--- The number of the word, which differs for each word.
+-- The number of a word. No two words have the same number.
 abbrev pub word_number : ActWord → ℕ
 word_number Ran = 0
 word_number Halting = 1
@@ -42,7 +42,7 @@ word_number Held = 4
 word_number Off = 5
 word_number Lost = 6
 
--- The mode in which an application ran, or 0, off, if it did not run.
+-- The mode in which an application ran, or 0, which is off, if it did not run.
 abbrev pub mode_of_act : Act → ℕ
 mode_of_act (act.Ran mode proc) = mode.0
 mode_of_act (act.Halting k n proc) = 0
@@ -52,7 +52,7 @@ mode_of_act (act.Initialising k n proc) = 0
 mode_of_act act.Off = 0
 mode_of_act act.Lost = 0
 
--- The processor that an act names, or nothing if it names none.
+-- The processor that an act names, or none.
 abbrev pub proc_of_act : Act → Option ProcId
 proc_of_act (act.Ran mode proc) = Some proc
 proc_of_act (act.Halting k n proc) = Some proc
@@ -62,6 +62,6 @@ proc_of_act (act.Initialising k n proc) = Some proc
 proc_of_act act.Off = None
 proc_of_act act.Lost = None
 
--- The number of rows in which the first word of application a's act is this one.
+-- The number of rows in which the first word of the act of application `a` is a given word.
 abbrev pub count_acts : ActWord → ℕ → List Row → ℕ
 count_acts what a rows = count_by (λ (row : Row). word_number (act_word (act_of row a)) == word_number what) rows

@@ -1,4 +1,4 @@
--- The decision of a reconfiguration: its row and its cause.
+-- The decision of a reconfiguration: the row in which it is decided, and its cause.
 use Rattle.std.specs.Prelude.{ℕ, ◌+◌, ◌==◌, ◌&&◌, Bool, true, false, List, slice_get, codes, Option, Some, None, is_some, option_and_then, if◌then◌else◌}
 use Rattle.std.specs.Option.{option_map_or}
 use Rattle.scram_types.specs.Lookups.{env_before, env_in}
@@ -10,37 +10,38 @@ use Rattle.scram_types.specs.declared.orders.KMode.{KMode}
 use Rattle.scram_types.specs.declared.orders.KMode.TheVariants.{Stable, Moving}
 use Rattle.flight_facts.specs.Differences.{difference_text, have_changed}
 
--- A reconfiguration is under way.
+-- Whether a reconfiguration is under way.
 abbrev pub is_under_way : KMode → Bool
 is_under_way (Stable c) = false
 is_under_way (Moving from halting to since) = true
 
 -- The row in which the reconfiguration that begins in row `begin` is decided. It is row `begin` if a reconfiguration is
--- under way in it. Otherwise something was lost in row `begin`, and it is the next row.
+-- under way in that row. Otherwise something was lost in row `begin`, and the deciding row is the next row.
 abbrev pub decided_in : List Row → ℕ → ℕ
 decided_in rows begin = if option_map_or (λ (row : Row). is_under_way row.mode) (slice_get rows begin) false then begin else begin + 1
 
--- Two environments exist and differ.
+-- Whether two environments are both present and differ.
 abbrev pub differ : Parts → Option Env → Option Env → Bool
 differ spec None after = false
 differ spec (Some before) None = false
 differ spec (Some before) (Some after) = have_changed spec before after
 
--- The difference between two environments, or `-` if one is missing.
+-- The text of the difference between two optional environments, or `-` if one is missing.
 abbrev pub difference_or_dash : Parts → Option Env → Option Env → List ℕ
 difference_or_dash spec None after = codes "-"
 difference_or_dash spec (Some before) None = codes "-"
 difference_or_dash spec (Some before) (Some after) = difference_text spec before after
 
--- The row in which the reconfiguration `earlier` is decided, or nothing if it did not end in the row preceding `begin`.
+-- The row in which the reconfiguration `earlier` is decided. None if there is no such reconfiguration, if it is
+-- unfinished, or if it did not end in the row preceding `begin`.
 abbrev pub put_off_in : List Row → Option Report → ℕ → Option ℕ
 put_off_in rows None begin = None
 put_off_in rows (Some earlier) begin =
     if is_some earlier.to && (earlier.end + 1 == begin) then Some (decided_in rows earlier.begin) else None
 
--- The cause of a reconfiguration: what changed in the row in which it is decided. If nothing did, a change may have
--- been put off during the preceding reconfiguration `earlier`. Then the cause is what changed since `earlier` was
--- decided.
+-- The cause of a reconfiguration: the change in the row in which it is decided. If nothing changed there, a change may
+-- have been put off during the preceding reconfiguration `earlier`. Then the cause is the change since `earlier` was
+-- decided, or `-` if there is no such change.
 abbrev pub cause_text : Parts → List Row → Option Report → ℕ → List ℕ
 cause_text spec rows earlier begin =
     if differ spec (env_before spec rows (decided_in rows begin)) (env_in rows (decided_in rows begin))

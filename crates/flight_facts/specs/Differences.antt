@@ -7,29 +7,30 @@ use Rattle.scram_types.specs.declared.specification.Factor.{Factor}
 use Rattle.scram_types.specs.declared.specification.Proc.{Proc}
 use Rattle.trace_text.specs.Names.{further_joined, joined}
 
--- A factor with its new value.
+-- The text of a factor's change: the factor's name, `=` and the new value.
 abbrev pub value_change : Factor → ℕ → List ℕ
 value_change factor value = factor.name ++ codes "=" ++ value_name factor value
 
--- Each factor whose value differs, with its value in `after`, where `i` is the number of the first factor.
+-- The factors whose values differ, each with its value in `after`. `i` is the index of the first factor.
 abbrev pub values_changed : List Factor → ℕ → List ℕ → List ℕ → List (List ℕ)
 values_changed [] i before after = []
 values_changed (factor ∷ factors) i before after =
     if slice_index before i == slice_index after i then values_changed factors (i + 1) before after
     else value_change factor (slice_index after i) ∷ values_changed factors (i + 1) before after
 
--- A processor with its new state, which is the lowest bit of `up`.
+-- The text of a processor's change: `+` if the lowest bit of `up` is 1, or else `-`, and the processor's name.
 abbrev pub proc_change : Proc → ℕ → List ℕ
 proc_change proc up = (if up % 2 == 1 then codes "+" else codes "-") ++ proc.name
 
--- Each processor whose state differs, with its state in `after`. The lowest bit of both sets is the first processor's.
+-- The processors whose states differ, each with its state in `after`. The lowest bit of both sets is the state of the
+-- first processor.
 abbrev pub procs_changed : List Proc → ℕ → ℕ → List (List ℕ)
 procs_changed [] before after = []
 procs_changed (proc ∷ procs) before after =
     if before % 2 == after % 2 then procs_changed procs (before / 2) (after / 2)
     else proc_change proc after ∷ procs_changed procs (before / 2) (after / 2)
 
--- The differences between two environments, in order: factors, then processors.
+-- The differences between two environments, in order: first the factors, then the processors.
 abbrev pub differences : Parts → Env → Env → List (List ℕ)
 differences spec before after = values_changed spec.factors 0 before.factors after.factors ++ procs_changed spec.procs before.up after.up
 
@@ -37,20 +38,20 @@ differences spec before after = values_changed spec.factors 0 before.factors aft
 abbrev pub difference_text : Parts → Env → Env → List ℕ
 difference_text spec before after = joined (differences spec before after)
 
--- The list is not empty.
+-- Whether a list of texts is not empty.
 abbrev pub is_any : List (List ℕ) → Bool
 is_any [] = false
 is_any (text ∷ texts) = true
 
--- Two environments differ.
+-- Whether two environments differ.
 abbrev pub have_changed : Parts → Env → Env → Bool
 have_changed spec before after = is_any (differences spec before after)
 
--- The texts joined by commas, or the empty text if there are none.
+-- The texts of a list joined by commas, or the empty text if the list is empty.
 abbrev pub comma_joined : List (List ℕ) → List ℕ
 comma_joined [] = []
 comma_joined (text ∷ texts) = text ++ further_joined texts
 
--- The texts joined by commas, with a comma before the first if other texts precede them.
+-- The texts of a list joined by commas, with a comma before the first if the flag says that other texts precede them.
 abbrev pub comma_joined_after : Bool → List (List ℕ) → List ℕ
 comma_joined_after others texts = if others then further_joined texts else comma_joined texts

@@ -8,23 +8,23 @@ use Rattle.flight_facts.specs.declared.extremes.Extremes.{Extremes}
 use Rattle.flight_facts.specs.declared.extremes.Quantity.{Quantity}
 use Rattle.flight_facts.specs.declared.extremes.Quantity.TheVariants.{Altitude, Climb, Heading, Bank}
 
--- A quantity of the aircraft.
+-- The value of a quantity of the aircraft.
 abbrev pub quantity_of : Quantity → World → ℤ
 quantity_of Altitude world = world.alt
 quantity_of Climb world = world.climb
 quantity_of Heading world = world.heading
 quantity_of Bank world = world.bank
 
--- The extremes after adding a number.
+-- The extremes after a number is added. Without previous extremes, both are the number.
 abbrev pub widened : ℤ → Option Extremes → Extremes
 widened number None = record { least = number; greatest = number }
 widened number (Some so_far) = record { least = int_min number so_far.least; greatest = int_max number so_far.greatest }
 
--- The minimum and the maximum over all rows, or nothing if there are no rows.
+-- The minimum and the maximum of a quantity over all rows, or none if there are no rows.
 abbrev pub extremes_of : Quantity → List Row → Option Extremes
 extremes_of quantity [] = None
 extremes_of quantity (row ∷ rows) = Some (widened (quantity_of quantity row.world) (extremes_of quantity rows))
 
--- The text of the range from the minimum to the maximum.
+-- The text of the extremes: the minimum, `to` and the maximum.
 abbrev pub extremes_text : Extremes → List ℕ
 extremes_text extremes = signed_decimal extremes.least ++ codes " to " ++ signed_decimal extremes.greatest

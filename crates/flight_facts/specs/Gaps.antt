@@ -6,7 +6,7 @@ use Rattle.flight_facts.specs.declared.acts.ActWord.{ActWord}
 use Rattle.flight_facts.specs.declared.acts.ActWord.TheVariants.{Ran, Halting, Preparing, Initialising, Held, Off, Lost}
 use Rattle.flight_facts.specs.declared.gaps.Gap.{Gap}
 
--- The application neither ran nor was off.
+-- Whether a first word says that an application neither ran nor was off.
 abbrev pub is_missing : ActWord → Bool
 is_missing Ran = false
 is_missing Halting = true
@@ -16,28 +16,29 @@ is_missing Held = true
 is_missing Off = false
 is_missing Lost = true
 
--- The number of consecutive rows, from the first on, in which application a is missing.
+-- The number of consecutive rows, from the first on, in which application `a` is missing.
 abbrev pub missing_rows : ℕ → List Row → ℕ
 missing_rows a [] = 0
 missing_rows a (row ∷ rows) = if is_missing (act_word (act_of row a)) then missing_rows a rows + 1 else 0
 
--- The gap of this number of rows, the first of which is row k, or nothing if the number is 0.
+-- The gap of a number of rows that begins with row `k`, or none if the number is 0.
 abbrev pub gap_of : ℕ → ℕ → Option Gap
 gap_of k zero = None
 gap_of k (suc n) = Some (record { frames = suc n; at = k })
 
--- The longer of two gaps, or the first if they have the same length.
+-- The longer of two optional gaps, or the first if they have the same length.
 abbrev pub longer : Option Gap → Option Gap → Option Gap
 longer None later = later
 longer (Some gap) None = Some gap
 longer (Some gap) (Some later) = if nat_lt gap.frames later.frames then Some later else Some gap
 
--- The longest gap of application a, the first if there are several, where `k` is the number of the first row.
+-- The longest gap of application `a`, or none. Of several longest gaps it is the first. `k` is the number of the first
+-- row.
 abbrev pub longest_gap : ℕ → ℕ → List Row → Option Gap
 longest_gap a k [] = None
 longest_gap a k (row ∷ rows) = longer (gap_of k (missing_rows a (row ∷ rows))) (longest_gap a (k + 1) rows)
 
--- The number of frames of a gap and its first frame.
+-- The text of a gap: its number of frames and its first frame, or 0 and `-` if there is no gap.
 abbrev pub gap_text : Option Gap → List ℕ
 gap_text None = codes " gap 0 at -"
 gap_text (Some gap) = codes " gap " ++ decimal gap.frames ++ codes " at " ++ decimal gap.at

@@ -10,15 +10,16 @@ abbrev pub bound_to : Parts → ConfId → Option ConfId → Option ℕ
 bound_to spec from None = greatest_bound_in spec.bounds from.0
 bound_to spec from (Some to) = bound_in spec.bounds from.0 to.0
 
--- The bound on a reconfiguration.
+-- The bound on a reconfiguration, or the greatest bound from its source if the reconfiguration is unfinished.
 abbrev pub bound_of : Parts → Report → Option ℕ
 bound_of spec report = bound_to spec report.from report.to
 
--- The bound minus the frames taken, negative if there were more frames, or `-` if there is no bound.
+-- The text of a bound minus the number of frames taken, or `-` if there is no bound. The difference is negative if more
+-- frames were taken.
 abbrev pub margin_text : Option ℕ → ℕ → List ℕ
 margin_text None took = codes "-"
 margin_text (Some bound) took = signed_decimal (pos bound -ℤ pos took)
 
--- The margin of a reconfiguration.
+-- The text of the margin of a reconfiguration.
 abbrev pub margin_of : Parts → Report → List ℕ
 margin_of spec report = margin_text (bound_of spec report) (report.end - report.begin)

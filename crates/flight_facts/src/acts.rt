@@ -1,4 +1,4 @@
-//! Acts of applications, without the frames of a phase.
+//! Acts of applications, reduced to their first word, their mode and their processor.
 
 ghost use Rattle.std.specs.Prelude.{◌≡◌, ◌<◌, ◌≤◌, ◌^◌, length};
 ghost use Rattle.flight_facts.specs.Acts.{act_word, count_acts, mode_of_act, proc_of_act, word_number, word_text};
@@ -33,7 +33,7 @@ pub fn act_word(act: &Act) -> ActWord
 }
 
 impl ActWord {
-    /// Returns the word as a trace spells it, at most 12 bytes.
+    /// Returns the text of the word, as a trace spells it. It has at most 12 bytes.
     pub fn text(self) -> &'static str
         ensures text { result.now ≡ word_text self }
         ensures short { length result.now ≤ 12 }
@@ -49,7 +49,7 @@ impl ActWord {
         }
     }
 
-    /// Returns the number of the word, 0 to 6, which differs for each word.
+    /// Returns the number of the word, 0 to 6. No two words have the same number.
     pub fn number(self) -> u8
         ensures number { result ≡ word_number self }
         ensures below { result < 7 }
@@ -66,7 +66,7 @@ impl ActWord {
     }
 }
 
-/// Returns the mode in which an application ran, or mode 0, off, if it did not run.
+/// Returns the mode in which an application ran, or mode 0, which is off, if it did not run.
 pub fn mode_of_act(act: &Act) -> Mode
     ensures { result.0 ≡ mode_of_act act.now }
 {

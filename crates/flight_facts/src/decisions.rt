@@ -1,4 +1,4 @@
-//! The decision of a reconfiguration: its row and its cause.
+//! The decision of a reconfiguration: the row in which it is decided, and its cause.
 
 ghost use Rattle.std.specs.Prelude.{◌≡◌, ◌≤◌, ◌+◌, ◌++◌, length, option_and_then};
 ghost use Rattle.scram_types.specs.declared.limits.TheConstants.{MAX_LINE_BYTES};
@@ -11,8 +11,8 @@ use scram_types::{Env, KMode, Report, Row, Spec};
 use trace_text::lines::Line;
 
 /// Returns the row in which the reconfiguration that begins in row `begin` is decided. It is row `begin` if a
-/// reconfiguration is under way in it. Otherwise something was lost in row `begin`, and it is the next row, which may
-/// not exist.
+/// reconfiguration is under way in that row. Otherwise something was lost in row `begin`, and the deciding row is the
+/// next row, which may not exist.
 pub fn decided_in(rows: &[Row], begin: u32) -> usize
     ensures { result ≡ decided_in rows.now begin }
 {
@@ -27,7 +27,7 @@ pub fn decided_in(rows: &[Row], begin: u32) -> usize
     }
 }
 
-/// Returns whether two environments exist and differ.
+/// Returns whether two environments are both present and differ.
 pub fn differ(spec: &Spec, before: Option<Env>, after: Option<Env>) -> bool
     ensures { result ≡ differ spec.now before after }
 {
@@ -53,9 +53,9 @@ pub fn add_difference_or_dash(line: &mut Line, spec: &Spec, before: Option<Env>,
     }
 }
 
-/// Appends the cause of a reconfiguration that begins in row `begin`: what changed in the row in which it is decided.
-/// If nothing did, the cause is what changed since the reconfiguration `earlier` was decided, if that one ended in the
-/// preceding row.
+/// Appends the cause of a reconfiguration that begins in row `begin`: the change in the row in which it is decided. If
+/// nothing changed there and the reconfiguration `earlier` ended in the preceding row, the cause is the change since
+/// `earlier` was decided. Otherwise `-` is appended.
 pub fn add_cause(line: &mut Line, spec: &Spec, rows: &[Row], earlier: Option<Report>, begin: u32)
     requires { length line.old + 348 ≤ MAX_LINE_BYTES }
     ensures text { line.new ≡ line.old ++ cause_text spec.now rows.now earlier begin }
@@ -85,8 +85,8 @@ fn is_under_way(mode: &KMode) -> bool
     }
 }
 
-// Returns the environment in which the reconfiguration `earlier` was decided, or `None` if it did not end in the row
-// preceding `begin`.
+// Returns the environment in which the reconfiguration `earlier` was decided. Returns `None` if `earlier` is `None` or
+// unfinished, did not end in the row preceding `begin`, or was decided in a row that does not exist.
 fn put_off_env(rows: &[Row], earlier: Option<Report>, begin: u32) -> Option<Env>
     ensures { result ≡ option_and_then (env_in rows.now) (put_off_in rows.now earlier begin) }
 {

@@ -8,9 +8,8 @@ use scram_types::{Env, Factor, Proc, Spec};
 use trace_text::lines::Line;
 
 /// Appends the difference between two environments, at most 348 bytes. Each factor whose value differs is written as
-/// `FACTOR=VALUE` with the second value. Then each processor whose state differs is written as `-PROC` if it is down in
-/// the second environment and as `+PROC` if it is up. The parts are joined by commas; if nothing differs, `-` is
-/// written.
+/// `FACTOR=VALUE` with the second value. Each processor whose state differs follows as `-PROC` if it is down in the
+/// second environment, or as `+PROC` if it is up. The parts are joined by commas. If nothing differs, `-` is written.
 pub fn add_difference(line: &mut Line, spec: &Spec, before: &Env, after: &Env)
     requires { length line.old + 348 ≤ MAX_LINE_BYTES }
     ensures text { line.new ≡ line.old ++ difference_text spec.now before.now after.now }
@@ -75,7 +74,8 @@ fn add_values(line: &mut Line, spec: &Spec, before: &[u8; 6], after: &[u8; 6]) -
     any
 }
 
-// Appends the processors whose states differ after the factors, and returns whether anything differs.
+// Appends the processors whose states differ, after the factors. `values` says whether a factor differs. Returns
+// whether anything differs.
 fn add_procs(line: &mut Line, spec: &Spec, values: bool, before: u8, after: u8) -> bool
     requires { length line.old + 144 ≤ MAX_LINE_BYTES }
     ensures text { line.new ≡ line.old ++ comma_joined_after values (procs_changed spec.now.procs before after) }
@@ -109,7 +109,8 @@ fn add_value(line: &mut Line, is_further: bool, factor: &Factor, value: u8)
     line.text(factor.value_name(value).as_bytes());
 }
 
-// Appends a processor whose state differs. The lowest bit of `later` is 1 if the processor is up.
+// Appends a processor whose state differs. `is_further` says whether a part precedes it, so that a comma comes first.
+// The lowest bit of `later` is 1 if the processor is up.
 fn add_proc(line: &mut Line, is_further: bool, proc: &Proc, later: u8)
     requires { length line.old + 18 ≤ MAX_LINE_BYTES }
     ensures text { line.new ≡ line.old ++ (if is_further then codes "," else []) ++ proc_change proc.now later }

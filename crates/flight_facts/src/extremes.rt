@@ -20,14 +20,14 @@ pub enum Quantity {
     Bank,
 }
 
-/// The minimum and the maximum of some numbers.
+/// The minimum and the maximum of a sequence of numbers.
 #[derive(Clone, Copy, Debug, PartialEq, Eq)]
 pub struct Extremes {
     pub least: i64,
     pub greatest: i64,
 }
 
-/// Returns a quantity of the aircraft.
+/// Returns the value of a quantity of the aircraft.
 pub fn quantity_of(quantity: Quantity, world: &World) -> i64
     ensures { result ≡ quantity_of quantity world.now }
 {
@@ -39,7 +39,7 @@ pub fn quantity_of(quantity: Quantity, world: &World) -> i64
     }
 }
 
-/// Returns the minimum and the maximum over all rows, or `None` if there are no rows.
+/// Returns the minimum and the maximum of a quantity over all rows, or `None` if there are no rows.
 pub fn extremes_of(quantity: Quantity, rows: &[Row]) -> Option<Extremes>
     ensures { result ≡ extremes_of quantity rows.now }
 {
@@ -67,7 +67,7 @@ fn widened(number: i64, so_far: Option<Extremes>) -> Extremes
     }
 }
 
-/// Appends the minimum and the maximum.
+/// Appends the minimum, `to` and the maximum.
 pub fn add_extremes(line: &mut Line, extremes: &Extremes)
     requires { length line.old + 44 ≤ MAX_LINE_BYTES }
     ensures text { line.new ≡ line.old ++ extremes_text extremes.now }

@@ -8,14 +8,14 @@ use crate::acts::{ActWord, act_word};
 use scram_types::Row;
 use trace_text::lines::Line;
 
-/// Consecutive rows in which an application neither ran nor was off: their number and the first of them.
+/// Consecutive rows in which an application neither ran nor was off: the number of rows, and the first of them.
 #[derive(Clone, Copy, Debug, PartialEq, Eq)]
 pub struct Gap {
     pub frames: u32,
     pub at: u32,
 }
 
-/// Returns the longest gap of an application, the first if there are several, or `None` if there is none.
+/// Returns the longest gap of an application, or `None` if there is none. Of several longest gaps it is the first.
 pub fn longest_gap(rows: &[Row], app: usize) -> Option<Gap>
     requires app { app < 8 }
     requires rows { length rows.now < 2 ^ 32 }
@@ -36,7 +36,7 @@ pub fn longest_gap(rows: &[Row], app: usize) -> Option<Gap>
     longest
 }
 
-/// Appends the number of frames of a gap and its first frame.
+/// Appends the number of frames of a gap and its first frame, or 0 and `-` if there is no gap.
 pub fn add_gap(line: &mut Line, gap: Option<Gap>)
     requires { length line.old + 29 ≤ MAX_LINE_BYTES }
     ensures text { line.new ≡ line.old ++ gap_text gap }

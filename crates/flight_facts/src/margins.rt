@@ -18,7 +18,7 @@ pub fn bound_of(spec: &Spec, report: &Report) -> Option<u32>
     }
 }
 
-/// Appends the margin of a reconfiguration: its bound minus its length in frames, or `-` without a bound.
+/// Appends the margin of a reconfiguration: its bound minus its length, in frames, or `-` if there is no bound.
 pub fn add_margin(line: &mut Line, spec: &Spec, report: &Report)
     requires { length line.old + 20 ≤ MAX_LINE_BYTES }
     ensures text { line.new ≡ line.old ++ margin_of spec.now report.now }

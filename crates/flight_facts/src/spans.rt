@@ -21,7 +21,7 @@ pub enum Lane {
 }
 
 /// Returns the number of rows of the span that begins with row `k`: row `k` and the consecutive rows after it that look
-/// alike. Returns `None` if row `k` looks like the preceding row, or does not exist.
+/// like it. Returns `None` if row `k` looks like the preceding row or does not exist.
 pub fn span_at(lane: Lane, rows: &[Row], k: usize) -> Option<u32>
     requires lane { IsLane lane }
     requires rows { length rows.now < 2 ^ 32 }
@@ -37,7 +37,7 @@ pub fn span_at(lane: Lane, rows: &[Row], k: usize) -> Option<u32>
     }
 }
 
-/// Returns the row preceding row `k`, or `None` if there is none.
+/// Returns the row preceding row `k`, or `None` if there is no such row.
 pub fn row_before(rows: &[Row], k: usize) -> Option<&Row>
     ensures { option_map (λ row. row.now) result ≡ row_before rows.now k }
 {
@@ -89,7 +89,7 @@ fn are_alike(lane: Lane, row: &Row, other: &Row) -> bool
     }
 }
 
-/// Returns the stable configuration, or `None` if a reconfiguration is under way.
+/// Returns the stable configuration of a mode, or `None` if a reconfiguration is under way.
 pub fn stable_conf(mode: &KMode) -> Option<ConfId>
     ensures { result ≡ stable_conf mode.now }
 {

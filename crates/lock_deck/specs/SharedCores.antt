@@ -1,4 +1,4 @@
--- Drafts and snapshots of a mission, and the kinds of a turn's result.
+-- Drafts and snapshots of a mission, and the kinds of result of a turn.
 use Rattle.std.specs.Prelude.{◌≡◌, ℕ, Bool, true, false}
 use Rattle.coverage_check.specs.Missions.{MissionParts}
 use Rattle.fail_stop.specs.declared.snapshots.Draft.{Draft}
@@ -10,19 +10,19 @@ use Rattle.frame_model.specs.Flights.{draft}
 use Rattle.lock_deck.specs.declared.made.Made.{Made}
 use Rattle.lock_deck.specs.declared.made.Made.TheVariants.{Nothing, Started, Moved, Saw, Done, Halted}
 
--- The draft `made` is that of processor `p` in its frame of the mission.
+-- The draft is the draft of processor `p` in its frame of the mission.
 abbrev pub IsDraftOf : MissionParts → ℕ → Draft → Type 0
 IsDraftOf mission p made = made.image ≡ draft mission.spec mission.script p made.frame
 
--- The word is word `i` of the draft of processor `p` in frame `f` of the mission.
+-- The number is word `i` of the draft of processor `p` in frame `f` of the mission.
 abbrev pub IsDraftWord : MissionParts → ℕ → ℕ → ℕ → ℕ → Type 0
 IsDraftWord mission p f i word = word ≡ word_in (draft_words mission.spec mission.script p f) i
 
--- The snapshot is that of its frame in the mission.
+-- The snapshot is the snapshot of its frame in the mission.
 abbrev pub IsSnapshotOf : MissionParts → Snapshot → Type 0
 IsSnapshotOf mission snap = IsSnapshot mission.spec mission.script snap.kernel.frame snap
 
--- The condition holds for the snapshot that a turn returned, if it returned one.
+-- If a turn returned a snapshot, a condition holds for the snapshot.
 abbrev pub IfSaw : Made → (Snapshot → Type 0) → Type 0
 IfSaw Nothing Fact = Unit {0}
 IfSaw Started Fact = Unit {0}
@@ -31,7 +31,7 @@ IfSaw (Saw snap) Fact = Fact snap
 IfSaw Done Fact = Unit {0}
 IfSaw (Halted frame) Fact = Unit {0}
 
--- Whether the turn made a start.
+-- Whether the result of a turn is a start.
 abbrev pub is_start : Made → Bool
 is_start Nothing = false
 is_start Started = true
@@ -40,7 +40,7 @@ is_start (Saw snap) = false
 is_start Done = false
 is_start (Halted frame) = false
 
--- Whether the turn made a halt.
+-- Whether the result of a turn is a halt.
 abbrev pub is_halt : Made → Bool
 is_halt Nothing = false
 is_halt Started = false

@@ -25,8 +25,8 @@ use std::thread;
 use std::thread::{Scope, Threads};
 use trace_props::missions::reconfigurations_are_assured;
 
-/// A flight of a mission before its first step, with all memory that it needs. Clauses state that its processors are
-/// those of the mission; two fields are public so that clauses can name them.
+/// A flight of a mission before its first step, with all memory that the flight needs. Clauses state that its
+/// processors belong to the mission. Two fields are public so that clauses can name them.
 #[derive(Drop)]
 pub struct LockFlight<'a> {
     pub mission: &'a Mission,
@@ -39,8 +39,8 @@ pub struct LockFlight<'a> {
 }
 
 impl<'a> LockFlight<'a> {
-    /// Returns a flight of this mission before its first step. Rack `p` belongs to processor `p`, and spare rack `p` is
-    /// for its restart. It allocates all memory that the flight needs; the only error is out of memory.
+    /// Returns a flight of a mission before its first step. Rack `p` belongs to processor `p`, and spare rack `p` is
+    /// for its restart. Allocates all memory that the flight needs. The only error is out of memory.
     pub fn open(
         alloc: Global,
         mission: &'a Mission,
@@ -65,7 +65,7 @@ impl<'a> LockFlight<'a> {
     }
 
     /// Flies the mission until the flight is over, with a thread for each processor and the kernel on the caller's
-    /// thread. Processors whose threads cannot be started are flown round-robin by the caller. It may block.
+    /// thread. The caller flies the processors whose threads cannot be started, round-robin. The call may block.
     pub fn run<R: Threads + Wait + Sync>(self, rt: &R) -> Core<'a>
         requires fits { All (λ member. MemberFits self.mission.now member.value) self.members.items }
         ensures spec { result.spec ≡ self.entry.mission.now.spec }
@@ -96,7 +96,8 @@ impl<'a> LockFlight<'a> {
     }
 }
 
-// The processors that wait for a thread, those that the caller flies, and those for which threads are requested.
+// The processors that wait for a thread, the processors that the caller flies, and the numbers of those for which
+// threads are requested.
 #[derive(Drop)]
 struct Roster {
     members: Vec<CachePadded<Member>>,
@@ -123,7 +124,7 @@ fn make_members(
     Ok(members)
 }
 
-// Takes the last rack and adds its processor, if the mission has a processor of that number.
+// Takes the last rack and the last spare rack, and adds their processor if the mission has a processor of that number.
 fn add_next(
     mission: &Mission,
     racks: &mut Vec<Rack>,
@@ -141,7 +142,8 @@ fn add_next(
     }
 }
 
-// Takes the last rack and returns its processor, or `None` if there is no rack or no processor of that number.
+// Takes the last rack and the last spare rack, and returns their processor. Returns `None` if a rack is missing or the
+// mission has no processor of that number.
 fn next_member(mission: &Mission, racks: &mut Vec<Rack>, spares: &mut Vec<Rack>) -> Option<Member>
     requires few { vec_len racks.old ≤ 8 }
     ensures few { vec_len racks.new ≤ 8 }
@@ -157,7 +159,7 @@ fn next_member(mission: &Mission, racks: &mut Vec<Rack>, spares: &mut Vec<Rack>)
     }
 }
 
-// Removes and returns the last of these racks, or returns `None` if there is none.
+// Removes and returns the last rack, or returns `None` if there is none.
 fn take_rack(racks: &mut Vec<Rack>) -> Option<Rack>
     ensures fewer { vec_len racks.new ≤ vec_len racks.old }
     ensures one { IfSome result (λ _. vec_len racks.new < vec_len racks.old) }
@@ -165,7 +167,7 @@ fn take_rack(racks: &mut Vec<Rack>) -> Option<Rack>
     racks.pop()
 }
 
-// Adds a processor to those that wait for a thread.
+// Adds a processor to the processors that wait for a thread.
 fn add_member(members: &mut Vec<CachePadded<Member>>, member: Member) -> Result<(), NoMemory>
     ensures { OnOk result ((mission : MissionParts) → MemberFits mission member → All (λ member. MemberFits mission member.value) members.old.items
         → All (λ member. MemberFits mission member.value) members.new.items) }
@@ -193,7 +195,7 @@ fn fly<'a, J: FlightOf + Send + Sync, R: Threads + Wait + Sync>(
     finish(rt, shared.into_inner().into_core())
 }
 
-// Makes the remaining steps of the flight, of which there are none if all threads have flown to its end.
+// Makes the remaining steps of the flight. If all threads have flown to its end, there are none.
 fn finish<'a, R: Wait>(rt: &R, core: Core<'a>) -> Core<'a>
     ensures spec { result.spec ≡ core.entry.spec }
     ensures script { result.script ≡ core.entry.script }
@@ -283,7 +285,7 @@ fn start_all<'s, 'a, E, J: FlightOf + Send + Sync, R: Threads + Wait + Sync>(
 }
 
 // Starts a thread that flies a processor, unless the caller flies it. If no thread can be started, marks the processor
-// as flown by the caller. Returns the processor if the caller is to fly it.
+// as flown by the caller. Returns the processor if the caller must fly it.
 fn start<'s, E, M: Send + Drop + 's, F: FnOnce(M) + Send + Drop + 's>(
     scope: &Scope<'s, E>,
     by_caller: &'s AtomicBool,
@@ -317,7 +319,7 @@ fn start<'s, E, M: Send + Drop + 's, F: FnOnce(M) + Send + Drop + 's>(
     }
 }
 
-// Removes and returns the last of these processors, or returns `None` if there is none.
+// Removes and returns the last processor, or returns `None` if there is none.
 fn take_member(members: &mut Vec<CachePadded<Member>>) -> Option<Member>
     ensures fits { (mission : MissionParts) → All (λ member. MemberFits mission member.value) members.old.items → IfSome result (MemberFits mission) }
     ensures rest { (mission : MissionParts) → All (λ member. MemberFits mission member.value) members.old.items
@@ -330,7 +332,7 @@ fn take_member(members: &mut Vec<CachePadded<Member>>) -> Option<Member>
     }
 }
 
-// Adds a processor, if there is one, to those that the caller flies.
+// Adds a processor, if there is one, to the processors that the caller flies.
 fn keep_member(back: &mut Vec<Member>, member: Option<Member>)
     requires room { vec_len back.old < vec_capacity back.old }
     ensures fits { (mission : MissionParts) → IfSome member (MemberFits mission) → All (MemberFits mission) back.old.items
@@ -344,7 +346,7 @@ fn keep_member(back: &mut Vec<Member>, member: Option<Member>)
     }
 }
 
-// Returns which processors the caller flies: those for which no threads are requested.
+// Returns for each processor whether the caller flies it, because no thread is requested for it.
 fn flown_by_caller(asked: [bool; 8]) -> [AtomicBool; 8] {
     [
         AtomicBool::new(!asked[0]),

@@ -21,7 +21,7 @@ pub struct Member {
 }
 
 impl Member {
-    /// Returns a live processor, with the boxes for its restart.
+    /// Returns a live processor of the mission with its boxes, the boxes for its restart, and no draft.
     pub fn new(mission: &Mission, proc: ProcId, rack: Rack, spare: Rack) -> Member
         requires proc { proc.0 < length mission.now.spec.procs }
         ensures unit { result.flyer.unit ≡ Up (record { proc = proc; rack = rack }) }
@@ -43,8 +43,8 @@ impl Member {
         self.flyer.proc()
     }
 
-    /// Acts on the result of a turn at the lock. The processor drafts from the snapshot that it saw, halts with its
-    /// halt, and becomes live again with the start of its restart, in its spare rack.
+    /// Acts on the result of a turn at the lock. The processor drafts from a returned snapshot and halts with its halt.
+    /// With the start of its restart it becomes live again in its spare rack.
     pub(crate) fn follow(&mut self, mission: &Mission, made: &Made)
         requires saw { IfSaw made.now (IsSnapshotOf mission.now) }
         requires fits { MemberFits mission.now self.old }
@@ -64,7 +64,7 @@ impl Member {
         }
     }
 
-    // A processor that has halted drafts nothing.
+    // Drafts from a snapshot, unless the processor has halted.
     fn draft(&mut self, mission: &Mission, snap: &Snapshot)
         requires saw { IsSnapshotOf mission.now snap.now }
         requires fits { MemberFits mission.now self.old }

@@ -1,5 +1,5 @@
-//! The core of a flight under its lock. A value taken out of a lock is known by its type alone, so the type names the
-//! mission.
+//! The core of a flight under its lock. The type of a value taken out of a lock is all that is known of the value, so
+//! the type names the mission.
 
 ghost use Rattle.std.specs.Prelude.{◌≡◌, IfSome, None, Option, Some};
 ghost use Rattle.coverage_check.specs.Missions.{MissionParts, mission_of};
@@ -23,7 +23,7 @@ impl FlightOf for Brand {
     ghost mission = { None };
 }
 
-/// The core of a flight of the mission that `J` names.
+/// The core of a flight of the mission that the type `J` names.
 #[derive(Drop)]
 pub(crate) struct SharedCore<'a, J: FlightOf> {
     core: Core<'a>,
@@ -32,7 +32,7 @@ pub(crate) struct SharedCore<'a, J: FlightOf> {
 }
 
 impl<'a, J: FlightOf> SharedCore<'a, J> {
-    /// Creates a shared core from this core.
+    /// Creates a shared core from a core.
     pub(crate) fn new(core: Core<'a>) -> SharedCore<'a, J>
         requires { J.mission ≡ Some (mission_of core.spec core.script) }
     {
@@ -49,17 +49,17 @@ impl<'a, J: FlightOf> SharedCore<'a, J> {
         self.core
     }
 
-    /// Returns whether no further event can come.
+    /// Returns whether the flight is over, so that no further event can come.
     pub(crate) fn is_over(&self) -> bool {
         self.core.over()
     }
 
-    /// Returns whether a processor has to wait.
+    /// Returns whether a processor has no next step while the flight is not over.
     pub(crate) fn waits(&self, p: ProcId) -> bool {
         self.core.next_of(p).is_none() && !self.core.over()
     }
 
-    /// Returns whether the kernel and these processors have to wait.
+    /// Returns whether neither the kernel nor any of these processors has a next step while the flight is not over.
     pub(crate) fn all_wait(&self, members: &[Member]) -> bool {
         if self.core.next_kernel().is_some() || self.core.over() {
             return false;
@@ -77,8 +77,8 @@ impl<'a, J: FlightOf> SharedCore<'a, J> {
         make_kernel(&mut self.core)
     }
 
-    /// Makes the next step of a processor, if there is one. If a store is next and `drafted` is not of the processor's
-    /// current frame, it makes no step and returns the snapshot.
+    /// Makes the next step of a processor, if there is one. If a store is next and `drafted` is not a draft of the
+    /// processor's current frame, makes no step and returns the snapshot.
     pub(crate) fn make_step(&mut self, p: ProcId, drafted: Option<&Draft>) -> Made
         requires { (mission : MissionParts) → J.mission ≡ Some mission → IfSome drafted (λ draft. IsDraftOf mission p.0 draft.now) }
         ensures { (mission : MissionParts) → J.mission ≡ Some mission → IfSaw result (IsSnapshotOf mission) }

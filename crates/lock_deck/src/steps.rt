@@ -1,4 +1,4 @@
-//! Steps of a core, and the storing of a draft.
+//! The steps of a core, and the storing of a draft.
 
 ghost use Rattle.std.specs.Prelude.{◌≡◌, ◌<◌, IfSome, IsTrue, Some, length, ℕ};
 ghost use Rattle.bank_words.specs.declared.events.Event.TheVariants.{KStore};
@@ -16,7 +16,7 @@ use event_core::Core;
 use fail_stop::Draft;
 use scram_types::ProcId;
 
-// Makes an event with its word if it is the next of its actor, and returns whether it was.
+// Makes an event with its word if the event is the next of its actor, and returns whether it was.
 fn make(core: &mut Core, event: Event, word: u64) -> bool
     requires { IsNextIn core.old event → IsWordIn core.old event word }
     ensures spec { core.new.spec ≡ core.old.spec }
@@ -42,7 +42,7 @@ fn is_plain(event: Event) -> bool
     }
 }
 
-// Makes an event that needs no word if it is the next of its actor, and returns whether it was.
+// Makes an event that needs no word if the event is the next of its actor, and returns whether it was.
 fn make_plain(core: &mut Core, event: Event) -> bool
     ensures spec { core.new.spec ≡ core.old.spec }
     ensures script { core.new.script ≡ core.old.script }
@@ -69,7 +69,8 @@ pub(crate) fn make_kernel(core: &mut Core) -> Option<Event>
     next
 }
 
-/// Makes a step that needs no draft, if one is next: a step of the kernel, else a step of each processor.
+/// Makes the next step of the kernel. If the kernel has none, makes the next step of each processor whose step needs no
+/// draft.
 pub(crate) fn make_any(core: &mut Core)
     ensures spec { core.new.spec ≡ core.old.spec }
     ensures script { core.new.script ≡ core.old.script }
@@ -84,8 +85,8 @@ pub(crate) fn make_any(core: &mut Core)
     }
 }
 
-/// Makes the next step of a processor, if there is one. If a store is next and `drafted` is not of the processor's
-/// current frame, it makes no step and returns the snapshot.
+/// Makes the next step of a processor, if there is one. If a store is next and `drafted` is not a draft of the
+/// processor's current frame, makes no step and returns the snapshot.
 pub(crate) fn make_step(core: &mut Core, p: ProcId, drafted: Option<&Draft>) -> Made
     requires drafted { IfSome drafted (λ draft. IsDraftOf (mission_of core.old.spec core.old.script) p.0 draft.now) }
     ensures saw { IfSaw result (IsSnapshotOf (mission_of core.old.spec core.old.script)) }
@@ -134,7 +135,7 @@ fn make_other(core: &mut Core, p: ProcId, event: Event) -> Made
     }
 }
 
-// Returns word `i` of a draft of this frame, or `None` if there is no such draft.
+// Returns word `i` of a draft of the given frame, or `None` if there is no such draft.
 fn word_of(drafted: Option<&Draft>, frame: u32, i: u8) -> Option<u64>
     ensures { (mission : MissionParts) (p : ℕ) → IfSome drafted.entry (λ draft. IsDraftOf mission p draft.now)
         → IfSome result (λ word. IsDraftWord mission p frame i word) }

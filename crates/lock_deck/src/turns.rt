@@ -52,8 +52,8 @@ pub(crate) fn fly_kernel<'a, J: FlightOf, R: Wait>(
     }
 }
 
-// Makes a step of the kernel, if one is next, and wakes the waiting threads after a release and when the flight is
-// over. Returns whether the flight goes on.
+// Makes a step of the kernel, if one is next. Wakes the waiting threads after a release and when the flight is over.
+// Returns `false` if the flight is over.
 fn make_turn_of_kernel<'a, J: FlightOf>(
     shared: MutexGuard<'_, SharedCore<'a, J>>,
     moved: &Condvar,
@@ -69,7 +69,7 @@ fn make_turn_of_kernel<'a, J: FlightOf>(
     true
 }
 
-// Makes a turn of each of these processors.
+// Makes one turn of each processor in a list.
 fn make_turn_of_each<'a, J: FlightOf, R: Wait>(
     rt: &R,
     mission: &Mission,
@@ -86,8 +86,8 @@ fn make_turn_of_each<'a, J: FlightOf, R: Wait>(
     }
 }
 
-// Makes a step of a processor under the lock, if one is next, and acts on its result outside the lock. Returns whether
-// there was anything to do.
+// Makes a step of a processor under the lock, if one is next, and acts on its result outside the lock. Returns `false`
+// if there was nothing to do.
 fn make_turn<'a, J: FlightOf>(
     mission: &Mission,
     shared: MutexGuard<'_, SharedCore<'a, J>>,
@@ -108,7 +108,7 @@ fn make_turn<'a, J: FlightOf>(
     is_something(&made)
 }
 
-// Returns whether the kernel may wait for this result.
+// Returns whether the kernel may be waiting for this result.
 fn is_awaited(made: &Made) -> bool {
     match made {
         Made::Done => true,

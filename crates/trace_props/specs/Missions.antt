@@ -1,4 +1,5 @@
--- Theorems on missions: accepted specifications with a script that fits and keeps to the failure assumption.
+-- Theorems on missions. A mission is an accepted specification and a script that fits it and keeps to its failure
+-- assumption.
 use Rattle.std.specs.Prelude.{◌≡◌, ℕ, suc, ◌+◌, ◌-◌, ◌*◌, ◌≤◌, true, length, Option}
 use Rattle.scram_types.specs.declared.ids.ConfId.{ConfId}
 use Rattle.scram_types.specs.declared.orders.KMode.{KMode}
@@ -26,12 +27,12 @@ abbrev pub ReconfigurationsAreAssured : Type 0
 ReconfigurationsAreAssured = (spec : Parts) (script : ScriptParts) → IsSpec spec → IsMission (mission_of spec script)
     → HoldsAll spec (rows_of spec script) (reports_of spec script)
 
--- The frame in which the reconfiguration of frame f began, given the reading of the rows before f.
+-- The frame in which the reconfiguration of frame `f` began, given the reading of the rows before frame `f`.
 abbrev pub begin_in : Reading → ℕ → ℕ
 begin_in (Steady c) f = f
 begin_in (Leaving c begin) f = begin
 
--- The frame in which the reconfiguration of frame f of a mission began.
+-- The frame in which the reconfiguration of frame `f` of a mission began.
 abbrev pub begin_at : Parts → ScriptParts → ℕ → ℕ
 begin_at spec script f = begin_in (reading_of spec (listed_below (row_at spec script) f)) f
 
@@ -40,11 +41,11 @@ abbrev pub first_moving_in : KMode → ℕ → ℕ
 first_moving_in (Stable c) begin = suc begin
 first_moving_in (Moving from halting to since) begin = begin
 
--- The first moving frame of the reconfiguration of frame f of a mission.
+-- The first moving frame of the reconfiguration of frame `f` of a mission.
 abbrev pub first_moving : Parts → ScriptParts → ℕ → ℕ
 first_moving spec script f = first_moving_in (decided spec script (begin_at spec script f)) (begin_at spec script f)
 
--- The number of change frames after the first moving frame, up to and including f.
+-- The number of change frames after the first moving frame, up to and including frame `f`.
 abbrev pub changes_since : Parts → ScriptParts → ℕ → ℕ
 changes_since spec script f = changes_upto spec script f - changes_upto spec script (first_moving spec script f)
 
@@ -64,7 +65,7 @@ pub record IsTargetChosen (spec : Parts) (script : ScriptParts) (f : ℕ) (from 
   pub chosen : choose spec from (env_at spec script chosen_at) ≡ to
   pub anew : spec.policy ≡ Retarget → choose spec from (env_at spec script f) ≡ to
 
--- In each moving frame of a mission the target can run and was chosen.
+-- In each moving frame of a mission the target can run, and was chosen as `IsTargetChosen` states.
 abbrev pub TargetsAreChosen : Type 0
 TargetsAreChosen = InMovingFrames IsTargetChosen
 

@@ -38,12 +38,13 @@ pub record IsChosen (spec : Parts) (rows : List Row) (r : Report) (j : ConfId) :
   pub stands : env_in rows frame ≡ Some seen
   pub chosen : choose spec r.from seen ≡ j
 
--- SP2 of a reconfiguration: its target was chosen during it. An unfinished reconfiguration has no target.
+-- SP2 of a reconfiguration: its target was chosen during the reconfiguration. An unfinished reconfiguration has no
+-- target.
 abbrev pub KeepsSp2 : Parts → List Row → Report → Type 0
 KeepsSp2 spec rows r = (j : ConfId) → r.to ≡ Some j → IsChosen spec rows r j
 
--- The bound on a reconfiguration, or the greatest bound that is given from its source if the reconfiguration is
--- unfinished.
+-- The bound on a reconfiguration, or none if no bound is given. An unfinished reconfiguration has the greatest bound
+-- that is given from its source.
 abbrev pub bound_on : Parts → ConfId → Option ConfId → Option ℕ
 bound_on spec from None = greatest_bound_in spec.bounds from.0
 bound_on spec from (Some j) = bound_in spec.bounds from.0 j.0
@@ -55,11 +56,11 @@ pub record KeepsSp3 (spec : Parts) (r : Report) : Type 0 where
   pub given : bound_on spec r.from r.to ≡ Some bound
   pub in_time : r.end ≤ r.begin + bound
 
--- A row keeps an invariant: the variable is within its interval.
+-- A row keeps an invariant: the invariant's variable is within its interval.
 abbrev pub InvariantHolds : Invariant → Row → Type 0
 InvariantHolds inv row = Between (inv.least, inv.greatest) (word (area_at row.areas inv.app.0) inv.variable)
 
--- A row meets a precondition: the variable is within its interval.
+-- A row meets a precondition: the precondition's variable is within its interval.
 abbrev pub PreconditionHolds : Precondition → Row → Type 0
 PreconditionHolds pre row = Between (pre.least, pre.greatest) (word (area_at row.areas pre.app.0) pre.variable)
 
@@ -83,8 +84,8 @@ pub record FollowsAnother (spec : Parts) (rows : List Row) (r : Report) : Type 0
   pub up_to : change ≤ before.end
   pub changes : ChangesIn spec rows change
 
--- SP5 of a reconfiguration: the environment changes in its begin or in the row after it. If targets are settled, it may
--- also have changed during the reconfiguration just before. A begin in the last row is exempt.
+-- SP5 of a reconfiguration: the environment changes in its begin or in the row after it. If targets are settled, a
+-- change during the reconfiguration just before may also be the cause. A begin in the last row is exempt.
 abbrev pub KeepsSp5 : Parts → List Row → Report → Type 0
 KeepsSp5 spec rows r = suc r.begin < length rows → ChangesIn spec rows r.begin ⊎ ChangesIn spec rows (suc r.begin) ⊎ FollowsAnother spec rows r
 

@@ -73,7 +73,7 @@ fn first_change(spec: &Spec, rows: &[Row], read: Report) -> Option<usize>
     None
 }
 
-// Returns whether row `frame` exists and its environment differs from that of the preceding row.
+// Returns whether row `frame` exists and its environment differs from the environment of the preceding row.
 fn changes_in(spec: &Spec, rows: &[Row], frame: usize) -> bool
     ensures { result ≡ changes_in spec.now rows.now frame }
 {

@@ -19,9 +19,10 @@ use scram_types::{Report, Row, Spec};
 ///
 /// # Errors
 ///
-/// Returns the first break: the first frame in which a property is broken, with the smallest number of such a property.
-/// SP1 is broken in the smaller begin at the first index at which reports and rows differ. SP2 is broken in the end of
-/// a reconfiguration, SP3 in the end or the last row, SP4 in a row, SP5 in the begin, and SP6 in a calm row.
+/// Returns the first break: the first frame in which a property is broken, and the broken property with the smallest
+/// number there. SP1 is broken in the smaller begin at the first index at which reports and rows differ. SP2 is broken
+/// in the end of a reconfiguration, and SP3 in the end or the last row. SP4 is broken in a row, SP5 in the begin, and
+/// SP6 in a calm row.
 pub fn props(spec: &Spec, rows: &[Row], told: &[Report]) -> Result<(), Broken>
     requires { length rows.now < 2 ^ 32 }
     ensures holds { IsOk result ↔ HoldsAll spec.now rows.now told.now }

@@ -5,22 +5,22 @@ ghost use Rattle.trace_props.specs.Missions.{FurtherChangesAreFew, HaltingEndsIn
 ghost use Rattle.trace_props.specs.Calms.{CalmSettles};
 ghost use Rattle.trace_props.specs.Known.{IsKnown};
 
-/// SP1 to SP6 hold for a mission's rows and reports, with halts and restarts in any frame, failures chained during a
-/// reconfiguration, and under both policies. Each reconfiguration that the rows show is reported, goes to a target that
-/// was chosen in an environment seen during it, and ends within the given bound. It keeps its invariants throughout and
-/// meets its target's preconditions before its end. It begins because the environment changed, unless it begins in the
-/// last row. No target is claimed for a reconfiguration that the end of the script cuts off. Once the environment has
-/// held for the greatest bound, a configuration runs that meets the demands, in each row in which no application is
-/// lost.
+/// States that SP1 to SP6 hold for a mission's rows and reports, with halts and restarts in any frame, with failures
+/// chained during a reconfiguration, and under both policies. Each reconfiguration that the rows show is reported, goes
+/// to a target that was chosen in an environment seen during it, and ends within the given bound. It keeps its
+/// invariants throughout and meets its target's preconditions in the row before its end. Its cause is a change of the
+/// environment, unless it begins in the last row. No target is claimed for a reconfiguration that the end of the script
+/// cuts off. Once the environment has held for the greatest bound, a configuration that meets the demands runs in each
+/// row in which no application is lost.
 pub fn reconfigurations_are_assured()
     ensures { ReconfigurationsAreAssured }
 {
     know();
 }
 
-/// States that in each frame in which a reconfiguration is under way, its target can run and was chosen from its source
-/// in an environment seen since its first moving frame. Under `Retarget` the target was chosen in this frame's
-/// environment.
+/// States that the target of a reconfiguration can run in each frame in which the reconfiguration is under way. The
+/// target was chosen from its source in an environment seen since the first moving frame. Under `Retarget` the target
+/// was chosen in this frame's environment.
 pub fn targets_are_chosen()
     ensures { TargetsAreChosen }
 {
@@ -58,7 +58,7 @@ pub fn calm_settles()
     know();
 }
 
-/// The facts of the other crates on choice, time, scripts, rows and laws.
+/// Collects the facts of the other crates on choice, time, scripts, rows and laws.
 fn know()
     ensures { IsKnown }
 {
