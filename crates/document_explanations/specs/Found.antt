@@ -1,4 +1,4 @@
--- The parts of a document that are shown if it breaks a rule.
+-- The parts of a document that are shown if the document breaks a rule.
 use Rattle.std.specs.Prelude.{ℕ, ◌==◌, Bool, true, false, List, [], ◌∷◌, ◌++◌, Option, Some, None, codes, decimal, map, nat_lt, if◌then◌else◌}
 use Rattle.std.specs.Fmt.{char_count, take_chars}
 use Rattle.std.specs.Option.{option_map_or}
@@ -19,28 +19,29 @@ use Rattle.document_explanations.specs.declared.objects.Wanted.{Wanted}
 use Rattle.document_explanations.specs.declared.objects.Wanted.TheVariants as wanted
 use Rattle.document_explanations.specs.declared.rules.DocumentKind.{DocumentKind}
 
--- The version of a document is one of these versions.
+-- Whether the version of a document is one of `versions`.
 abbrev pub is_version_of : Data → Versions → Bool
 is_version_of d versions.All = true
 is_version_of d versions.SecondOn = has_policy d
 is_version_of d versions.Third = has_demands d
 is_version_of d versions.Second = has_version 2 d
 
--- The table of an object of a document has a member of this name.
+-- Whether the table of an object of a document has a member with this name.
 abbrev pub is_known : Data → Object → List ℕ → Bool
 is_known d object name = option_map_or (λ (m : Member). is_version_of d m.versions) (member_named (members_of object) name) false
 
--- The names of the members that are not in the table of an object. They are in byte order, as the members are.
+-- The names of the members that are not in the table of their object, in byte order.
 abbrev pub further_names : Data → Object → Members → List (List ℕ)
 further_names d object no_members = []
 further_names d object (member name value members) =
     if is_known d object name then further_names d object members else name ∷ further_names d object members
 
--- The names of the members that are not in the table of an object, as JSON texts.
+-- The names of the members that are not in the table of their object, as JSON texts.
 abbrev pub further_text : Data → Object → Members → List ℕ
 further_text d object members = listed (map quoted (further_names d object members))
 
--- The text that is shown for the members of an object that are not in its table.
+-- The names of the members that are not in the table of the expected object, or the empty text if no object is
+-- expected.
 abbrev pub further_members : Data → Option Wanted → Data → List ℕ
 further_members d None value = []
 further_members d (Some (wanted.Object object)) value = option_map_or (further_text d object) (as_object value) []
@@ -48,20 +49,21 @@ further_members d (Some (wanted.List length element)) value = []
 further_members d (Some (wanted.Number number)) value = []
 further_members d (Some (wanted.Text text)) value = []
 
--- The number of elements of a list, in words.
+-- The number of elements of a list, in words, or the empty text if the value is not a list.
 abbrev pub elements_text : Data → List ℕ
 elements_text value = option_map_or (λ (items : Items). decimal (items_len items) ++ codes " elements") (as_array value) []
 
--- The text that is shown for the value at a path of a document where a rule is broken.
+-- The text that is shown for a value at a path where a rule is broken.
 abbrev pub found_in : DocumentKind → ℕ → List ℕ → Data → Data → List ℕ
 found_in kind rule path d value =
     if rule == FURTHER_MEMBER then further_members d (wanted_at kind rule path) value
     else (if rule == WRONG_LENGTH then elements_text value else value_text value)
 
--- The text that is shown for a document in which a rule is broken at a path.
+-- The text that is shown for the value at a path where a rule is broken, or the empty text if the document has no such
+-- path.
 abbrev pub found_text_at : DocumentKind → ℕ → List ℕ → Data → List ℕ
 found_text_at kind rule path d = option_map_or (found_in kind rule path d) (value_at path d) []
 
--- The text, or its first 60 characters and two dots if it has more.
+-- The text itself if it has at most 60 characters, and otherwise its first 60 characters and two dots.
 abbrev pub cut : List ℕ → List ℕ
 cut text = if nat_lt 60 (char_count text) then take_chars 60 text ++ codes ".." else text

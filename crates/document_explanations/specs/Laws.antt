@@ -1,4 +1,4 @@
--- The laws on the table of members and the readers of documents, and on the length of the text that is shown.
+-- The laws of the tables of members and of the length of a text that is shown.
 use Rattle.std.specs.Prelude.{◌≡◌, ◌≤◌, ℕ, List, [], ◌∷◌, ◌++◌, codes, length, map, if◌then◌else◌}
 use Rattle.std.specs.Fmt.{char_count}
 use Rattle.std.specs.List.{filter}
@@ -10,11 +10,11 @@ use Rattle.document_explanations.specs.Objects.{Member, members_of}
 use Rattle.document_explanations.specs.declared.objects.Object.{Object}
 use Rattle.document_explanations.specs.declared.objects.Object.TheVariants as object
 
--- The names of the members in the table of an object, in the version of a document.
+-- The names of the members that the table of an object has for the version of a document.
 abbrev pub names_of : Data → Object → List (List ℕ)
 names_of d object = map (λ (m : Member). m.name) (filter (λ (m : Member). is_version_of d m.versions) (members_of object))
 
--- The table of a specification has the members that the readers need in the version of a document, in order. For
+-- The table of a specification has the members that the readers need for the version of a document, in order. For
 -- specifications and scripts, the number of members is the one that the readers allow.
 pub record TablesAreRead : Type 0 where
   pub specification : (d : Data) → names_of d object.Specification
@@ -22,6 +22,6 @@ pub record TablesAreRead : Type 0 where
   pub specification_count : (d : Data) → length (names_of d object.Specification) ≡ members_count d
   pub script_count : (d : Data) → length (names_of d object.Script) ≡ member_count (version_of d)
 
--- At most 62 characters of a text are shown: 60, and two dots.
+-- At most 62 characters are shown of any text.
 abbrev pub FoundIsShort : Type 0
 FoundIsShort = (text : List ℕ) → char_count (cut text) ≤ 62

@@ -1,5 +1,5 @@
--- The objects of specifications and scripts: their members in the order in which they are read, and the value that is
--- expected of each.
+-- The objects of specifications and scripts, with their members in the order in which they are read and the expected
+-- value of each.
 use Rattle.std.specs.Prelude.{ℕ, ℤ, neg_ℤ, pos, List, [], ◌∷◌, Option, Some, None, codes, bytes_eq, if◌then◌else◌}
 use Rattle.scram_types.specs.declared.limits.TheConstants.{MAX_ALTITUDE, MAX_APPLICATIONS, MAX_ASSUMED_CHANGES, MAX_ASSUMED_HALTS, MAX_BOUND, MAX_BOUNDS, MAX_CHANGES, MAX_CONFIGURATIONS, MAX_DEMANDS, MAX_FACTORS, MAX_FRAMES, MAX_HEADING, MAX_INTERVAL_END, MAX_INTERVALS, MAX_LOAD, MAX_MODES, MAX_PHASE, MAX_PROCESSORS, MAX_RULES, MAX_VALUES, MAX_WINDOW, MIN_VALUES}
 use Rattle.document_explanations.specs.declared.objects.Element.{Element}
@@ -16,21 +16,21 @@ use Rattle.document_explanations.specs.declared.objects.Versions.TheVariants as 
 use Rattle.document_explanations.specs.declared.objects.Wanted.{Wanted}
 use Rattle.document_explanations.specs.declared.objects.Wanted.TheVariants as wanted
 
--- A member of an object: its name, the versions of the document that have it, and the value that is expected of it.
+-- A member of an object, with its name, the versions of the document that have it, and its expected value.
 pub record Member : Type 0 where
   pub name : List ℕ
   pub versions : Versions
   pub wanted : Wanted
 
--- A member of the code's table as plain data.
+-- A member of the program's table as plain data.
 abbrev pub member_read : TableMember → Member
 member_read m = record { name = m.name.now; versions = m.versions; wanted = m.wanted }
 
--- A member of some versions.
+-- A member that only some versions have.
 abbrev pub later : List ℕ → Versions → Wanted → Member
 later name versions wanted = record { name = name; versions = versions; wanted = wanted }
 
--- A member of every version.
+-- A member that every version has.
 abbrev pub has : List ℕ → Wanted → Member
 has name wanted = later name versions.All wanted
 
@@ -58,7 +58,7 @@ signed least greatest = wanted.Number (number.Signed least greatest)
 abbrev pub interval_end : Wanted
 interval_end = signed (neg_ℤ MAX_INTERVAL_END) MAX_INTERVAL_END
 
--- The members of an invariant and of a precondition after their configuration.
+-- The members of an invariant or a precondition that follow its configuration.
 abbrev pub interval_members : List Member
 interval_members =
     has (codes "app") (wanted.Text text.Application) ∷
@@ -177,7 +177,7 @@ members_of object.Restart =
     has (codes "frame") (wanted.Number (number.Frame 2)) ∷
     []
 
--- The member of this name, if there is one.
+-- The first member with this name, or `None` if there is none.
 abbrev pub member_named : List Member → List ℕ → Option Member
 member_named [] name = None
 member_named (member ∷ members) name = if bytes_eq member.name name then Some member else member_named members name

@@ -1,5 +1,5 @@
--- The value that is expected at a path of a document, and the value there. The levels of a path are names of members
--- and indexes of elements.
+-- The expected value at a path of a document, and the value that was found there. The levels of a path are names of
+-- members and indexes of elements.
 use Rattle.std.specs.Prelude.{ℕ, ◌==◌, List, [], ◌∷◌, Option, Some, None, option_and_then, option_map, if◌then◌else◌}
 use Rattle.std.specs.Option.{option_or}
 use Rattle.serde_json.specs.Data.{Data}
@@ -16,61 +16,62 @@ use Rattle.document_explanations.specs.declared.objects.Wanted.TheVariants as wa
 use Rattle.document_explanations.specs.declared.paths.TheConstants.{INDEX_END}
 use Rattle.document_explanations.specs.declared.rules.DocumentKind.{DocumentKind}
 
--- A path without its first dot, which is 46.
+-- A path without its first dot, which is byte 46, or the empty text if the path does not begin with a dot.
 abbrev pub after_dot : List ℕ → List ℕ
 after_dot [] = []
 after_dot (b ∷ path) = if b == 46 then path else []
 
--- The levels of a text with dots between them. An empty text has none.
+-- The levels of a text, which dots separate. An empty text has no levels.
 abbrev pub levels_in : List ℕ → List (List ℕ)
 levels_in [] = []
 levels_in (b ∷ text) = pieces_of 46 (b ∷ text)
 
--- The levels of a path. The path of the whole document has none.
+-- The levels of a path. The path of the whole document has no levels.
 abbrev pub levels_of : List ℕ → List (List ℕ)
 levels_of path = levels_in (after_dot path)
 
--- The value that is expected of an element.
+-- The expected value of an element of a list.
 abbrev pub wanted_element : Element → Wanted
 wanted_element (element.Object object) = wanted.Object object
 wanted_element (element.Text text) = wanted.Text text
 
--- The value that is expected one level below. It is the same for all elements of a list.
+-- The expected value one level below, or `None` if there is no such level. It is the same for all elements of a list.
 abbrev pub wanted_below : Wanted → List ℕ → Option Wanted
 wanted_below (wanted.Object object) level = option_map (λ (member : Member). member.wanted) (member_named (members_of object) level)
 wanted_below (wanted.List length element) level = Some (wanted_element element)
 wanted_below (wanted.Number number) level = None
 wanted_below (wanted.Text text) level = None
 
--- The value that is expected after some levels, starting at a value of which `w` is expected.
+-- The expected value at the end of some levels that start at a value of which `w` is expected, or `None` if there are
+-- no such levels.
 abbrev pub wanted_along : List (List ℕ) → Wanted → Option Wanted
 wanted_along [] w = Some w
 wanted_along (level ∷ levels) w = option_and_then (wanted_along levels) (wanted_below w level)
 
--- The levels above the last one.
+-- The levels without the last one.
 abbrev pub all_but_last : List (List ℕ) → List (List ℕ)
 all_but_last [] = []
 all_but_last (level ∷ []) = []
 all_but_last (level ∷ next ∷ levels) = level ∷ all_but_last (next ∷ levels)
 
--- The levels of the value whose expectation is shown: those of the object if a member is missing, or those of the path
--- otherwise.
+-- The levels of the value whose expected value is shown. If a member is missing, they are the levels of its object, and
+-- otherwise those of the path.
 abbrev pub wanted_levels : ℕ → List ℕ → List (List ℕ)
 wanted_levels rule path = if rule == MISSING_MEMBER then all_but_last (levels_of path) else levels_of path
 
--- The value that is expected at a path where a rule of a document is broken.
+-- The expected value at a path where a rule of a document is broken, or `None` if the document has no such path.
 abbrev pub wanted_at : DocumentKind → ℕ → List ℕ → Option Wanted
 wanted_at kind rule path = wanted_along (wanted_levels rule path) (wanted.Object (root_of kind))
 
--- The member or the element with the name or the index of a level.
+-- The member whose name is a level, or else the element whose index is the level, or `None` if there is neither.
 abbrev pub child : List ℕ → Data → Option Data
 child level d = option_or (get level d) (option_and_then (λ (i : ℕ). at i d) (spelled_number INDEX_END level))
 
--- The value after some levels.
+-- The value at the end of some levels that start at a value, or `None` if there is none.
 abbrev pub value_along : List (List ℕ) → Data → Option Data
 value_along [] d = Some d
 value_along (level ∷ levels) d = option_and_then (value_along levels) (child level d)
 
--- The value at a path of a document.
+-- The value at a path of a document, or `None` if there is none.
 abbrev pub value_at : List ℕ → Data → Option Data
 value_at path d = value_along (levels_of path) d

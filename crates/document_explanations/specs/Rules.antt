@@ -13,20 +13,20 @@ use Rattle.document_explanations.specs.declared.rules.DocumentRule.{DocumentRule
 use Rattle.document_explanations.specs.declared.rules.Shows.{Shows}
 use Rattle.document_explanations.specs.declared.rules.Shows.TheVariants.{Both, Found, Nothing, Wanted}
 
--- The object of the whole document.
+-- The object that is the whole document.
 abbrev pub root_of : DocumentKind → Object
 root_of Specification = object.Specification
 root_of Script = object.Script
 
--- A rule: its number, its text, the limit in bytes that follows the text, and the parts of an explanation that are
--- shown if it is broken.
+-- A rule, with its number, its text, the limit in bytes that follows the text, and the parts of an explanation that are
+-- shown if the rule is broken.
 pub record DocumentRule : Type 0 where
   pub number : ℕ
   pub text : List ℕ
   pub limit : Option ℕ
   pub shows : Shows
 
--- A rule of the code's table as plain data.
+-- A rule of the program's table as plain data.
 abbrev pub rule_read : TableRule → DocumentRule
 rule_read r = record { number = r.number; text = r.text.now; limit = r.limit; shows = r.shows }
 
@@ -34,11 +34,11 @@ rule_read r = record { number = r.number; text = r.text.now; limit = r.limit; sh
 abbrev pub says : ℕ → List ℕ → Shows → DocumentRule
 says number text shows = record { number = number; text = text; limit = None; shows = shows }
 
--- The rule that a document is not too long.
+-- The rule that a document is not longer than a limit.
 abbrev pub has_limit : ℕ → ℕ → DocumentRule
 has_limit number limit = record { number = number; text = codes "more than"; limit = Some limit; shows = Nothing }
 
--- Rules 1 to 9, which both documents have.
+-- Rules 1 to 9, which both kinds of document have.
 abbrev pub common_rules : List DocumentRule
 common_rules =
     says rule.NO_JSON_TEXT (codes "no JSON text") Nothing ∷
@@ -52,7 +52,7 @@ common_rules =
     says specification_rule.UNKNOWN_VERSION (codes "no such version") Both ∷
     []
 
--- The further rules of a document.
+-- The rules of a kind of document that the other kind does not have.
 abbrev pub own_rules : DocumentKind → List DocumentRule
 own_rules Specification =
     says specification_rule.NO_NAME (codes "no name") Both ∷
@@ -81,31 +81,31 @@ own_rules Script =
     says script_rule.WRONG_HALT (codes "a third halt of a processor, or a second one without a restart up to its frame") Found ∷
     []
 
--- The rule with this number among rules.
+-- The first rule of a list with this number, or `None` if there is none.
 abbrev pub rule_in : List DocumentRule → ℕ → Option DocumentRule
 rule_in [] number = None
 rule_in (rule ∷ rules) number = if rule.number == number then Some rule else rule_in rules number
 
--- The rule of a document with this number.
+-- The rule with this number of a kind of document, or `None` if there is none.
 abbrev pub broken_rule : DocumentKind → ℕ → Option DocumentRule
 broken_rule kind number = option_or (rule_in common_rules number) (rule_in (own_rules kind) number)
 
--- A limit in bytes.
+-- The text of a limit in bytes, preceded by a space.
 abbrev pub limit_text : ℕ → List ℕ
 limit_text limit = codes " " ++ decimal limit ++ codes " bytes"
 
--- The words of a rule.
+-- The words of a rule, including its limit if there is one.
 abbrev pub rule_words : DocumentRule → List ℕ
 rule_words rule = rule.text ++ option_map_or limit_text rule.limit []
 
--- The expected value is shown.
+-- Whether the expected value is shown.
 abbrev pub shows_wanted : Shows → Bool
 shows_wanted Nothing = false
 shows_wanted Wanted = true
 shows_wanted Found = false
 shows_wanted Both = true
 
--- The value that was found is shown.
+-- Whether the value that was found is shown.
 abbrev pub shows_found : Shows → Bool
 shows_found Nothing = false
 shows_found Wanted = false

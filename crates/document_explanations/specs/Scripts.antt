@@ -1,4 +1,4 @@
--- The answer to the file of a script, with the lines that follow the first one.
+-- The answer to the file of a script, in which a broken rule is explained.
 use Rattle.std.specs.Prelude.{◌≡◌, ℕ, List, [], ◌++◌, None, Some}
 use Rattle.scram_types.specs.declared.limits.TheConstants.{MAX_SCRIPT_BYTES}
 use Rattle.scram_types.specs.Scripts.{ScriptParts}
@@ -12,25 +12,26 @@ use Rattle.flight_forms.specs.Lines.{script_line}
 use Rattle.document_explanations.specs.Explanations.{explanation}
 use Rattle.document_explanations.specs.declared.rules.DocumentKind.TheVariants.{Script}
 
--- The lines that follow the first one if these bytes break a rule of scripts for a specification.
+-- The lines that follow the first line if the bytes break a rule of scripts for a specification.
 abbrev pub script_explanation : Parts → DocFault → List ℕ → List ℕ
 script_explanation spec fault bytes = explanation Script (Some spec) fault.rule fault.path (document bytes)
 
--- The line of a fault of a script in these bytes, with the lines that follow it.
+-- The line for a fault of a script in these bytes, followed by its explanation.
 abbrev pub explained_script_text : Parts → DocFault → List ℕ → List ℕ
 explained_script_text spec fault bytes = script_line fault ++ script_explanation spec fault bytes
 
--- The bytes are refused as a script for a specification, with the first line and the lines that follow it.
+-- The bytes are not a script for the specification, and `refusal` has the status and the lines for their fault.
 pub record BreaksExplainedScript (spec : Parts) (refusal : ℕ × List ℕ) (bytes : List ℕ) : Type 0 where
   pub first : ℕ × List ℕ
   pub breaks : BreaksScript spec first bytes
   pub text : refusal ≡ (first.0, first.1 ++ script_explanation spec breaks.fault bytes)
 
--- The answer to a script with too many bytes.
+-- The status and the lines with which a script of too many bytes is refused.
 abbrev pub long_explained_script : ℕ × List ℕ
 long_explained_script = (long_script.0, long_script.1 ++ explanation Script None rule.TOO_LONG [] None)
 
--- The answer to the file of this name, which is `Then` for the script in it. A broken rule is explained.
+-- The answer to the name of a script's file, where `Then` gives the answer to the script in the file. A broken rule is
+-- explained.
 abbrev pub AsksExplainedScript : Parts → List ℕ → (ScriptParts → Answer) → Answer
 AsksExplainedScript spec name Then =
     AnswersFile MAX_SCRIPT_BYTES long_explained_script name (AnswersDocument (SaysScript spec) (BreaksExplainedScript spec) Then)

@@ -1,4 +1,4 @@
--- The answer to the file of a specification, with the lines that follow the first one.
+-- The answer to the file of a specification, in which a broken rule is explained.
 use Rattle.std.specs.Prelude.{◌≡◌, ℕ, List, [], ◌++◌, None}
 use Rattle.scram_types.specs.declared.limits.TheConstants.{MAX_SPECIFICATION_BYTES}
 use Rattle.scram_types.specs.Specification.{Parts}
@@ -12,26 +12,27 @@ use Rattle.form_base.specs.Specifications.{BreaksSpecification, SaysSpecificatio
 use Rattle.document_explanations.specs.Explanations.{explanation}
 use Rattle.document_explanations.specs.declared.rules.DocumentKind.TheVariants.{Specification}
 
--- The lines that follow the first one if these bytes break a rule of specifications.
+-- The lines that follow the first line if the bytes break a rule of specifications.
 abbrev pub specification_explanation : DocFault → List ℕ → List ℕ
 specification_explanation fault bytes = explanation Specification None fault.rule fault.path (document bytes)
 
--- The line of a fault of a specification in these bytes, with the lines that follow it.
+-- The line for a fault of a specification in these bytes, followed by its explanation.
 abbrev pub explained_specification_text : SpecFault → List ℕ → List ℕ
 explained_specification_text fault bytes =
     specification_line fault ++ explanation Specification None fault.rule fault.path (document bytes)
 
--- The bytes are refused as a specification, with the first line and the lines that follow it.
+-- The bytes are not a specification, and `refusal` has the status and the lines for their fault.
 pub record BreaksExplainedSpecification (refusal : ℕ × List ℕ) (bytes : List ℕ) : Type 0 where
   pub first : ℕ × List ℕ
   pub breaks : BreaksSpecification first bytes
   pub text : refusal ≡ (first.0, first.1 ++ specification_explanation breaks.fault bytes)
 
--- The answer to a specification with too many bytes.
+-- The status and the lines with which a specification of too many bytes is refused.
 abbrev pub long_explained_specification : ℕ × List ℕ
 long_explained_specification = (long_specification.0, long_specification.1 ++ explanation Specification None rule.TOO_LONG [] None)
 
--- The answer to the file of this name, which is `Then` for the specification in it. A broken rule is explained.
+-- The answer to the name of a specification's file, where `Then` gives the answer to the specification in the file. A
+-- broken rule is explained.
 abbrev pub AsksExplainedSpecification : List ℕ → (Parts → Answer) → Answer
 AsksExplainedSpecification name Then =
     AnswersFile MAX_SPECIFICATION_BYTES long_explained_specification name (AnswersDocument SaysSpecification BreaksExplainedSpecification Then)

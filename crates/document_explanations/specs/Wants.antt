@@ -22,33 +22,33 @@ use Rattle.document_explanations.specs.declared.objects.Wanted.{Wanted}
 use Rattle.document_explanations.specs.declared.objects.Wanted.TheVariants as wanted
 use Rattle.spec_members.specs.Names.{name_of_proc}
 
--- The texts after the first, each preceded by a comma and a space.
+-- The texts that follow the first, each preceded by a comma and a space.
 abbrev pub further_listed : List (List ℕ) → List ℕ
 further_listed [] = []
 further_listed (text ∷ texts) = codes ", " ++ text ++ further_listed texts
 
--- Texts joined by a comma and a space.
+-- The texts, separated by a comma and a space.
 abbrev pub listed : List (List ℕ) → List ℕ
 listed [] = []
 listed (text ∷ texts) = text ++ further_listed texts
 
--- The versions that have a member, or empty if all have it.
+-- The versions that have a member, in words, or the empty text if all versions have it.
 abbrev pub versions_text : Versions → List ℕ
 versions_text versions.All = []
 versions_text versions.SecondOn = codes " where scram is 2 or 3"
 versions_text versions.Third = codes " where scram is 3"
 versions_text versions.Second = codes " where scram is 2"
 
--- The words for a member of an object.
+-- The name of a member, and in words the versions that have it.
 abbrev pub member_wanted : Member → List ℕ
 member_wanted member = member.name ++ versions_text member.versions
 
--- A name preceded by a space, or empty if there is none.
+-- A name preceded by a space, or the empty text if there is no name.
 abbrev pub name_spaced : Option (List ℕ) → List ℕ
 name_spaced None = []
 name_spaced (Some name) = codes " " ++ name
 
--- The names that there are, each preceded by a space.
+-- The names in a list of optional names, each preceded by a space.
 abbrev pub spaced : List (Option (List ℕ)) → List ℕ
 spaced [] = []
 spaced (name ∷ names) = name_spaced name ++ spaced names
@@ -61,47 +61,47 @@ variables_spaced variables = spaced (map (λ (variable : Variable). variable.nam
 abbrev pub kind_words : Kind → List ℕ
 kind_words kind = kind.name
 
--- A kind with its modes.
+-- The name of a kind, followed by the names of its modes.
 abbrev pub kind_and_modes : Kind → List ℕ
 kind_and_modes kind = kind.name ++ codes ":" ++ spaced kind.modes
 
--- A kind with the variables that it uses.
+-- The name of a kind, followed by the names of the variables that it uses.
 abbrev pub variables_text : Kind → List ℕ
 variables_text kind = kind.name ++ codes ":" ++ variables_spaced kind.variables
 
--- Names, each preceded by a space.
+-- The names, each preceded by a space.
 abbrev pub names_spaced : List (List ℕ) → List ℕ
 names_spaced [] = []
 names_spaced (name ∷ names) = codes " " ++ name ++ names_spaced names
 
--- A factor with its values.
+-- The name of a factor, followed by the names of its values.
 abbrev pub factor_and_values : Factor → List ℕ
 factor_and_values factor = factor.name ++ codes ":" ++ names_spaced factor.values
 
--- The factors with their values, or `-` if there are none.
+-- The names of the factors and of their values, or `-` if there are no factors.
 abbrev pub factors_and_values : List Factor → List ℕ
 factors_and_values [] = codes "-"
 factors_and_values (factor ∷ factors) = listed (map factor_and_values (factor ∷ factors))
 
--- The factors of the specification that a script is for.
+-- The factors of the specification that a script is for, or the empty list if there is no specification.
 abbrev pub script_factors : Option Parts → List Factor
 script_factors spec = option_map_or (λ (spec : Parts). spec.factors) spec []
 
--- The processors of the specification that a script is for.
+-- The processors of the specification that a script is for, or the empty list if there is no specification.
 abbrev pub script_procs : Option Parts → List Proc
 script_procs spec = option_map_or (λ (spec : Parts). spec.procs) spec []
 
--- The step of a frame after the mark.
+-- The step of a frame that follows the mark, or 0 if there is no specification.
 abbrev pub step_after_mark : Option Parts → ℕ
 step_after_mark spec = option_map_or (λ (spec : Parts). words spec + 1) spec 0
 
--- The words for the number of elements of a list.
+-- The expected number of elements of a list, in words.
 abbrev pub length_wanted : Length → List ℕ
 length_wanted (extent.Within least most) = decimal least ++ codes " to " ++ decimal most ++ codes " elements"
 length_wanted extent.Halts =
     codes "0 to " ++ decimal (halts_limit First) ++ codes " elements, 0 to " ++ decimal (halts_limit Second) ++ codes " where scram is 2"
 
--- The words for a number in a document, in a script for a specification if there is one.
+-- The expected number, in words. `spec` is the specification that a script is for.
 abbrev pub number_text : Option Parts → Number → List ℕ
 number_text spec number.SpecificationVersion = codes "1, 2 or 3"
 number_text spec number.ScriptVersion = codes "1 or 2"
@@ -110,7 +110,7 @@ number_text spec (number.Signed least greatest) = signed_decimal least ++ codes 
 number_text spec (number.Frame least) = decimal least ++ codes " to frames - 1"
 number_text spec number.Step = codes "0 to " ++ decimal (step_after_mark spec)
 
--- The words for a text in a document, in a script for a specification if there is one.
+-- The expected text, in words. `spec` is the specification that a script is for.
 abbrev pub text_text : Option Parts → Text → List ℕ
 text_text spec text.Name = codes "a name, 1 to 16 of a-z 0-9 _, a letter first"
 text_text spec text.Processor = codes "the name of a processor"
@@ -126,7 +126,7 @@ text_text spec text.Policy = codes "retarget or settle"
 text_text spec text.ScriptFactor = factors_and_values (script_factors spec)
 text_text spec text.ScriptProcessor = listed (map name_of_proc (script_procs spec))
 
--- The words for the expected value, in a script for a specification if there is one.
+-- The expected value, in words. `spec` is the specification that a script is for.
 abbrev pub wanted_text : Option Parts → Wanted → List ℕ
 wanted_text spec (wanted.Object object) = listed (map member_wanted (members_of object))
 wanted_text spec (wanted.List length element) = length_wanted length

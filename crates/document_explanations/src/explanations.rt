@@ -1,4 +1,4 @@
-//! The lines that follow the first line if a document breaks a rule.
+//! The lines that follow the first line of the refusal of a document that breaks a rule.
 
 ghost use Rattle.std.specs.Prelude.{◌≡◌, ◌++◌, IfOk, OnOk, codes, option_map, string_bytes};
 ghost use Rattle.serde_json.specs.View.{view};
@@ -19,7 +19,7 @@ use std::alloc::Global;
 #[derive(Clone, Copy)]
 pub struct BrokenDocument<'a> {
     pub kind: DocumentKind,
-    /// The specification that a script is for.
+    /// The specification that a script is for, or `None` if the document is a specification.
     pub spec: Option<&'a Spec>,
     /// The path of the value where the rule is broken.
     pub path: &'a Path,
@@ -27,7 +27,7 @@ pub struct BrokenDocument<'a> {
     pub bytes: &'a [u8],
 }
 
-/// Appends the lines that follow the first one if a document breaks the rule of this number.
+/// Appends the lines that follow the first line if a document breaks the rule with this number.
 ///
 /// # Errors
 ///

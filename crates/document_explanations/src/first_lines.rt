@@ -1,4 +1,4 @@
-//! The first lines of refusals, which may have any length.
+//! The first lines of refusals, in buffers that grow.
 
 ghost use Rattle.std.specs.Prelude.{◌≡◌, ◌++◌, OnOk};
 ghost use Rattle.trace_text.specs.Names.{further_joined};

@@ -1,4 +1,4 @@
-//! The parts of a document that are shown if it breaks a rule.
+//! The parts of a document that are shown if the document breaks a rule.
 
 ghost use Rattle.std.specs.Prelude.{◌≡◌, ◌++◌, [], IfOk, OnOk, codes, decimal, string_bytes, if◌then◌else◌};
 ghost use Rattle.json.specs.Print.{quoted};
@@ -26,7 +26,7 @@ fn has_version(document: &Value, number: u64) -> bool
     }
 }
 
-// Returns whether the version of a document is one of these versions.
+// Returns whether the version of a document is one of `versions`.
 fn is_version_of(document: &Value, versions: Versions) -> bool
     ensures { result ≡ is_version_of (view document.now) versions }
 {
@@ -38,7 +38,7 @@ fn is_version_of(document: &Value, versions: Versions) -> bool
     }
 }
 
-// Returns whether the table of an object of a document has a member of this name.
+// Returns whether the table of an object of a document has a member with this name.
 fn is_known(document: &Value, object: Object, name: &str) -> bool
     ensures { result ≡ is_known (view document.now) object name.now }
 {
@@ -54,7 +54,7 @@ fn quoted(alloc: Global, name: &String) -> Result<String, NoMemory>
     Ok(Value::String(name.clone()?).to_string(alloc)?)
 }
 
-// Appends a name as a JSON text, preceded by a comma and a space unless it is the first.
+// Appends a name as a JSON text, preceded by a comma and a space if `is_later` is `true`.
 fn add_name(alloc: Global, lines: &mut Lines, is_later: bool, name: &String) -> Result<(), NoMemory>
     ensures { OnOk result (lines.new ≡ lines.old ++ (if is_later then codes ", " else []) ++ quoted (string_bytes name.now)) }
 {
@@ -65,7 +65,7 @@ fn add_name(alloc: Global, lines: &mut Lines, is_later: bool, name: &String) -> 
     lines.push(text.as_str())
 }
 
-// Returns the names of the members that are not in the table of an object.
+// Returns the names of the members that are not in the table of their object, as JSON texts.
 #[tactic(auto, using(crate::proofs::Listing::nothing_left, crate::proofs::Listing::one_more))]
 fn further_text(
     alloc: Global,
@@ -130,7 +130,8 @@ fn elements_text(alloc: Global, value: &Value) -> Result<String, NoMemory>
     }
 }
 
-/// Returns the part of a document that is shown if a rule is broken at a path.
+/// Returns the text that is shown for the value at a path where a rule is broken, or the empty text if the document has
+/// no such path.
 ///
 /// # Errors
 ///
@@ -156,7 +157,7 @@ pub fn found_text_at(
     }
 }
 
-/// Returns the text, or its first 60 characters and two dots if it has more.
+/// Returns the text itself if it has at most 60 characters, and otherwise its first 60 characters and two dots.
 ///
 /// # Errors
 ///

@@ -1,14 +1,14 @@
-//! Laws of explanations. Each function's contract is a law.
+//! The laws of explanations. The contract of each function is a law.
 
 ghost use Rattle.document_explanations.specs.Laws.{FoundIsShort, TablesAreRead};
 
-/// States that the table of a specification has the members that the readers need in the version of a document. For
+/// States that the table of a specification has the members that the readers need for the version of a document. For
 /// specifications and scripts, the number of members is the one that the readers allow.
 pub fn tables_are_read()
     ensures { TablesAreRead }
 {}
 
-/// States that at most 62 characters of a value that was found are shown.
+/// States that at most 62 characters are shown of any text.
 pub fn found_is_short()
     ensures { FoundIsShort }
 {}

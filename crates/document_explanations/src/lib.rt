@@ -1,4 +1,4 @@
-//! Explanations of the rules that documents break: the rule in words, the expected value and the value that was found.
+//! Explanations of broken rules. An explanation has the rule in words, the expected value and the value that was found.
 #![tactic(auto)]
 
 pub mod explanations;

@@ -69,7 +69,7 @@ impl Lines {
         self.push(buffer.format(*number))
     }
 
-    /// Returns the text.
+    /// Returns the text in the buffer.
     pub fn into_text(self) -> String
         ensures { string_bytes result ≡ self }
     {

@@ -11,7 +11,7 @@ use app_model::table::{
 };
 use scram_types::{Factor, Name, NoMemory, Proc};
 
-/// The way to show the items of a list.
+/// A way to show the items of a list.
 pub trait Shown<T> {
     ghost use Rattle.std.specs.Prelude.{◌≡◌, ◌++◌, List, ℕ, OnOk};
 
@@ -23,7 +23,7 @@ pub trait Shown<T> {
         ensures { OnOk result (lines.new ≡ lines.old ++ shown item.now) };
 }
 
-/// Appends items, joined by a comma and a space.
+/// Appends the texts of the items, separated by a comma and a space.
 ///
 /// # Errors
 ///
@@ -50,7 +50,7 @@ fn add_further<T, S: Shown<T>>(lines: &mut Lines, items: &[T]) -> Result<(), NoM
     Ok(())
 }
 
-/// A member of an object, with the versions that have it.
+/// The way to show a member: its name, and the versions that have it.
 pub struct MemberText;
 
 impl Shown<Member> for MemberText {
@@ -91,7 +91,7 @@ pub fn kinds() -> &'static [Kind]
     KINDS
 }
 
-/// The name of a kind.
+/// The way to show a kind: its name.
 pub struct KindText;
 
 impl Shown<Kind> for KindText {
@@ -105,7 +105,7 @@ impl Shown<Kind> for KindText {
     }
 }
 
-/// A kind and its modes.
+/// The way to show a kind with its modes.
 pub struct ModesText;
 
 impl Shown<Kind> for ModesText {
@@ -143,7 +143,7 @@ fn add_spaced(lines: &mut Lines, name: Option<&'static str>) -> Result<(), NoMem
     }
 }
 
-/// A kind with the variables that it uses.
+/// The way to show a kind with the variables that it uses.
 pub struct VariablesText;
 
 impl Shown<Kind> for VariablesText {
@@ -168,7 +168,7 @@ fn add_variables(lines: &mut Lines, variables: &[Variable]) -> Result<(), NoMemo
     Ok(())
 }
 
-/// The name of a processor.
+/// The way to show a processor: its name.
 pub struct ProcText;
 
 impl Shown<Proc> for ProcText {
@@ -181,7 +181,7 @@ impl Shown<Proc> for ProcText {
     }
 }
 
-/// A factor and its values.
+/// The way to show a factor with its values.
 pub struct FactorText;
 
 impl Shown<Factor> for FactorText {

@@ -1,4 +1,4 @@
-//! The answer to a document with too many bytes, made without memory.
+//! The lines for a document with too many bytes, made without allocating.
 
 ghost use Rattle.std.specs.Prelude.{◌≡◌, ◌++◌, ◌≤◌, [], codes, length};
 ghost use Rattle.form_base.specs.Lines.{rule_text};

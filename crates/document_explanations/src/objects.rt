@@ -1,4 +1,4 @@
-//! The objects of specifications and scripts: the tables of their members, and the value that is expected of each.
+//! The objects of specifications and scripts, with the tables of their members and the expected value of each.
 
 ghost use Rattle.std.specs.Prelude.{◌≡◌, map, option_map};
 ghost use Rattle.document_explanations.specs.Objects.{member_named, member_read, members_of};
@@ -25,7 +25,7 @@ pub enum Object {
     Factor,
     /// A rule of the choice table.
     Rule,
-    /// A value that a rule or a demand requires of a factor.
+    /// The value of a factor that a rule or a demand requires.
     RequiredValue,
     Bound,
     Goal,
@@ -59,11 +59,11 @@ pub enum Versions {
 #[derive(Clone, Copy)]
 pub enum Length {
     Within { least: usize, most: usize },
-    /// From none to the maximum number of halts in the version of the script.
+    /// From 0 to the maximum number of halts, which depends on the version of the script.
     Halts,
 }
 
-/// A number.
+/// An expected number.
 #[derive(Clone, Copy)]
 pub enum Number {
     /// The version of a specification.
@@ -74,51 +74,51 @@ pub enum Number {
     Whole { least: u32, greatest: u32 },
     /// A number from `least` to `greatest`, which may be negative.
     Signed { least: i64, greatest: i64 },
-    /// A frame of a script, from `least` on.
+    /// A frame of a script that is at least `least`.
     Frame { least: u32 },
     /// The step of a frame at which a processor halts.
     Step,
 }
 
-/// A text.
+/// An expected text.
 #[derive(Clone, Copy)]
 pub enum Text {
-    /// Gives a name.
+    /// A new name.
     Name,
-    /// Names a processor of the same document.
+    /// The name of a processor of the same document.
     Processor,
-    /// Names an application of the same document.
+    /// The name of an application of the same document.
     Application,
-    /// Names a configuration of the same document.
+    /// The name of a configuration of the same document.
     Configuration,
-    /// Names a configuration of the same document, or is `*`.
+    /// The name of a configuration of the same document, or `*`.
     ConfigurationOrAny,
-    /// Names a factor of the same document.
+    /// The name of a factor of the same document.
     Factor,
-    /// Names a value of a factor of the same document.
+    /// The name of a value of a factor of the same document.
     Value,
-    /// Names a kind of application.
+    /// The name of a kind of application.
     Kind,
-    /// Names a mode of an application.
+    /// The name of a mode of an application.
     Mode,
-    /// Names a variable of an application.
+    /// The name of a variable of an application.
     Variable,
-    /// Names a policy.
+    /// The name of a policy.
     Policy,
-    /// Names a factor of the specification that a script is for, or a value of it.
+    /// The name of a factor of the specification that a script is for, or the name of a value of the factor.
     ScriptFactor,
-    /// Names a processor of the specification that a script is for.
+    /// The name of a processor of the specification that a script is for.
     ScriptProcessor,
 }
 
-/// An element of a list.
+/// The kind of the elements of a list.
 #[derive(Clone, Copy)]
 pub enum Element {
     Object(Object),
     Text(Text),
 }
 
-/// The value that is expected at a place of a document.
+/// The expected value at a place of a document.
 #[derive(Clone, Copy)]
 pub enum Wanted {
     Object(Object),
@@ -190,16 +190,16 @@ macro_rules! object {
     };
 }
 
-/// Processors, by name.
+/// A list of processor names, which may be empty.
 const PROCESSORS: Wanted = list!(0, MAX_PROCESSORS, Element::Text(Text::Processor));
 
-/// Applications, by name.
+/// A list of application names, which may be empty.
 const APPLICATIONS: Wanted = list!(0, MAX_APPLICATIONS, Element::Text(Text::Application));
 
-/// Configurations, by name.
+/// A list of configuration names, which may be empty.
 const CONFIGURATIONS: Wanted = list!(0, MAX_CONFIGURATIONS, Element::Text(Text::Configuration));
 
-/// Values that are required of factors.
+/// A list of required values of factors, which may be empty.
 const REQUIRED_VALUES: Wanted = list!(0, MAX_FACTORS, object!(RequiredValue));
 
 const LOAD: Wanted = whole!(0, MAX_LOAD);
@@ -398,7 +398,7 @@ pub fn members_of(object: Object) -> &'static [Member]
     }
 }
 
-/// Returns the member of an object with this name, or `None` if it has none.
+/// Returns the member with this name of an object, or `None` if there is none.
 pub fn find_member(object: Object, name: &str) -> Option<Member>
     ensures { option_map member_read result ≡ member_named (members_of object) name.now }
 {

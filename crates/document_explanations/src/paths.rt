@@ -1,4 +1,4 @@
-//! Paths, the value that is expected at a path, and the value there.
+//! Paths, the expected value at a path, and the value that was found there.
 
 ghost use Rattle.std.specs.Prelude.{◌≡◌, ◌∷◌, ◌<◌, [], IfSome, MatchOption, length, option_and_then, option_map};
 ghost use Rattle.serde_json.specs.View.{view};
@@ -12,10 +12,10 @@ use scram_doc::{Path, rule};
 use serde_json::Value;
 use trace_text::numbers::read_number;
 
-// The end of the range of the indexes in a path.
+// The exclusive upper limit of an index in a path.
 const INDEX_END: u64 = 100_000;
 
-// Returns the levels of a path with dots between them, which is empty for the whole document.
+// Returns a path without its first dot. The text is empty if the path is that of the whole document.
 fn after_dot(path: &Path) -> &str
     ensures { result.now ≡ after_dot path.now }
 {
@@ -57,7 +57,7 @@ fn wanted_element(element: Element) -> Wanted
     }
 }
 
-// Returns the value that is expected above the last level, and the last level.
+// Returns the expected value above the last level, and the last level, or `None` if there are no such levels.
 fn descend(start: Wanted, levels: &str) -> Option<(Wanted, &str)>
     ensures whole { wanted_along (pieces_of 46 levels.now) start ≡ option_and_then (λ end. wanted_below end.0 end.1.now) result }
     ensures above { wanted_along (all_but_last (pieces_of 46 levels.now)) start ≡ option_map (λ end. end.0) result }
@@ -71,7 +71,7 @@ fn descend(start: Wanted, levels: &str) -> Option<(Wanted, &str)>
     Some((wanted, rest))
 }
 
-/// Returns the value that is expected at a path where a rule of a document is broken, or at its object if a member is
+/// Returns the expected value at a path where a rule of a document is broken, or at the path's object if a member is
 /// missing. Returns `None` if the document has no such path.
 pub fn wanted_at(kind: DocumentKind, rule: u8, path: &Path) -> Option<Wanted>
     ensures { result ≡ wanted_at kind rule path.now }
@@ -89,7 +89,8 @@ pub fn wanted_at(kind: DocumentKind, rule: u8, path: &Path) -> Option<Wanted>
     }
 }
 
-// Returns the member of an object or the element of a list with the name or the index of a level.
+// Returns the member whose name is a level, or else the element whose index is the level, or `None` if there is
+// neither.
 fn child<'a>(v: &'a Value, level: &str) -> Option<&'a Value>
     ensures { option_map (λ d. view d.now) result ≡ child level.now (view v.now) }
 {

@@ -19,7 +19,7 @@ pub enum DocumentKind {
 }
 
 impl DocumentKind {
-    /// Returns the object of the whole document.
+    /// Returns the object that is the whole document.
     pub fn root(self) -> Object
         ensures { result ≡ root_of self }
     {
@@ -47,7 +47,7 @@ pub enum Shows {
 #[derive(Clone, Copy)]
 pub struct DocumentRule {
     pub number: u8,
-    /// The text of the rule. If the rule has a limit, the limit in bytes follows the text.
+    /// The text of the rule, which the limit in bytes follows if there is one.
     pub text: &'static str,
     pub limit: Option<usize>,
     pub shows: Shows,
@@ -67,7 +67,7 @@ macro_rules! rule {
     };
 }
 
-/// Rules 1 to 9, which both documents have.
+/// Rules 1 to 9, which both kinds of document have.
 const COMMON: &[DocumentRule] = &[
     rule!(rule::NO_JSON_TEXT, "no JSON text", Nothing),
     rule!(rule::NO_OBJECT, "an object is wanted", Both),
@@ -211,7 +211,7 @@ fn rule_in(rules: &[DocumentRule], number: u8) -> Option<DocumentRule>
     None
 }
 
-/// Returns the rule of a document with this number, or `None` if there is none.
+/// Returns the rule with this number of a kind of document, or `None` if there is none.
 pub fn broken_rule(kind: DocumentKind, number: u8) -> Option<DocumentRule>
     ensures { option_map rule_read result ≡ broken_rule kind number }
 {
@@ -221,7 +221,7 @@ pub fn broken_rule(kind: DocumentKind, number: u8) -> Option<DocumentRule>
     }
 }
 
-/// Appends the words of a rule.
+/// Appends the words of a rule, including its limit if there is one.
 ///
 /// # Errors
 ///

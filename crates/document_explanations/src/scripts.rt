@@ -20,7 +20,7 @@ use scram_types::limits::MAX_SCRIPT_BYTES;
 use scram_types::{NoMemory, Script, Spec};
 use std::alloc::Global;
 
-/// The document of a script for a specification, with an explanation if it breaks a rule.
+/// The kind of document that holds a script for a specification. A broken rule is explained.
 #[derive(Clone, Copy)]
 pub struct ExplainedScript<'a> {
     pub spec: &'a Spec,
@@ -46,7 +46,7 @@ fn explain<'a>(
     Ok(lines.into_text())
 }
 
-// Returns the refusal of bytes that break a rule, or the refusal for lack of memory if there is none for its lines.
+// Returns the refusal of bytes that break a rule, or an out-of-memory refusal if its lines cannot be allocated.
 fn refuse(alloc: Global, spec: &Spec, fault: &ScriptFault, bytes: &[u8]) -> Refusal
     ensures { (told result ≡ (BROKEN_SCRIPT, explained_script_text spec.now fault.now bytes.now)) ⊎ IsOutOfMemory (told result) }
 {

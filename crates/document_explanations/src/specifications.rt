@@ -20,7 +20,7 @@ use scram_types::limits::MAX_SPECIFICATION_BYTES;
 use scram_types::{NoMemory, Spec};
 use std::alloc::Global;
 
-/// The document of a specification, with an explanation if it breaks a rule.
+/// The kind of document that holds a specification. A broken rule is explained.
 #[derive(Clone, Copy)]
 pub struct ExplainedSpecification;
 
@@ -39,7 +39,7 @@ fn explain<'a>(alloc: Global, fault: &'a SpecFault, bytes: &'a [u8]) -> Result<S
     Ok(lines.into_text())
 }
 
-// Returns the refusal of bytes that break a rule, or the refusal for lack of memory if there is none for its lines.
+// Returns the refusal of bytes that break a rule, or an out-of-memory refusal if its lines cannot be allocated.
 fn refuse(alloc: Global, fault: &SpecFault, bytes: &[u8]) -> Refusal
     ensures { (told result ≡ (BROKEN_SPECIFICATION, explained_specification_text fault.now bytes.now)) ⊎ IsOutOfMemory (told result) }
 {

@@ -12,7 +12,7 @@ use app_model::table::Kind;
 use scram_types::limits::MAX_PROCESSORS;
 use scram_types::{Factor, NoMemory, Proc, Spec};
 
-/// Appends the words for the expected value, in a script for the specification `spec` if there is one.
+/// Appends the expected value, in words. `spec` is the specification that a script is for.
 ///
 /// # Errors
 ///

@@ -1,4 +1,4 @@
--- The answers to `explain`.
+-- The answers of the form `explain`.
 use Rattle.std.specs.Prelude.{◌≡◌, ◌≢◌, ℕ, List, []}
 use Rattle.scram_types.specs.Scripts.{ScriptParts}
 use Rattle.scram_types.specs.Specification.{Parts}
@@ -22,31 +22,32 @@ SpecificationAnswers spec = WithoutFiles (Gives (explain_answer spec (first_refu
 abbrev pub MissionAnswers : Parts → ScriptParts → Answer
 MissionAnswers spec script = WithoutFiles (Gives (script_answer spec script (first_refusal spec)))
 
--- The answer to `explain` with the name of a specification's file.
+-- The answer of `explain` to the name of a specification's file.
 abbrev pub ExplainAnswers : List ℕ → Answer
 ExplainAnswers specification = AsksExplainedSpecification specification SpecificationAnswers
 
--- The answer to `explain` with the names of a specification's file and of a script's file.
+-- The answer of `explain` to the names of the files of a specification and a script.
 abbrev pub ExplainScriptAnswers : List ℕ → List ℕ → Answer
 ExplainScriptAnswers specification script =
     AsksExplainedSpecification specification (λ (spec : Parts). AsksExplainedScript spec script (MissionAnswers spec))
 
--- The status of the explanation is not that of an unread file or of unwritten output.
+-- The status of an explanation is neither that of an unread file nor that of unwritten output.
 pub record HasNoFault (explanation : Explanation) : Type 0 where
   pub read : explanation.code ≢ UNREAD_FILE
   pub written : explanation.code ≢ UNWRITTEN_OUTPUT
 
--- The answer has the status and the text of the explanation.
+-- The status and the text are those of an explanation.
 abbrev pub TellsExplanation : Explanation → ℕ → List ℕ → Type 0
 TellsExplanation explanation = Gives (explanation.code, explanation.text.items)
 
--- If `explain` ends with status 0, it has read no other file, the specification is accepted, and the text is its line
--- followed by the lines of its idle parts.
+-- If `explain` with a specification ends with status 0, it has read no further file, and the specification is accepted.
+-- The text is the line of the specification, followed by the lines of its idle parts.
 abbrev pub AssuresExplain : List ℕ → History → List ℕ → Type 0
 AssuresExplain specification =
     OfSpecification specification (λ (spec : Parts) (reads : History) (text : List ℕ). (reads ≡ []) × Accepts spec × (text ≡ accepted_text spec))
 
--- The same holds with a script, which makes a mission with the specification.
+-- If `explain` with a specification and a script ends with status 0, the same holds for the specification, and the two
+-- make a mission.
 abbrev pub AssuresExplainScript : List ℕ → List ℕ → History → List ℕ → Type 0
 AssuresExplainScript specification script =
     OfSpecification specification (λ (spec : Parts). OfDocument (SaysScript spec) script (λ (script : ScriptParts) (reads : History) (text : List ℕ).

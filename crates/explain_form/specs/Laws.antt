@@ -1,4 +1,4 @@
--- The law of the lines on the failure assumption.
+-- The law of the lines about the failure assumption.
 use Rattle.std.specs.Prelude.{◌≡◌, ℕ, suc}
 use Rattle.scram_types.specs.Bits.{count_below}
 use Rattle.scram_types.specs.Scripts.{ScriptParts}
@@ -6,7 +6,8 @@ use Rattle.scram_types.specs.Specification.{Parts}
 use Rattle.fault_script.specs.Assumption.{changes_in_window}
 use Rattle.explain_form.specs.Outsides.{is_change_told}
 
--- The number of frames that are shown is the number of change frames in the window that ends with the last one.
+-- The number of frames that are shown for frame `last` is the number of change frames in the window that ends with this
+-- frame.
 abbrev pub WindowsAreExact : Type 0
 WindowsAreExact = (spec : Parts) (script : ScriptParts) (last : ℕ)
     → count_below (is_change_told spec script last) (suc last) ≡ changes_in_window spec script last

@@ -10,45 +10,47 @@ use Rattle.fault_script.specs.Environments.{env_at}
 use Rattle.form_base.specs.Lines.{added, names_down}
 use Rattle.form_base.specs.Texts.{texts_below}
 
--- Frame `f` is at or after the beginning of the window that ends with frame `last`.
+-- Whether frame `f` is at or after the start of the window that ends with frame `last`.
 abbrev pub is_in_window : Parts → ℕ → ℕ → Bool
 is_in_window spec last f = nat_lt last (f + spec.window)
 
--- Frame f is in the window that ends with frame `last`, and the environment changes in it.
+-- Whether the environment changes in frame `f`, and `f` is at or after the start of the window that ends with frame
+-- `last`.
 abbrev pub is_change_told : Parts → ScriptParts → ℕ → ℕ → Bool
 is_change_told spec script last f = is_in_window spec last f && is_change_frame spec script f
 
--- The text of a frame after others.
+-- The number of a frame, preceded by a space.
 abbrev pub frame_text : ℕ → List ℕ
 frame_text f = codes " " ++ decimal f
 
--- The text of frame `f`, or empty if it is not shown.
+-- The number of frame `f`, or the empty text if the frame is not shown.
 abbrev pub change_frame_text : Parts → ScriptParts → ℕ → ℕ → List ℕ
 change_frame_text spec script last f = if is_change_told spec script last f then frame_text f else []
 
--- The text of the maximum number of frames that change the environment.
+-- The end of the line of change frames, with the maximum number of them that the assumption allows.
 abbrev pub assumed_line : Parts → List ℕ
 assumed_line spec = codes " change, at most " ++ decimal (spec.changes + 1) ++ codes " in " ++ decimal spec.window ++ codes " frames\n"
 
--- The text of the frames in which the environment changes, of the window that ends with frame `last`.
+-- The start of the line of change frames, with those of the window that ends with frame `last`.
 unfoldable pub change_frames_text : Parts → ScriptParts → ℕ → List ℕ
 change_frames_text spec script last = codes "  frames" ++ texts_below (change_frame_text spec script last) (suc last)
 
--- The text of the change frames, and of the maximum number of them.
+-- The line of the change frames of the window that ends with frame `last`, and the maximum number of them that the
+-- assumption allows.
 abbrev pub too_many_changes_text : Parts → ScriptParts → ℕ → List ℕ
 too_many_changes_text spec script last = change_frames_text spec script last ++ assumed_line spec
 
--- The line of the processors that are down in frame `f`.
+-- The line of the processors that are down in frame `f`, and the maximum number of them that the assumption allows.
 abbrev pub down_line : Parts → ScriptParts → ℕ → List ℕ
 down_line spec script f =
     codes "  down " ++ added (names_down spec.procs (env_at spec script f).up) ++ codes ", at most " ++ decimal spec.halts ++ codes "\n"
 
--- The text that follows a refusal by the failure assumption. For too many halts it has the processors that are down in
--- the frame after `f`. For too many changes it has the frames of the window that ends with `f`.
+-- The reason why a script leaves the failure assumption with frame `f`. For halts, the line has the processors that are
+-- down in the next frame. For changes, the line has the change frames of the window that ends with `f`.
 abbrev pub outside_text_by : Parts → ScriptParts → ℕ → OutsideKind → List ℕ
 outside_text_by spec script f Halts = down_line spec script (f + 1)
 outside_text_by spec script f Changes = too_many_changes_text spec script f
 
--- The text that follows the refusal of a script that leaves the failure assumption.
+-- The reason why a script leaves the failure assumption, which follows the refusal.
 abbrev pub outside_text : Parts → ScriptParts → Outside → List ℕ
 outside_text spec script outside = outside_text_by spec script outside.frame outside.kind

@@ -1,4 +1,4 @@
--- The texts that are printed for a specification and for a script for it.
+-- The texts that `explain` prints.
 use Rattle.std.specs.Prelude.{ℕ, List, ◌++◌, Option, Some, None}
 use Rattle.scram_types.specs.Scripts.{ScriptParts}
 use Rattle.scram_types.specs.Specification.{Parts}
@@ -13,31 +13,32 @@ use Rattle.acceptance_breaks.specs.Texts.{breaks_text}
 use Rattle.idle_parts.specs.Texts.{idle_text}
 use Rattle.explain_form.specs.Outsides.{outside_text}
 
--- The text for an accepted specification: its line, followed by the lines of its idle parts.
+-- The text for an accepted specification, which is its line and the lines of its idle parts.
 abbrev pub accepted_text : Parts → List ℕ
 accepted_text spec = accepted_line spec ++ idle_text spec
 
--- The text for a specification that is not accepted: the refusal, followed by all places at which its condition does
--- not hold.
+-- The text for a specification that is not accepted, which is the refusal and the lines for the places at which its
+-- condition does not hold.
 abbrev pub refused_text : Parts → Shown → List ℕ
 refused_text spec shown = shown_line spec shown ++ breaks_text spec shown.condition
 
--- The text for a script that leaves the failure assumption: the refusal, followed by the reason.
+-- The text for a script that leaves the failure assumption, which is the refusal and its reason.
 abbrev pub unassumed_text : Parts → ScriptParts → Outside → List ℕ
 unassumed_text spec script outside = outside_line outside ++ outside_text spec script outside
 
--- The answer to a specification, given its first refusal, if there is one.
+-- The status and the text for a specification, given its first refusal if there is one.
 abbrev pub explain_answer : Parts → Option Shown → ℕ × List ℕ
 explain_answer spec (Some shown) = (NOT_ACCEPTED, refused_text spec shown)
 explain_answer spec None = (ANSWERED, accepted_text spec)
 
--- The answer to an accepted specification and a script for it, given the first frame with which the script leaves the
--- assumption, if there is one.
+-- The status and the text for an accepted specification and a script for it, given where the script first leaves the
+-- assumption, if it does.
 abbrev pub outside_answer : Parts → ScriptParts → Option Outside → ℕ × List ℕ
 outside_answer spec script (Some outside) = (UNASSUMED_SCRIPT, unassumed_text spec script outside)
 outside_answer spec script None = (ANSWERED, accepted_text spec)
 
--- The answer to a specification and a script for it, given the first refusal of the specification, if there is one.
+-- The status and the text for a specification and a script for it, given the first refusal of the specification if
+-- there is one.
 abbrev pub script_answer : Parts → ScriptParts → Option Shown → ℕ × List ℕ
 script_answer spec script (Some shown) = (NOT_ACCEPTED, refused_text spec shown)
 script_answer spec script None = outside_answer spec script (first_outside spec script)

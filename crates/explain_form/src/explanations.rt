@@ -1,4 +1,4 @@
-//! The text that is printed: the line of an answer, followed by further lines.
+//! The text that `explain` prints, which is the line of an answer and further lines.
 
 ghost use Rattle.std.specs.Prelude.{◌≡◌, ◌++◌, IfOk, Some};
 ghost use Rattle.fault_script.specs.Assumption.{first_outside};
@@ -16,14 +16,14 @@ use spec_forms::make_accepted_line;
 use std::alloc::Global;
 use trace_text::lines::Line;
 
-/// The text that is printed, with its status.
+/// The text to print, and the status with which the command ends.
 #[derive(Drop)]
 pub(crate) struct Explanation {
     pub(crate) code: u8,
     pub(crate) text: Vec<u8>,
 }
 
-// Returns the text of a specification that is accepted.
+// Returns the text for an accepted specification.
 pub(crate) fn make_accepted(alloc: Global, spec: &Spec) -> Result<Vec<u8>, NoMemory>
     ensures { IfOk result (λ text. text.items ≡ accepted_text spec.now) }
 {
@@ -31,7 +31,7 @@ pub(crate) fn make_accepted(alloc: Global, spec: &Spec) -> Result<Vec<u8>, NoMem
     join(alloc, &make_accepted_line(spec), &idle)
 }
 
-// Returns the text of a specification that is not accepted.
+// Returns the text for a specification that is not accepted.
 pub(crate) fn make_refused(alloc: Global, spec: &Spec, shown: &Shown) -> Result<Vec<u8>, NoMemory>
     ensures { IfOk result (λ text. text.items ≡ refused_text spec.now shown.now) }
 {
@@ -39,7 +39,7 @@ pub(crate) fn make_refused(alloc: Global, spec: &Spec, shown: &Shown) -> Result<
     join(alloc, &make_shown_line(spec, shown), &breaks)
 }
 
-// Returns the text of a script that leaves the failure assumption.
+// Returns the text for a script that leaves the failure assumption.
 pub(crate) fn make_unassumed(
     alloc: Global,
     spec: &Spec,
@@ -53,7 +53,7 @@ pub(crate) fn make_unassumed(
     join(alloc, &make_outside_line(outside), &why)
 }
 
-// Returns a line followed by further lines.
+// Returns a line followed by the further lines.
 fn join(alloc: Global, line: &Line, further: &[u8]) -> Result<Vec<u8>, NoMemory>
     ensures { IfOk result (λ text. text.items ≡ line.now ++ further.now) }
 {

@@ -1,4 +1,4 @@
-//! The form `explain`.
+//! The form `explain`, which prints why a specification or a script is refused.
 
 ghost use Rattle.std.specs.Prelude.{◌≡◌, ◌∷◌, [], IfOk, Some};
 ghost use Rattle.coverage_check.specs.Acceptance.{first_refusal};
@@ -25,7 +25,7 @@ use scram_io::{Files, Sink};
 use scram_types::{NoMemory, Script, Spec};
 use std::alloc::Global;
 
-/// Prints why the specification in a file is refused, or its idle parts.
+/// Prints why the specification in a file is refused. If it is accepted, prints its idle parts.
 pub fn explain<F: Files, K: Sink>(
     alloc: Global,
     specification: &str,
@@ -41,8 +41,8 @@ pub fn explain<F: Files, K: Sink>(
     }
 }
 
-/// Prints why the specification in a file or the script in another file is refused, or the idle parts of the
-/// specification.
+/// Prints why the specification in a file or the script in another file is refused. If they make a mission, prints the
+/// idle parts of the specification.
 pub fn explain_script<F: Files, K: Sink>(
     alloc: Global,
     named: MissionFiles<'_>,
@@ -59,7 +59,7 @@ pub fn explain_script<F: Files, K: Sink>(
     }
 }
 
-/// Reads the specification, and makes the text that is printed for it.
+/// Reads the specification, and returns the text that is printed for it, or the refusal if it cannot be read.
 fn read_specification<F: Files>(
     alloc: Global,
     specification: &str,
@@ -74,7 +74,8 @@ fn read_specification<F: Files>(
     }
 }
 
-/// Reads the specification and the script, and makes the text that is printed for them.
+/// Reads the specification and the script, and returns the text that is printed for them, or the refusal if one cannot
+/// be read.
 fn read_both<F: Files>(
     alloc: Global,
     named: MissionFiles<'_>,
@@ -164,7 +165,7 @@ fn explain_refused(alloc: Global, spec: Spec, shown: &Shown) -> Result<Explanati
     }
 }
 
-// Explains an accepted specification and a script that fits it.
+// Returns the explanation of an accepted specification and a script that fits it.
 fn explain_assumed(alloc: Global, spec: &Spec, script: &Script) -> Result<Explanation, Refusal>
     requires { Fits spec.now script.now }
     ensures prepares { PreparesWithoutFiles (Gives (outside_answer spec.now script.now (first_outside spec.now script.now))) TellsExplanation result }

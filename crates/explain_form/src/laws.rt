@@ -1,4 +1,4 @@
-//! Laws of the lines on the failure assumption. Each function's contract is a law.
+//! The law of the lines about the failure assumption. The contract of the function is the law.
 
 ghost use Rattle.explain_form.specs.Laws.{WindowsAreExact};
 

@@ -11,8 +11,8 @@ use scram_types::{Env, NoMemory, Script, Spec};
 use std::alloc::{AllocError, Global};
 use trace_text::lines::Line;
 
-/// Returns the line with the reason why a script leaves the failure assumption with a frame. It shows the frames of the
-/// window ending with this frame that change the environment, or the processors that are down in the next frame.
+/// Returns the reason why a script leaves the failure assumption with a frame. The line has the change frames of the
+/// window that ends with this frame, or the processors that are down in the next frame.
 ///
 /// # Errors
 ///
@@ -38,7 +38,8 @@ pub(crate) fn make_outside(
     Ok(text)
 }
 
-// Returns the line of the processors that are down in a frame.
+// Returns the line of the processors that are down in a frame, and the maximum number of them that the assumption
+// allows.
 fn make_down_line(spec: &Spec, script: &Script, frame: u32) -> Line
     ensures { result ≡ down_line spec.now script.now frame }
 {
@@ -51,7 +52,7 @@ fn make_down_line(spec: &Spec, script: &Script, frame: u32) -> Line
     line
 }
 
-// Appends the line with the frames in which the environment changes, of the window that ends with frame `last`.
+// Appends the line of the change frames of the window that ends with frame `last`.
 fn add_changes(
     text: &mut Vec<u8>,
     spec: &Spec,
@@ -81,7 +82,8 @@ fn add_change_frames(
     Ok(())
 }
 
-// Appends a frame, if it is in the window that ends with frame `last` and the environment changes in it.
+// Appends the number of a frame, if the frame is in the window that ends with frame `last` and the environment changes
+// in it.
 fn add_change_frame(
     text: &mut Vec<u8>,
     spec: &Spec,
@@ -120,7 +122,7 @@ fn make_assumed_line(spec: &Spec) -> Line
     line
 }
 
-// Returns whether a frame is at or after the beginning of the window that ends with frame `last`.
+// Returns whether a frame is at or after the start of the window that ends with frame `last`.
 fn is_in_window(spec: &Spec, last: u32, frame: u32) -> bool
     requires { frame ≤ 20000 }
     ensures { result ≡ is_in_window spec.now last frame }

@@ -1,4 +1,4 @@
--- The answers to a file of scripts.
+-- The answers of the form `flights`.
 use Rattle.std.specs.Prelude.{◌≡◌, ℕ, ◌+◌, List, [], ◌∷◌, ◌++◌, Option, Some, None}
 use Rattle.scram_types.specs.Specification.{Parts}
 use Rattle.coverage_check.specs.declared.shown.Shown.{Shown}
@@ -15,21 +15,21 @@ use Rattle.flights_form.specs.Outcomes.{AreOutcomes}
 use Rattle.flights_form.specs.Scripts.{AsksScripts, lines_of}
 use Rattle.flights_form.specs.Totals.{totals_of}
 
--- The line that answers line `k`.
+-- The line that is printed for the outcome of line `k`.
 abbrev pub outcome_line : Parts → ℕ → Outcome → List ℕ
 outcome_line spec k (Flown facts) = flown_line spec k facts
 outcome_line spec k (Refused line) = refused_start k ++ line
 
--- The lines that answer lines, the first of which is line `k`.
+-- The lines that are printed for the outcomes of consecutive lines, the first of which is line `k`.
 abbrev pub outcome_lines : Parts → ℕ → List Outcome → List ℕ
 outcome_lines spec k [] = []
 outcome_lines spec k (outcome ∷ outcomes) = outcome_line spec k outcome ++ outcome_lines spec (k + 1) outcomes
 
--- The text that answers all lines, with a line for each and one for all.
+-- The text for all lines, which has a line for each outcome and a line of totals.
 abbrev pub flights_text : Parts → List Outcome → List ℕ
 flights_text spec outcomes = outcome_lines spec 0 outcomes ++ totals_line (totals_of outcomes)
 
--- A text is that of the outcomes of the lines of these bytes.
+-- The text is that of the outcomes of the lines of these bytes.
 pub record IsFlightsText (spec : Parts) (scripts text : List ℕ) : Type 0 where
   pub outcomes : List Outcome
   pub answers : AreOutcomes spec (lines_of scripts) outcomes
@@ -39,16 +39,16 @@ pub record IsFlightsText (spec : Parts) (scripts text : List ℕ) : Type 0 where
 abbrev pub TellsFlights : Parts → List ℕ → ℕ → List ℕ → Type 0
 TellsFlights spec scripts status text = (status ≡ ANSWERED) × IsFlightsText spec scripts text
 
--- The refusal of a specification, given why it is not accepted, or none if it is.
+-- The refusal of a specification, or `None` if the specification is accepted.
 abbrev pub acceptance_refusal : Parts → Option Shown → Option (ℕ × List ℕ)
 acceptance_refusal spec None = None
 acceptance_refusal spec (Some shown) = Some (NOT_ACCEPTED, shown_line spec shown)
 
--- The answer after a specification and a file of scripts are read.
+-- The answer after a specification and a file of scripts have been read.
 abbrev pub ScriptsAnswers : Parts → List ℕ → ℕ → List ℕ → Type 0
 ScriptsAnswers spec scripts = UnlessRefused (acceptance_refusal spec (first_refusal spec)) (TellsFlights spec scripts)
 
--- The answer to `flights` with the names of the files of a specification and of scripts.
+-- The answer of `flights` to the names of the files of a specification and of scripts.
 abbrev pub FlightsAnswers : List ℕ → List ℕ → Answer
 FlightsAnswers specification scripts =
     AsksSpecification specification (λ (spec : Parts). AsksScripts scripts (λ (bytes : List ℕ). WithoutFiles (ScriptsAnswers spec bytes)))

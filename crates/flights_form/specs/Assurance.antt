@@ -1,4 +1,4 @@
--- The assurances of status 0 about a file of scripts.
+-- What status 0 assures about a file of scripts.
 use Rattle.std.specs.Prelude.{◌≡◌, ℕ, ℤ, ◌<◌, ◌≤◌, ◌-◌, pos, ◌-ℤ◌, ◌≤ℤ◌, List, [], length, slice_get, Option, Some, Ok}
 use Rattle.scram_types.specs.Scripts.{ScriptParts}
 use Rattle.scram_types.specs.Specification.{Parts, bound_in}
@@ -26,40 +26,40 @@ use Rattle.flights_form.specs.Outcomes.{AreOutcomes}
 use Rattle.flights_form.specs.Scripts.{SaysScripts, lines_of}
 use Rattle.flights_form.specs.Totals.{totals_of}
 
--- A margin is reported, and it is at most this number of frames.
+-- A margin is reported, which is at most `frames` frames.
 pub record IsAtMostOf (told : Option Margin) (frames : ℤ) : Type 0 where
   pub margin : Margin
   pub is : told ≡ Some margin
   pub at_most : margin.frames ≤ℤ frames
 
--- A gap is reported, and it is at least this number of frames.
+-- A gap is reported, which is at least `frames` frames.
 pub record IsAtLeastOf (told : Option AppGap) (frames : ℕ) : Type 0 where
   pub gap : AppGap
   pub is : told ≡ Some gap
   pub at_least : frames ≤ gap.gap.frames
 
--- A minimum margin of all flights is reported, and it is at most this number of frames.
+-- A minimum margin of all flights is reported, which is at most `frames` frames.
 pub record IsAtMostIn (told : Option FlightMargin) (frames : ℤ) : Type 0 where
   pub margin : FlightMargin
   pub is : told ≡ Some margin
   pub at_most : margin.frames ≤ℤ frames
 
--- A maximum gap of all flights is reported, and it is at least this number of frames.
+-- A maximum gap of all flights is reported, which is at least `frames` frames.
 pub record IsAtLeastIn (told : Option FlightGap) (frames : ℕ) : Type 0 where
   pub gap : FlightGap
   pub is : told ≡ Some gap
   pub at_least : frames ≤ gap.frames
 
--- A bound is given for the reconfiguration to this target, and the bound less the frames that the reconfiguration took
--- is at least the reported margin.
+-- A bound is given for the reconfiguration to the target `to`. The bound minus the number of frames that the
+-- reconfiguration took is at least the reported margin.
 pub record KeepsMargin (spec : Parts) (told : Option Margin) (report : Report) (to : ConfId) : Type 0 where
   pub bound : ℕ
   pub given : bound_in spec.bounds report.from.0 to.0 ≡ Some bound
   pub kept : IsAtMostOf told (pos bound -ℤ pos (report.end - report.begin))
 
--- The line is a script that makes a mission with the specification. These are the facts of the mission's one-thread
--- flight, and the properties of reconfigurations hold for its rows and reports. No finished reconfiguration has a
--- smaller margin than the facts report, and no application has a longer gap.
+-- The line is a script that makes a mission with the specification, and `facts` are the facts of the mission's
+-- one-thread flight. The properties of reconfigurations hold for the flight's rows and reports. No finished
+-- reconfiguration has a smaller margin than the facts report, and no application has a longer gap.
 pub record IsAssuredFlight (spec : Parts) (line : List ℕ) (facts : FlightFacts) : Type 0 where
   pub script : ScriptParts
   pub says : script_of spec line ≡ Ok script
@@ -70,8 +70,8 @@ pub record IsAssuredFlight (spec : Parts) (line : List ℕ) (facts : FlightFacts
       → KeepsMargin spec facts.margin report to
   pub gaps : (a : ℕ) (gap : Gap) → a < length spec.apps → longest_gap a 0 (rows_of spec script) ≡ Some gap → IsAtLeastOf facts.gap gap.frames
 
--- The specification is accepted. The text is that of the outcomes of the lines, one for each. Each line that was flown
--- is assured, and none has a smaller margin or a longer gap than the totals report.
+-- The specification is accepted, and the text is that of the outcomes of the lines, one for each. Each line that was
+-- flown is assured. None of them has a smaller margin or a longer gap than the totals report.
 pub record AreAssuredFlights (spec : Parts) (scripts text : List ℕ) : Type 0 where
   pub accepts : Accepts spec
   pub outcomes : List Outcome
@@ -84,12 +84,13 @@ pub record AreAssuredFlights (spec : Parts) (scripts text : List ℕ) : Type 0 w
   pub greatest : (k : ℕ) (facts : FlightFacts) (gap : AppGap) → slice_get outcomes k ≡ Some (Flown facts) → facts.gap ≡ Some gap
       → IsAtLeastIn (totals_of outcomes).gap gap.gap.frames
 
--- If `flights` ends with status 0, the flights of the lines of the second file are assured, and no other file was read.
+-- If `flights` ends with status 0, the flights of the lines of the second file are assured, and no further file was
+-- read.
 abbrev pub AssuresFlights : List ℕ → List ℕ → History → List ℕ → Type 0
 AssuresFlights specification scripts =
     OfSpecification specification (λ (spec : Parts). OfDocument SaysScripts scripts (λ (bytes : List ℕ) (reads : History) (text : List ℕ).
     (reads ≡ []) × AreAssuredFlights spec bytes text))
 
--- Each answer to `flights` with status 0 is assured.
+-- Each answer of `flights` with status 0 is assured.
 abbrev pub SeriesAreAssured : Type 0
 SeriesAreAssured = (specification scripts : List ℕ) → IsAssuring (FlightsAnswers specification scripts) (AssuresFlights specification scripts)

@@ -1,4 +1,4 @@
--- The facts of a flight, as a few numbers.
+-- The facts of a flight: the numbers that its line shows.
 use Rattle.std.specs.Prelude.{ℕ, pos, ◌+◌, ◌-◌, ◌-ℤ◌, int_lt, List, [], ◌∷◌, length, nat_lt, Option, Some, None, option_map, if◌then◌else◌}
 use Rattle.scram_types.specs.Lookups.{app_id}
 use Rattle.scram_types.specs.Specification.{Parts}
@@ -14,7 +14,7 @@ use Rattle.flights_form.specs.declared.facts.AppGap.{AppGap}
 use Rattle.flights_form.specs.declared.facts.FlightFacts.{FlightFacts}
 use Rattle.flights_form.specs.declared.facts.Margin.{Margin}
 
--- The longest gap of application `a`, or none.
+-- The longest gap of application `a`, or `None` if it has no gap.
 abbrev pub gap_of_app : List Row → ℕ → Option AppGap
 gap_of_app rows a = option_map (λ (gap : Gap). record { app = app_id a; gap = gap }) (longest_gap a 0 rows)
 
@@ -24,20 +24,20 @@ greater_gap None later = later
 greater_gap (Some gap) None = Some gap
 greater_gap (Some gap) (Some later) = if nat_lt gap.gap.frames later.gap.frames then Some later else Some gap
 
--- The longest gap of the applications, the first of which is application `a`. Of equally long gaps it is that of the
--- first application.
+-- The longest gap of the applications, the first of which is application `a`. If several gaps are the longest, the gap
+-- of the first of their applications is taken.
 abbrev pub greatest_gap : List Row → ℕ → List AppSpec → Option AppGap
 greatest_gap rows a [] = None
 greatest_gap rows a (app ∷ apps) = greater_gap (gap_of_app rows a) (greatest_gap rows (a + 1) apps)
 
--- The margin of a reconfiguration with this target and this bound, which is the bound less the frames that it took. An
--- unfinished reconfiguration has no target and no margin.
+-- The margin of a reconfiguration with this target and this bound, which is the bound minus the number of frames that
+-- the reconfiguration took. There is no margin without a target or a bound.
 abbrev pub margin_to : Report → Option ConfId → Option ℕ → Option Margin
 margin_to report None bound = None
 margin_to report (Some to) None = None
 margin_to report (Some to) (Some bound) = Some (record { frames = pos bound -ℤ pos (report.end - report.begin); report = report })
 
--- The margin of a finished reconfiguration for which a bound is given, or none.
+-- The margin of a reconfiguration, or `None` if it is unfinished or no bound is given for it.
 abbrev pub margin_in : Parts → Report → Option Margin
 margin_in spec report = margin_to report report.to (bound_of spec report)
 
@@ -47,7 +47,7 @@ lesser_margin None later = later
 lesser_margin (Some margin) None = Some margin
 lesser_margin (Some margin) (Some later) = if int_lt later.frames margin.frames then Some later else Some margin
 
--- The minimum margin of the finished reconfigurations, with the first reconfiguration that has it.
+-- The minimum margin of the finished reconfigurations, with the first reconfiguration that has this margin.
 abbrev pub least_margin : Parts → List Report → Option Margin
 least_margin spec [] = None
 least_margin spec (report ∷ reports) = lesser_margin (margin_in spec report) (least_margin spec reports)

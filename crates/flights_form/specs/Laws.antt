@@ -1,4 +1,4 @@
--- The outcome of a line, and the answer of `run`.
+-- The law that relates the outcome of a line to the answer of `run`.
 use Rattle.std.specs.Prelude.{◌≡◌, ◌⊎◌, ◌<◌, ℕ, List, length, None}
 use Rattle.scram_types.specs.Specification.{Parts}
 use Rattle.scram_types.specs.declared.rows.Report.{Report}
@@ -19,21 +19,21 @@ use Rattle.flights_form.specs.declared.outcomes.Outcome.TheVariants.{Flown, Refu
 use Rattle.flights_form.specs.Facts.{facts_of}
 use Rattle.flights_form.specs.Outcomes.{outcome_of}
 
--- A text is the trace of some rows and reports with these facts.
+-- The text is the trace of some rows and reports, and `facts` are their facts.
 pub record SumsUp (spec : Parts) (text : List ℕ) (facts : FlightFacts) : Type 0 where
   pub rows : List Row
   pub reports : List Report
   pub trace : text ≡ text_of spec rows reports
   pub facts_are : facts ≡ facts_of spec rows reports
 
--- The outcome of a line sums up a status and a text. They are status 0 and a trace with these facts, or the refusal of
--- a script.
+-- The outcome of a line sums up a status and a text. If the line was flown, the status is 0 and the text is a trace
+-- with its facts. Otherwise the status and the text are the refusal of a script.
 abbrev pub IsSummed : Parts → ℕ → List ℕ → Outcome → Type 0
 IsSummed spec status text (Flown facts) = (status ≡ ANSWERED) × SumsUp spec text facts
 IsSummed spec status text (Refused line) = ((status ≡ BROKEN_SCRIPT) ⊎ (status ≡ UNASSUMED_SCRIPT)) × (text ≡ line)
 
--- If the specification is accepted, the outcome of a line sums up the answer of `run` to a script of these bytes. If
--- there are too many bytes, both have the same line.
+-- If the specification is accepted, the outcome of a line sums up the answer of `run` to a script of the same bytes. If
+-- the bytes are too many for a script, the line and `run` are refused with the same text.
 pub record LinesAreRuns : Type 0 where
   pub fitting : (spec : Parts) → first_refusal spec ≡ None → (bytes : List ℕ) (before after : FilesState) (reads : History) (status : ℕ) (text : List ℕ)
       → AnswersDocument (SaysScript spec) (BreaksScript spec) (ScriptAnswers (flight_text Trace) spec) bytes before after reads status text

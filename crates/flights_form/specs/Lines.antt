@@ -1,4 +1,4 @@
--- The lines that answer flights.
+-- The lines that are printed for flights.
 use Rattle.std.specs.Prelude.{ℕ, List, [], ◌++◌, codes, decimal, Option, Some, None}
 use Rattle.std.specs.Fmt.{signed_decimal}
 use Rattle.scram_types.specs.Lookups.{app_name, conf_name}
@@ -11,34 +11,34 @@ use Rattle.flights_form.specs.declared.totals.FlightGap.{FlightGap}
 use Rattle.flights_form.specs.declared.totals.FlightMargin.{FlightMargin}
 use Rattle.flights_form.specs.declared.totals.Totals.{Totals}
 
--- The number of frames of the longest gap, its application and its first frame, or 0 if there is none.
+-- The longest gap in frames, its application and its first frame, or 0 if there is no gap.
 abbrev pub greatest_text : Parts → Option AppGap → List ℕ
 greatest_text spec None = codes " gap 0"
 greatest_text spec (Some gap) = codes " gap " ++ decimal gap.gap.frames ++ codes " " ++ app_name spec gap.app.0 ++ codes " at " ++ decimal gap.gap.at
 
--- The reconfiguration with the minimum margin, and this margin, or `-` if there is none.
+-- The reconfiguration with the minimum margin, and the margin, or `-` if there is none.
 abbrev pub worst_text : Parts → Option Margin → List ℕ
 worst_text spec None = codes " worst -"
 worst_text spec (Some margin) =
     codes " worst " ++ conf_name spec margin.report.from.0 ++ target_text spec margin.report margin.report.to
     ++ codes " margin " ++ signed_decimal margin.frames
 
--- The line of flight `k` with these facts.
+-- The line for flight `k` with these facts.
 abbrev pub flown_line : Parts → ℕ → FlightFacts → List ℕ
 flown_line spec k facts =
     codes "flight " ++ decimal k ++ codes " frames " ++ decimal facts.frames ++ codes " reconfigurations " ++ decimal facts.reconfigurations
     ++ codes " unfinished " ++ decimal facts.unfinished ++ greatest_text spec facts.gap ++ worst_text spec facts.margin ++ codes "\n"
 
--- The text that precedes the line of the refusal of flight `k`.
+-- The text that precedes the refusal of flight `k` in its line.
 abbrev pub refused_start : ℕ → List ℕ
 refused_start k = codes "flight " ++ decimal k ++ codes " "
 
--- The minimum margin of all flights, and the first flight that has it.
+-- The minimum margin of all flights, and the first flight that has this margin.
 abbrev pub margin_total : Option FlightMargin → List ℕ
 margin_total None = []
 margin_total (Some margin) = codes " margin " ++ signed_decimal margin.frames ++ codes " in flight " ++ decimal margin.flight
 
--- The longest gap of all flights, and the first flight that has it.
+-- The longest gap of all flights, and the first flight that has a gap of this length.
 abbrev pub gap_total : Option FlightGap → List ℕ
 gap_total None = []
 gap_total (Some gap) = codes " gap " ++ decimal gap.frames ++ codes " in flight " ++ decimal gap.flight

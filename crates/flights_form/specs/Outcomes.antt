@@ -13,18 +13,18 @@ use Rattle.flights_form.specs.declared.outcomes.Outcome.{Outcome}
 use Rattle.flights_form.specs.declared.outcomes.Outcome.TheVariants.{Flown, Refused}
 use Rattle.flights_form.specs.Facts.{facts_of}
 
--- The outcome of a script that fits the specification, by how it leaves the failure assumption. The script is refused
--- as by `run`, or the outcome has the facts of its one-thread flight.
+-- The outcome of a script that fits the specification, given where the script leaves the failure assumption, if it
+-- does. The outcome is the refusal by `run`, or the facts of the one-thread flight.
 abbrev pub outcome_within : Parts → ScriptParts → Option Outside → Outcome
 outcome_within spec script (Some outside) = Refused (outside_line outside)
 outcome_within spec script None = Flown (facts_of spec (rows_of spec script) (reports_of spec script))
 
--- The outcome of a line that was read as a script, or was refused.
+-- The outcome of a line, given the result of reading it as a script.
 abbrev pub outcome_read : Parts → Result ScriptParts DocFault → Outcome
 outcome_read spec (Err fault) = Refused (script_line fault)
 outcome_read spec (Ok script) = outcome_within spec script (first_outside spec script)
 
--- The outcome of a line.
+-- The outcome of a line, provided that the allocator is not out of memory.
 abbrev pub outcome_of : Parts → List ℕ → Outcome
 outcome_of spec line = outcome_read spec (script_of spec line)
 
@@ -32,11 +32,11 @@ outcome_of spec line = outcome_read spec (script_of spec line)
 abbrev pub memory_outcome : Outcome
 memory_outcome = Refused memory_line
 
--- An outcome is that of a line, or out of memory.
+-- The outcome is that of the line, or the refusal because the allocator is out of memory.
 abbrev pub IsOutcome : Parts → List ℕ → Outcome → Type 0
 IsOutcome spec line outcome = (outcome ≡ outcome_of spec line) ⊎ (outcome ≡ memory_outcome)
 
--- These are the outcomes of lines, one for each, in order.
+-- The outcomes are those of the lines, one for each, in order.
 abbrev pub AreOutcomes : Parts → List (List ℕ) → List Outcome → Type 0
 AreOutcomes spec [] [] = ⊤
 AreOutcomes spec [] (outcome ∷ outcomes) = ⊥

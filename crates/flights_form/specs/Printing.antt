@@ -11,22 +11,24 @@ use Rattle.flights_form.specs.Outcomes.{AreOutcomes, IsOutcome}
 use Rattle.flights_form.specs.Scripts.{lines_of}
 use Rattle.flights_form.specs.Totals.{totals_of, with_outcome}
 
--- Status and text are the answer to an accepted specification and a file of scripts.
+-- The status and the text are the answer to an accepted specification and a file of scripts.
 abbrev pub TellsSeries : Series → ℕ → List ℕ → Type 0
 TellsSeries series = TellsFlights series.accepted series.scripts
 
--- The line for the outcome of the next line was printed, and these are the totals with it, or the line was cut off.
+-- The line for an outcome was printed, and the result is the totals with this outcome. If the sink failed, only a
+-- prefix of the line may have been printed.
 abbrev pub PrintsOutcome : Parts → Totals → Outcome → Result Totals SinkFault → SinkState → SinkState → Type 0
 PrintsOutcome spec totals outcome (Ok next) old new = (next ≡ with_outcome totals outcome) × Printed old new (outcome_line spec totals.lines outcome)
 PrintsOutcome spec totals outcome (Err fault) old new = CutOff old new (outcome_line spec totals.lines outcome)
 
--- The next line was flown, and the line for its outcome was printed or cut off.
+-- A line was flown, and the line for its outcome was printed. If the sink failed, only a prefix may have been printed.
 pub record PrintsLine (spec : Parts) (line : List ℕ) (totals : Totals) (result : Result Totals SinkFault) (old new : SinkState) : Type 0 where
   pub outcome : Outcome
   pub comes : IsOutcome spec line outcome
   pub prints : PrintsOutcome spec totals outcome result old new
 
--- The lines of a file up to its rest were flown, these are their totals, and the lines for their outcomes were printed.
+-- The lines of a file that precede its rest were flown, the lines for their outcomes were printed, and `totals` are
+-- their totals.
 pub record IsFlownTo (spec : Parts) (bytes rest : List ℕ) (totals : Totals) (old new : SinkState) : Type 0 where
   pub front : List (List ℕ)
   pub outcomes : List Outcome
@@ -35,7 +37,8 @@ pub record IsFlownTo (spec : Parts) (bytes rest : List ℕ) (totals : Totals) (o
   pub totals_are : totals ≡ totals_of outcomes
   pub printed : Printed old new (outcome_lines spec 0 outcomes)
 
--- The lines for all outcomes were printed, and these are the totals, or the lines were cut off.
+-- The lines for all outcomes were printed, and the result is the totals. If the sink failed, only a prefix of the lines
+-- may have been printed.
 abbrev pub PrintsOutcomes : Parts → List Outcome → Result Totals SinkFault → SinkState → SinkState → Type 0
 PrintsOutcomes spec outcomes (Ok totals) old new = (totals ≡ totals_of outcomes) × Printed old new (outcome_lines spec 0 outcomes)
 PrintsOutcomes spec outcomes (Err fault) old new = CutOff old new (outcome_lines spec 0 outcomes)

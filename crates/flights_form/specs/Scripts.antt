@@ -5,14 +5,14 @@ use Rattle.form_base.specs.Answers.{Answer, AnswersDocument, AnswersFile}
 use Rattle.flight_forms.specs.Documents.{long_script}
 use Rattle.flights_form.specs.declared.limits.TheConstants.{MAX_SCRIPTS_BYTES}
 
--- The pieces without the last one, if that is empty.
+-- The pieces without the last one if it is empty, and all pieces otherwise.
 abbrev pub without_empty_last : List (List ℕ) → List (List ℕ)
 without_empty_last [] = []
 without_empty_last (piece ∷ []) = if is_filled piece then piece ∷ [] else []
 without_empty_last (piece ∷ next ∷ pieces) = piece ∷ without_empty_last (next ∷ pieces)
 
--- The lines of a file. Each ends before a line feed or at the end of the file. After the last line feed there is a line
--- only if a byte follows.
+-- The lines of a file. Each line ends before a line feed or at the end of the file. The text after the last line feed
+-- is a line only if it is not empty.
 abbrev pub lines_of : List ℕ → List (List ℕ)
 lines_of bytes = without_empty_last (pieces_of 10 bytes)
 
@@ -20,10 +20,10 @@ lines_of bytes = without_empty_last (pieces_of 10 bytes)
 abbrev pub SaysScripts : List ℕ → List ℕ → Type 0
 SaysScripts scripts bytes = scripts ≡ bytes
 
--- No file of scripts is refused except for its length.
+-- No bytes are refused as a file of scripts, except for their number.
 abbrev pub BreaksScripts : ℕ × List ℕ → List ℕ → Type 0
 BreaksScripts refusal bytes = ⊥
 
--- The file of this name is read, and the answer is that of its bytes.
+-- The answer to the name of a file of scripts, where the last argument gives the answer to the bytes of the file.
 abbrev pub AsksScripts : List ℕ → (List ℕ → Answer) → Answer
 AsksScripts name Then = AnswersFile MAX_SCRIPTS_BYTES long_script name (AnswersDocument SaysScripts BreaksScripts Then)

@@ -9,39 +9,40 @@ use Rattle.flights_form.specs.declared.totals.FlightGap.{FlightGap}
 use Rattle.flights_form.specs.declared.totals.FlightMargin.{FlightMargin}
 use Rattle.flights_form.specs.declared.totals.Totals.{Totals}
 
--- The outcome is a refusal.
+-- Whether an outcome is a refusal.
 abbrev pub is_refused : Outcome → Bool
 is_refused (Flown facts) = false
 is_refused (Refused line) = true
 
--- The margin of flight `k`, or none.
+-- The minimum margin of flight `k`, or `None` if it has no margin.
 abbrev pub margin_in_flight : ℕ → Outcome → Option FlightMargin
 margin_in_flight k (Flown facts) = option_map (λ (margin : Margin). record { frames = margin.frames; flight = k }) facts.margin
 margin_in_flight k (Refused line) = None
 
--- The smaller of two flights' margins, or the first if they are equal.
+-- The smaller of the margins of two flights, or the first if they are equal.
 abbrev pub lesser_in_flight : Option FlightMargin → Option FlightMargin → Option FlightMargin
 lesser_in_flight None later = later
 lesser_in_flight (Some margin) None = Some margin
 lesser_in_flight (Some margin) (Some later) = if int_lt later.frames margin.frames then Some later else Some margin
 
--- The minimum margin of these flights, the first of which is flight `k`, and the first flight that has it.
+-- The minimum margin of these flights, the first of which is flight `k`, with the first flight that has this margin.
 abbrev pub least_in_flights : ℕ → List Outcome → Option FlightMargin
 least_in_flights k [] = None
 least_in_flights k (outcome ∷ outcomes) = lesser_in_flight (margin_in_flight k outcome) (least_in_flights (k + 1) outcomes)
 
--- The gap of flight `k`, or none.
+-- The longest gap of flight `k`, or `None` if it has no gap.
 abbrev pub gap_in_flight : ℕ → Outcome → Option FlightGap
 gap_in_flight k (Flown facts) = option_map (λ (gap : AppGap). record { frames = gap.gap.frames; flight = k }) facts.gap
 gap_in_flight k (Refused line) = None
 
--- The longer of two flights' gaps, or the first if they are equal.
+-- The longer of the gaps of two flights, or the first if they are equally long.
 abbrev pub greater_in_flight : Option FlightGap → Option FlightGap → Option FlightGap
 greater_in_flight None later = later
 greater_in_flight (Some gap) None = Some gap
 greater_in_flight (Some gap) (Some later) = if nat_lt gap.frames later.frames then Some later else Some gap
 
--- The longest gap of these flights, the first of which is flight `k`, and the first flight that has it.
+-- The longest gap of these flights, the first of which is flight `k`, with the first flight that has a gap of this
+-- length.
 abbrev pub greatest_in_flights : ℕ → List Outcome → Option FlightGap
 greatest_in_flights k [] = None
 greatest_in_flights k (outcome ∷ outcomes) = greater_in_flight (gap_in_flight k outcome) (greatest_in_flights (k + 1) outcomes)
@@ -55,7 +56,7 @@ totals_of outcomes = record {
   gap = greatest_in_flights 0 outcomes;
 }
 
--- The totals with the next outcome.
+-- The totals, with the outcome of the next line included.
 abbrev pub with_outcome : Totals → Outcome → Totals
 with_outcome totals outcome = record {
   lines = totals.lines + 1;

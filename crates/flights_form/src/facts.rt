@@ -1,4 +1,4 @@
-//! The facts of a flight, as a few numbers.
+//! The facts of a flight: the numbers that its line shows.
 
 ghost use Rattle.std.specs.Prelude.{◌≡◌, ◌<◌, ◌≤◌, ◌-◌, ◌-ℤ◌, ◌^◌, length, pos};
 ghost use Rattle.flights_form.specs.Facts.{facts_of, gap_of_app, greater_gap, greatest_gap, least_margin, lesser_margin, margin_in, margin_to};
@@ -16,15 +16,15 @@ pub struct AppGap {
     pub gap: Gap,
 }
 
-/// The margin of a finished reconfiguration: its bound less the frames that it took.
+/// The margin of a finished reconfiguration: its bound minus the number of frames that it took.
 #[derive(Clone, Copy, Debug, PartialEq, Eq)]
 pub struct Margin {
     pub frames: i64,
     pub report: Report,
 }
 
-/// The facts of a flight: the numbers of its frames, of its reconfigurations and of the unfinished ones, its longest
-/// gap and its minimum margin.
+/// The facts of a flight: the numbers of its frames, its reconfigurations and its unfinished reconfigurations, its
+/// longest gap and its minimum margin.
 #[derive(Clone, Copy, Debug, PartialEq, Eq)]
 pub struct FlightFacts {
     pub frames: u32,

@@ -1,4 +1,4 @@
-//! The form `flights`.
+//! The form `flights`, which flies each script in a file.
 
 ghost use Rattle.std.specs.Prelude.{◌≡◌, ◌<◌, ◌≤◌, ◌∷◌, ◌++◌, ◌^◌, ◌-◌, [], length};
 ghost use Rattle.scram_io.specs.Outside.{Prints};
@@ -20,8 +20,8 @@ use scram_types::Spec;
 use std::alloc::Global;
 use trace_text::lines::Line;
 
-/// Flies each line of a file of scripts by the specification in another file, on the caller's thread, and prints a line
-/// for each and one for all.
+/// Flies each line of a file of scripts by the specification in another file, on the caller's thread. Prints a line for
+/// each flight and a line of totals.
 pub fn flights<F: Files, K: Sink>(
     alloc: Global,
     named: ScriptsFiles<'_>,
@@ -64,7 +64,7 @@ fn put_flights<K: Sink>(
     }
 }
 
-// Prints the line for each line of a file, and returns the totals.
+// Flies each line of a file, prints a line for each outcome, and returns the totals.
 fn put_lines<K: Sink>(
     alloc: Global,
     out: &mut K,
@@ -86,7 +86,7 @@ fn put_lines<K: Sink>(
     Ok(totals)
 }
 
-// Flies the next line, prints the line for its outcome, and returns the totals with it.
+// Flies the next line, prints the line for its outcome, and returns the totals with this outcome included.
 fn put_line<K: Sink>(
     alloc: Global,
     out: &mut K,

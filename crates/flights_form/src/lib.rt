@@ -1,4 +1,4 @@
-//! The form `flights`. Each line of a file is a script, which is flown and answered by one line. The form prints the
+//! The form `flights`, which flies each line of a file as a script and prints one line for each. Its output is the
 //! answer to the bytes of the files that its words name.
 #![tactic(auto)]
 

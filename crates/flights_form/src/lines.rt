@@ -1,4 +1,4 @@
-//! The lines that answer flights, made without allocation.
+//! The lines that are printed for flights, made without allocating.
 
 ghost use Rattle.std.specs.Prelude.{◌≡◌, ◌+◌, ◌≤◌, ◌++◌, length};
 ghost use Rattle.scram_types.specs.declared.limits.TheConstants.{MAX_LINE_BYTES};
@@ -10,7 +10,7 @@ use scram_types::Spec;
 use trace_text::lines::Line;
 use trace_text::report_lines::add_target;
 
-/// Returns the line of flight `k` with these facts.
+/// Returns the line for flight `k` with these facts.
 pub fn make_flown_line(spec: &Spec, k: u32, facts: &FlightFacts) -> Line
     ensures { result ≡ flown_line spec.now k facts.now }
 {
@@ -29,7 +29,7 @@ pub fn make_flown_line(spec: &Spec, k: u32, facts: &FlightFacts) -> Line
     line
 }
 
-/// Returns the text that precedes the line of the refusal of line `k`.
+/// Returns the text that precedes the refusal of flight `k` in its line.
 pub fn make_refused_start(k: u32) -> Line
     ensures { result ≡ refused_start k }
 {

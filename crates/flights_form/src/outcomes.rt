@@ -20,9 +20,9 @@ use trace_text::lines::Line;
 /// The outcome of a line of the file.
 #[derive(Drop)]
 pub enum Outcome {
-    /// The script was flown, with these facts.
+    /// The script was flown, and these are the facts of its flight.
     Flown(FlightFacts),
-    /// The line was refused, with this line of the refusal.
+    /// The line was refused, and this is the line of the refusal.
     Refused(Line),
 }
 
@@ -62,8 +62,8 @@ fn fly_on_one_thread(alloc: Global, spec: &Spec, script: &Script) -> Outcome
     }
 }
 
-// Flies a script, and returns the facts of the flight. The racks have no boxes, since a rack without a box follows the
-// same law.
+// Flies a script, and returns the facts of the flight. The racks have no boxes, since a processor without boxes follows
+// the same laws.
 #[tactic(auto, using(trace_props::proofs::Sizes::few_reports))]
 fn sum_up(alloc: Global, spec: &Spec, script: &Script) -> Result<FlightFacts, NoMemory>
     requires { Fits spec.now script.now }

@@ -1,4 +1,4 @@
-//! A series of flights, of an accepted specification and the scripts of a file.
+//! A series of flights by an accepted specification and the scripts in a file.
 
 ghost use Rattle.std.specs.Prelude.{◌≤◌, ◌∷◌, [], IfOk, ℕ, List, length};
 ghost use Rattle.form_base.specs.Answers.{WithoutFiles};
@@ -18,21 +18,21 @@ use scram_io::Files;
 use scram_types::{List, Spec};
 use std::alloc::Global;
 
-/// The names of the files of a series of flights: a specification, and scripts, one on each line.
+/// The names of the files of a series of flights: a specification, and a file with a script on each line.
 #[derive(Clone, Copy)]
 pub struct ScriptsFiles<'a> {
     pub specification: &'a str,
     pub scripts: &'a str,
 }
 
-/// An accepted specification, and the bytes of the file of scripts that are flown by it.
+/// An accepted specification, and the bytes of a file with a script on each line.
 #[derive(Drop)]
 pub struct Series {
     pub accepted: Accepted,
     pub scripts: List<u8>,
 }
 
-/// Reads the specification and the file of scripts, and accepts the specification.
+/// Reads the specification and the file of scripts, and checks that the specification is accepted.
 pub fn read_series<F: Files>(
     alloc: Global,
     named: ScriptsFiles<'_>,

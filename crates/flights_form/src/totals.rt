@@ -5,14 +5,14 @@ ghost use Rattle.flights_form.specs.Totals.{gap_in_flight, greater_in_flight, is
 
 use crate::outcomes::Outcome;
 
-/// The minimum margin of all flights, in frames, and the first flight that has it.
+/// The minimum margin of all flights, in frames, and the first flight that has this margin.
 #[derive(Clone, Copy, Debug, PartialEq, Eq)]
 pub struct FlightMargin {
     pub frames: i64,
     pub flight: u32,
 }
 
-/// The longest gap of all flights, in frames, and the first flight that has it.
+/// The longest gap of all flights, in frames, and the first flight that has a gap of this length.
 #[derive(Clone, Copy, Debug, PartialEq, Eq)]
 pub struct FlightGap {
     pub frames: u32,
@@ -29,7 +29,7 @@ pub struct Totals {
 }
 
 impl Totals {
-    /// Returns the totals of no line.
+    /// Returns the totals before the first line.
     pub fn new() -> Totals
         ensures { result ≡ totals_of [] }
     {
@@ -41,7 +41,7 @@ impl Totals {
         }
     }
 
-    /// Returns these totals with the outcome of the next line.
+    /// Returns these totals with the outcome of the next line included.
     pub fn with(&self, outcome: &Outcome) -> Totals
         requires lines { self.now.lines < 2 ^ 32 - 1 }
         requires refused { self.now.refused ≤ self.now.lines }

@@ -1,5 +1,5 @@
--- The answers of the command: a status and a text, by its words and the bytes that it reads of the files that they
--- name.
+-- The answers of the command. An answer is a status and a text, which depend on the words of the command and on the
+-- bytes of the files that they name.
 use Rattle.std.specs.Prelude.{ℕ, List, Option, Some, None, codes}
 use Rattle.form_base.specs.declared.status.TheConstants.{ANSWERED, BROKEN_USAGE}
 use Rattle.form_base.specs.Answers.{Answer, Gives, WithoutFiles}
@@ -25,11 +25,11 @@ use Rattle.scram_cli.specs.declared.forms.SpecificationForm.{SpecificationForm}
 use Rattle.scram_cli.specs.declared.forms.SpecificationForm.TheVariants.{Check, Bounds, Explain, ExplainScript, Fill, Choices, Choose}
 use Rattle.scram_cli.specs.Pages.{page_text}
 
--- The line for words that have no form.
+-- The line that refuses words that have no form.
 abbrev pub usage_line : List ℕ
 usage_line = codes "refused: usage\n"
 
--- The answer to a form on flights.
+-- The answer to a form about flights.
 abbrev pub FlightFormAnswers : FlightForm (List ℕ) → Answer
 FlightFormAnswers (Run specification script) = RunAnswers specification script
 FlightFormAnswers (Watch specification script) = WatchAnswers specification script
@@ -40,7 +40,7 @@ FlightFormAnswers (Flights specification scripts) = FlightsAnswers specification
 FlightFormAnswers (Gen number) = WithoutFiles (GenAnswers number)
 FlightFormAnswers (Fly number) = WithoutFiles (FlyAnswers number)
 
--- The answer to a form on a specification.
+-- The answer to a question about a specification.
 abbrev pub QuestionAnswers : SpecificationForm (List ℕ) → Answer
 QuestionAnswers (Check specification) = CheckAnswers specification
 QuestionAnswers (Bounds specification) = BoundsAnswers specification
@@ -50,15 +50,15 @@ QuestionAnswers (Fill specification) = FillAnswers specification
 QuestionAnswers (Choices specification) = ChoicesAnswers specification
 QuestionAnswers (Choose specification conf state) = ChooseAnswers specification conf state
 
--- The answer to a look at a trace.
+-- The answer to a look at a trace, given the names of the files of a specification and of the trace.
 abbrev pub LookAnswers : Look → List ℕ → List ℕ → Answer
 LookAnswers Props specification trace = PropsAnswers specification trace
 LookAnswers Summary specification trace = ViewAnswers summary_text specification trace
 LookAnswers Columns specification trace = ViewAnswers columns_text specification trace
 LookAnswers Picture specification trace = ViewAnswers picture_text specification trace
 
--- The answer to a form, or to words that have no form. A form reads exactly the files that it needs, each once, in
--- their order.
+-- The answer to a form, or to words that have no form. The files that a form needs are read once each, in their order,
+-- and no others are read.
 abbrev pub FormAnswers : Option (Form (List ℕ)) → Answer
 FormAnswers None = WithoutFiles (Gives (BROKEN_USAGE, usage_line))
 FormAnswers (Some (Flight flight)) = FlightFormAnswers flight

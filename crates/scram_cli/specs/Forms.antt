@@ -18,23 +18,23 @@ use Rattle.scram_cli.specs.declared.forms.SpecificationForm.{SpecificationForm}
 use Rattle.scram_cli.specs.declared.forms.SpecificationForm.TheVariants.{Check, Bounds, Explain, ExplainScript, Fill, Choices, Choose}
 use Rattle.scram_cli.specs.declared.pages.Page.TheVariants.{Help, Version}
 
--- The number of a mission, up to 999,999, that a word spells in decimal.
+-- The number of a mission that a word spells in decimal, at most 999,999, or `None` if the word spells no such number.
 abbrev pub mission_number : List ℕ → Option ℕ
 mission_number word = spelled_number 1000000 word
 
--- The form of a command and a number, or none.
+-- The form of a command that is followed by a number, or `None` if there is no such form.
 abbrev pub form_of_number : List ℕ → List ℕ → Option (Form (List ℕ))
 form_of_number command word =
     if bytes_eq command (codes "gen") then option_map (λ (number : ℕ). Flight (Gen number)) (mission_number word)
     else (if bytes_eq command (codes "fly") then option_map (λ (number : ℕ). Flight (Fly number)) (mission_number word) else None)
 
--- The form of one word, or none.
+-- The form of one word, or `None` if there is no such form.
 abbrev pub form_of_one : List ℕ → Option (Form (List ℕ))
 form_of_one command =
     if bytes_eq command (codes "--help") then Some (Told Help)
     else (if bytes_eq command (codes "--version") then Some (Told Version) else None)
 
--- The form on a specification of a command and the name of a file, or none.
+-- The question of a command about the specification in a file, or `None` if there is no such question.
 abbrev pub question_of : List ℕ → List ℕ → Option (SpecificationForm (List ℕ))
 question_of command specification =
     if bytes_eq command (codes "check") then Some (Check specification)
@@ -43,12 +43,13 @@ question_of command specification =
     else (if bytes_eq command (codes "fill") then Some (Fill specification)
     else (if bytes_eq command (codes "choices") then Some (Choices specification) else None))))
 
--- The form of two words, or none.
+-- The form of two words, or `None` if there is no such form.
 abbrev pub form_of_two : List ℕ → List ℕ → Option (Form (List ℕ))
 form_of_two command word =
     option_or (option_map (λ (question : SpecificationForm (List ℕ)). Specification question) (question_of command word)) (form_of_number command word)
 
--- The form on flights of a command and the names of a specification's file and of another file, or none.
+-- The form about flights of a command, the name of a specification's file and a further word, or `None` if there is no
+-- such form.
 abbrev pub flight_of_three : List ℕ → List ℕ → List ℕ → Option (FlightForm (List ℕ))
 flight_of_three command specification further =
     if bytes_eq command (codes "run") then Some (Run specification further)
@@ -56,7 +57,7 @@ flight_of_three command specification further =
     else (if bytes_eq command (codes "faults") then option_map (λ (count : FaultCount). Faults specification count) (fault_count further)
     else (if bytes_eq command (codes "flights") then Some (Flights specification further) else None)))
 
--- The look at a trace that a command asks for, or none.
+-- The look at a trace that a command names, or `None` if it names none.
 abbrev pub look_of : List ℕ → Option Look
 look_of command =
     if bytes_eq command (codes "props") then Some Props
@@ -64,28 +65,29 @@ look_of command =
     else (if bytes_eq command (codes "columns") then Some Columns
     else (if bytes_eq command (codes "picture") then Some Picture else None)))
 
--- The form of three words that looks at a trace, or none.
+-- The form of three words that looks at a trace, or `None` if there is no such form.
 abbrev pub form_of_look : List ℕ → List ℕ → List ℕ → Option (Form (List ℕ))
 form_of_look command specification trace = option_map (λ (look : Look). Trace look specification trace) (look_of command)
 
--- The form of three words that explains a script or looks at a trace, or none.
+-- The form of three words that explains a script or looks at a trace, or `None` if there is no such form.
 abbrev pub form_of_explained : List ℕ → List ℕ → List ℕ → Option (Form (List ℕ))
 form_of_explained command specification further =
     if bytes_eq command (codes "explain") then Some (Specification (ExplainScript specification further))
     else form_of_look command specification further
 
--- The form of three words, or none.
+-- The form of three words, or `None` if there is no such form.
 abbrev pub form_of_three : List ℕ → List ℕ → List ℕ → Option (Form (List ℕ))
 form_of_three command specification further =
     option_or (option_map (λ (flight : FlightForm (List ℕ)). Flight flight) (flight_of_three command specification further))
     (form_of_explained command specification further)
 
--- The form of four words, or none.
+-- The form of four words, or `None` if there is no such form.
 abbrev pub form_of_four : List ℕ → List ℕ → List ℕ → List ℕ → Option (Form (List ℕ))
 form_of_four command specification script schedule =
     if bytes_eq command (codes "replay") then Some (Flight (Replay specification script schedule)) else None
 
--- The halt of unit 0 or 1 in a frame up to 19,999 after up to 31 steps, which three words spell in decimal, or none.
+-- The halt that three words spell in decimal, or `None` if they spell none. The unit is 0 or 1, the frame at most
+-- 19,999, and the number of steps at most 31.
 abbrev pub unit_halt : List ℕ → List ℕ → List ℕ → Option UnitHalt
 unit_halt unit frame step =
     option_and_then
@@ -94,16 +96,16 @@ unit_halt unit frame step =
     (spelled_number 20000 frame))
     (spelled_number 2 unit)
 
--- The form of six words, or none.
+-- The form of six words, or `None` if there is no such form.
 abbrev pub form_of_six : List ℕ → List ℕ → List ℕ → List ℕ → List ℕ → List ℕ → Option (Form (List ℕ))
 form_of_six command specification script unit frame step =
     if bytes_eq command (codes "pair") then option_map (λ (halt : UnitHalt). Flight (Pair specification script halt)) (unit_halt unit frame step) else None
 
--- The form of `choose` and its words, or none.
+-- The form of `choose` and the words after it, or `None` if there is no such form.
 abbrev pub choose_form : List ℕ → List ℕ → List (List ℕ) → Option (Form (List ℕ))
 choose_form specification conf state = option_map (λ (words : List StateWord). Specification (Choose specification conf words)) (state_in state)
 
--- The form of at most six words, or none.
+-- The form of at most six words, or `None` if there is no such form.
 abbrev pub form_of_few : List (List ℕ) → Option (Form (List ℕ))
 form_of_few [] = None
 form_of_few (command ∷ []) = form_of_one command
@@ -114,7 +116,8 @@ form_of_few (command ∷ first ∷ second ∷ third ∷ fourth ∷ []) = None
 form_of_few (command ∷ first ∷ second ∷ third ∷ fourth ∷ fifth ∷ []) = form_of_six command first second third fourth fifth
 form_of_few (command ∷ first ∷ second ∷ third ∷ fourth ∷ fifth ∷ sixth ∷ words) = None
 
--- The form of words, or none. The form has the names of its files.
+-- The form of the words after the program's name, or `None` if there is no such form. The form has the names of its
+-- files.
 abbrev pub form_of : List (List ℕ) → Option (Form (List ℕ))
 form_of [] = form_of_few []
 form_of (command ∷ []) = form_of_few (command ∷ [])
@@ -122,7 +125,7 @@ form_of (command ∷ specification ∷ []) = form_of_few (command ∷ specificat
 form_of (command ∷ specification ∷ conf ∷ state) =
     if bytes_eq command (codes "choose") then choose_form specification conf state else form_of_few (command ∷ specification ∷ conf ∷ state)
 
--- A form on flights, with the names of its files replaced.
+-- A form about flights with the names of its files mapped by a function.
 abbrev pub flight_with_names : {A B : Type 0} → (A → B) → FlightForm A → FlightForm B
 flight_with_names name (Run specification script) = Run (name specification) (name script)
 flight_with_names name (Watch specification script) = Watch (name specification) (name script)
@@ -133,7 +136,7 @@ flight_with_names name (Flights specification scripts) = Flights (name specifica
 flight_with_names name (Gen number) = Gen number
 flight_with_names name (Fly number) = Fly number
 
--- A form on a specification, with the names in it replaced.
+-- A question about a specification with the names in it mapped by a function.
 abbrev pub question_with_names : {A B : Type 0} → (A → B) → SpecificationForm A → SpecificationForm B
 question_with_names name (Check specification) = Check (name specification)
 question_with_names name (Bounds specification) = Bounds (name specification)
@@ -143,14 +146,14 @@ question_with_names name (Fill specification) = Fill (name specification)
 question_with_names name (Choices specification) = Choices (name specification)
 question_with_names name (Choose specification conf state) = Choose (name specification) (name conf) state
 
--- A form, with the names in it replaced.
+-- A form with the names in it mapped by a function.
 abbrev pub with_names : {A B : Type 0} → (A → B) → Form A → Form B
 with_names name (Flight flight) = Flight (flight_with_names name flight)
 with_names name (Specification question) = Specification (question_with_names name question)
 with_names name (Trace look specification trace) = Trace look (name specification) (name trace)
 with_names name (Told page) = Told page
 
--- The files that a form on flights names, in the order in which they are read.
+-- The names of the files of a form about flights, in the order in which the files are read.
 abbrev pub flight_files : FlightForm (List ℕ) → List (List ℕ)
 flight_files (Run specification script) = specification ∷ script ∷ []
 flight_files (Watch specification script) = specification ∷ script ∷ []
@@ -161,7 +164,7 @@ flight_files (Flights specification scripts) = specification ∷ scripts ∷ []
 flight_files (Gen number) = []
 flight_files (Fly number) = []
 
--- The files that a form on a specification names, in the order in which they are read.
+-- The names of the files of a question about a specification, in the order in which the files are read.
 abbrev pub question_files : SpecificationForm (List ℕ) → List (List ℕ)
 question_files (Check specification) = specification ∷ []
 question_files (Bounds specification) = specification ∷ []
@@ -171,7 +174,7 @@ question_files (Fill specification) = specification ∷ []
 question_files (Choices specification) = specification ∷ []
 question_files (Choose specification conf state) = specification ∷ []
 
--- The files that a form names, in the order in which they are read.
+-- The names of the files of a form, in the order in which the files are read. Words that have no form have none.
 abbrev pub files_of : Option (Form (List ℕ)) → List (List ℕ)
 files_of None = []
 files_of (Some (Flight flight)) = flight_files flight

@@ -1,4 +1,4 @@
--- Laws of the missions that the command flies.
+-- The laws of the missions that the command flies.
 use Rattle.std.specs.Prelude.{◌≡◌, ◌⊎◌, ℕ, ◌≤◌, List, [], ◌∷◌, length, Some, Ok, IsTrue, codes}
 use Rattle.scram_types.specs.Scripts.{ScriptParts}
 use Rattle.scram_types.specs.Specification.{IsSpec, Parts}
@@ -18,12 +18,13 @@ use Rattle.scram_cli.specs.Answers.{FormAnswers}
 use Rattle.form_base.specs.Endings.{Completes, Ends, IsSent, WentOut}
 use Rattle.scram_cli.specs.Forms.{files_of, form_of}
 
--- The text that is printed for a mission is read as the mission's rows and reconfigurations.
+-- The text that is printed for a mission is read back as the mission's rows and reports.
 abbrev pub PrintedMissionsAreRead : Type 0
 PrintedMissionsAreRead = (spec : Parts) (script : ScriptParts) → IsSpec spec → Fits spec script
     → trace_of spec (text_of spec (rows_of spec script) (reports_of spec script)) ≡ Ok (record { rows = rows_of spec script; reports = reports_of spec script })
 
--- Two files of a map hold a mission. The bytes of one are its specification, and those of the other its script.
+-- Two files of a map hold a mission. The bytes of the first encode its specification, and the bytes of the second its
+-- script.
 pub record HoldsMission (map : FileMap) (specification_name script_name : List ℕ) (mission : MissionParts) : Type 0 where
   pub specification : List ℕ
   pub specification_file : file_at specification_name map ≡ Some specification
@@ -34,24 +35,25 @@ pub record HoldsMission (map : FileMap) (specification_name script_name : List �
   pub sound : IsSpec mission.spec
   pub is_mission : IsMission mission
 
--- The sink is known to have room for the text, and for the memory line.
+-- The sink is known to have room for the text, and also for the line that reports out of memory.
 pub record HasRoomFor (sink : SinkState) (text : List ℕ) : Type 0 where
   pub room : ℕ
   pub told : sink.surely ≡ Some room
   pub fits : length text ≤ room
   pub memory : length memory_line ≤ room
 
--- The text was written and the status is 0, or the allocator was out of memory, with its line and status.
+-- Either the status is 0 and the text was written, or the status is that of out of memory and the line that reports it
+-- was written.
 abbrev pub EndsAnswered : List ℕ → SinkState → SinkState → ℕ → Type 0
 EndsAnswered text old new code = ((code ≡ ANSWERED) × WentOut old new text) ⊎ ((code ≡ OUT_OF_MEMORY) × WentOut old new memory_line)
 
--- The words `run`, the name of a specification's file and that of a script's.
+-- The word `run`, followed by the names of the files of a specification and a script.
 abbrev pub run_words : List ℕ → List ℕ → List (List ℕ)
 run_words specification script = codes "run" ∷ specification ∷ script ∷ []
 
--- Completeness of `run`. The files are steady and hold a mission, the sink has room, and the clauses `answer` and
--- `complete` of `scram` hold for the call. Then the call ends with status 0 and the whole text of the one-thread trace,
--- or the allocator was out of memory.
+-- `run` is complete. Suppose that the files are steady and hold a mission, that the sink has room, and that the clauses
+-- `answer` and `complete` of `scram` hold for the call. Then the call ends with status 0 and the whole trace of the
+-- one-thread flight is written, or the allocator was out of memory.
 abbrev pub MissionsAreAnswered : Type 0
 MissionsAreAnswered = (specification script : List ℕ) (map : FileMap) (mission : MissionParts) (before after : FilesState) (old new : SinkState) (code : ℕ)
     → Ends (FormAnswers (form_of (run_words specification script))) (files_of (form_of (run_words specification script))) before after (IsSent old new code)

@@ -41,29 +41,29 @@ use trace_forms::props_form;
 use trace_props::missions::reconfigurations_are_assured;
 use trace_text::lines::Line;
 
-/// Answers the form that the words after the program's name have.
+/// Answers the words after the program's name by their form. Words that have none of these forms are refused.
 ///
 /// - `run SPEC SCRIPT` flies a mission.
-/// - `watch SPEC SCRIPT` flies it while two readers read its summary.
-/// - `pair SPEC SCRIPT UNIT FRAME STEP` flies it with the kernel on two units, of which unit `UNIT` may halt in frame
+/// - `watch SPEC SCRIPT` flies a mission while two readers read its summary.
+/// - `pair SPEC SCRIPT UNIT FRAME STEP` flies a mission with the kernel on two units, of which unit `UNIT` may halt in frame
 ///   `FRAME` after `STEP` of its steps.
-/// - `replay SPEC SCRIPT SCHEDULE` flies it by a schedule.
+/// - `replay SPEC SCRIPT SCHEDULE` flies a mission by a schedule.
 /// - `check SPEC` prints whether a specification is accepted.
-/// - `explain SPEC` and `explain SPEC SCRIPT` print why a specification or a script is refused.
-/// - `bounds SPEC` prints the bounds that a specification has to give.
+/// - `explain SPEC` and `explain SPEC SCRIPT` print why a specification or a script is refused, or the idle parts.
+/// - `bounds SPEC` prints each bound that a specification must give.
 /// - `fill SPEC` prints a specification with bounds and a window that suffice.
 /// - `choices SPEC` prints what each rule chooses.
 /// - `choose SPEC CONF STATE..` prints what is chosen in a state.
-/// - `props SPEC TRACE` judges a trace by any specification.
+/// - `props SPEC TRACE` judges a trace by a specification, which need not be accepted.
 /// - `summary SPEC TRACE`, `columns SPEC TRACE` and `picture SPEC TRACE` print what a trace shows.
-/// - `faults SPEC COUNT` prints each script with `COUNT` faults.
-/// - `flights SPEC SCRIPTS` flies each line of a file.
-/// - `gen N` prints the mission of a number, and `fly N` flies it.
+/// - `faults SPEC COUNT` prints each script with `COUNT` faults that keeps to the failure assumption.
+/// - `flights SPEC SCRIPTS` flies the script on each line of a file.
+/// - `gen N` prints the mission generated from a number, and `fly N` flies it.
 /// - `--help` and `--version` describe the program.
 ///
-/// All printed text has been written when the call ends, or the status is 4.
+/// When the call returns, all printed text has been written, or the status is 4.
 ///
-/// A mission is flown with a thread for each processor, but without threads by a schedule or on two units. `racks` are
+/// A mission is flown with a thread for each processor. `replay`, `pair` and `flights` fly without threads. `racks` are
 /// the boxes of the processors, and `spares` those of processors that restart.
 pub fn scram<R: AllocGlobal + Threads + Wait + Sync, F: Files, K: Sink>(
     rt: &R,
@@ -109,7 +109,7 @@ fn send_answer<R: AllocGlobal + Threads + Wait + Sync, F: Files, K: Sink>(
     }
 }
 
-// Answers the words. The sink may still hold back printed text.
+// Answers the words without flushing the sink, which may still hold back printed text.
 fn answer_words<R: AllocGlobal + Threads + Wait + Sync, F: Files, K: Sink>(
     rt: &R,
     words: &[String],
@@ -144,7 +144,7 @@ fn usage() -> Refusal
     Refusal::new(Refused::Usage, line)
 }
 
-// Prints a page on the command.
+// Prints a page about the command.
 fn tell_page<K: Sink>(out: &mut K, page: Page) -> Status
     ensures { Tells (Gives (ANSWERED, page_text page)) (K.state out.old) (K.state out.new) result.code }
 {
@@ -187,7 +187,7 @@ fn answer_form<R: AllocGlobal + Threads + Wait + Sync, F: Files, K: Sink>(
     }
 }
 
-// Answers a form on flights.
+// Answers a form about flights.
 fn answer_flight<R: AllocGlobal + Threads + Wait + Sync, F: Files, K: Sink>(
     rt: &R,
     flight: FlightForm<&str>,
@@ -273,7 +273,7 @@ fn answer_flight<R: AllocGlobal + Threads + Wait + Sync, F: Files, K: Sink>(
     }
 }
 
-// Answers a form on a specification.
+// Answers a question about a specification.
 fn answer_question<F: Files, K: Sink>(
     alloc: Global,
     question: SpecificationForm<&str>,
@@ -315,7 +315,7 @@ fn answer_question<F: Files, K: Sink>(
     }
 }
 
-// Prints a look at the trace of a flight, by a specification.
+// Answers a look at a trace of missions of a specification.
 fn look_at<F: Files, K: Sink>(
     alloc: Global,
     look: Look,

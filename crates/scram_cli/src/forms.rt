@@ -9,100 +9,102 @@ use faults_form::{FaultCount, fault_count};
 use kernel_pair::UnitHalt;
 use trace_text::numbers::read_number;
 
-/// The exclusive upper limit of the numbers of missions.
+/// The exclusive upper limit of a mission's number.
 const MISSIONS: u64 = 1_000_000;
 
-/// The exclusive upper limits of the numbers of units, and of the frames and steps of their halts.
+/// The exclusive upper limit of a unit's number.
 const UNITS: u64 = 2;
 
 const HALT_FRAMES: u64 = 20_000;
 
 const HALT_STEPS: u64 = 32;
 
-/// The form of the words. `N` is the type of the name of a file.
+/// A form of the command's words. `N` is the type of a name.
 #[derive(Debug, Drop)]
 pub enum Form<N> {
-    /// A form on flights.
+    /// A form about flights.
     Flight {
         flight: FlightForm<N>,
     },
-    /// A form on a specification.
+    /// A question about a specification.
     Specification {
         question: SpecificationForm<N>,
     },
-    /// A look at the trace of a flight by a specification.
+    /// A look at a trace of missions of a specification.
     Trace {
         look: Look,
         specification: N,
         trace: N,
     },
-    /// A page on the command.
+    /// A page about the command.
     Told {
         page: Page,
     },
 }
 
-/// A form on flights.
+/// A form about flights.
 #[derive(Debug, Drop)]
 pub enum FlightForm<N> {
-    /// Flies the mission in two files.
+    /// Flies the mission of a specification and a script, and prints its trace.
     Run {
         specification: N,
         script: N,
     },
-    /// Flies the mission in two files while readers read its summary, and prints its last summary in one line.
+    /// Flies the mission of a specification and a script while two readers read its summary, and prints its last
+    /// summary in one line.
     Watch {
         specification: N,
         script: N,
     },
-    /// Flies the mission in two files with the kernel on two units, of which one may halt.
+    /// Flies the mission of a specification and a script with the kernel on two units, one of which may halt.
     Pair {
         specification: N,
         script: N,
         halt: UnitHalt,
     },
-    /// Flies the mission in two files by the schedule in a third.
+    /// Flies the mission of a specification and a script by a schedule.
     Replay {
         specification: N,
         script: N,
         schedule: N,
     },
-    /// Prints each script with this number of faults, 1 to 3, that keeps to a specification's failure assumption.
+    /// Prints each script with `count` faults, 1 to 3, that keeps to a specification's failure assumption.
     Faults {
         specification: N,
         count: FaultCount,
     },
-    /// Flies each script in a file, and prints a line for each.
+    /// Flies the script on each line of a file, and prints a line for each and one for the totals.
     Flights {
         specification: N,
         scripts: N,
     },
-    /// Prints the mission of a number, 0 to 999,999.
+    /// Prints the mission generated from a number, 0 to 999,999.
     Gen {
         number: u32,
     },
-    /// Flies the mission of a number, 0 to 999,999, and prints its summary.
+    /// Flies the mission generated from a number, 0 to 999,999, and prints its summary.
     Fly {
         number: u32,
     },
 }
 
-/// A form on a specification.
+/// A question about a specification.
 #[derive(Debug, Drop)]
 pub enum SpecificationForm<N> {
     /// Prints whether the specification is accepted.
     Check {
         specification: N,
     },
-    /// Prints the bounds that the specification has to give.
+    /// Prints each bound that the specification must give, with the smallest value that suffices and the given value.
     Bounds {
         specification: N,
     },
-    /// Prints why the specification is refused, or which parts of it nothing uses.
+    /// Prints why the specification is refused. If it is accepted, prints its idle parts.
     Explain {
         specification: N,
     },
-    /// Prints why the specification or a script for it is refused, or which parts of the specification nothing uses.
+    /// Prints why the specification or a script for it is refused. If they make a mission, prints the idle parts of the
+    /// specification.
     ExplainScript {
         specification: N,
         script: N,
@@ -111,11 +113,11 @@ pub enum SpecificationForm<N> {
     Fill {
         specification: N,
     },
-    /// Prints what each rule chooses, from where and in how many environments.
+    /// Prints the configuration that each rule chooses, from where and in how many environments.
     Choices {
         specification: N,
     },
-    /// Prints what is chosen in a state from a configuration, which is named first.
+    /// Prints the choice from a configuration in a state. The configuration is named before the state.
     Choose {
         specification: N,
         conf: N,
@@ -136,7 +138,7 @@ pub enum Look {
     Picture,
 }
 
-/// Returns the form of the words after the program's name, or `None`.
+/// Returns the form of the words after the program's name, or `None` if they have no form.
 pub fn form_of(words: &[String]) -> Option<Form<&str>>
     ensures { option_map (with_names (λ name. name.now)) result ≡ form_of (map string_bytes words.now) }
 {
@@ -167,7 +169,7 @@ fn choose_form<'a>(specification: &'a str, conf: &'a str, state: &[String]) -> O
     }
 }
 
-// Returns the form of at most six words, or `None`.
+// Returns the form of at most six words, or `None` if they have no form.
 fn form_of_few(words: &[String]) -> Option<Form<&str>>
     ensures { option_map (with_names (λ name. name.now)) result ≡ form_of_few (map string_bytes words.now) }
 {
@@ -217,7 +219,7 @@ fn form_of_two<'a>(command: &str, word: &'a str) -> Option<Form<&'a str>>
     }
 }
 
-// Returns the form on a specification of a command and the name of a file, or `None`.
+// Returns the question of a command about the specification in a file, or `None` if there is no such question.
 fn question_of<'a>(command: &str, specification: &'a str) -> Option<SpecificationForm<&'a str>>
     ensures { option_map (question_with_names (λ name. name.now)) result ≡ question_of command.now specification.now }
 {
@@ -293,7 +295,8 @@ fn form_of_explained<'a>(
     }
 }
 
-// Returns the form on flights of a command and the names of a specification's file and of another file, or `None`.
+// Returns the form about flights of a command, the name of a specification's file and a further word, or `None` if
+// there is no such form.
 fn flight_of_three<'a>(
     command: &str,
     specification: &'a str,

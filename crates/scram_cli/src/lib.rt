@@ -1,5 +1,5 @@
-//! The command. Its answer is a function of its words and of the bytes of the files that they name. Only the cycle of
-//! needs that is shown, if there are several, may differ.
+//! The command. Its answer is a function of its words and of the bytes of the files that they name, with one exception.
+//! If the needs have several cycles, any of the cycles may be shown.
 #![tactic(auto)]
 
 mod command;

@@ -1,18 +1,18 @@
-//! The pages on the command.
+//! The pages about the command.
 
 ghost use Rattle.std.specs.Prelude.{◌≡◌};
 ghost use Rattle.scram_cli.specs.Pages.{page_text};
 
-/// A page on the command.
+/// A page about the command.
 #[derive(Clone, Copy, Debug, PartialEq, Eq)]
 pub enum Page {
     /// The forms and the statuses, one on each line.
     Help,
-    /// The program's version, and the toolchain by which it is proved.
+    /// The version of the program, and the toolchain that checked its proofs.
     Version,
 }
 
-/// The forms of the command and its statuses, as docs/FORMATS.md has them.
+/// The text of the page of the forms and the statuses, as in docs/FORMATS.md.
 pub const HELP: &str = concat!(
     "scram run SPEC SCRIPT              flies a mission and prints its trace\n",
     "scram watch SPEC SCRIPT            flies a mission while readers look at it and prints its last summary\n",
@@ -52,7 +52,7 @@ pub const HELP: &str = concat!(
     "docs/GUIDE.md tells how to write a mission, docs/FORMATS.md what each line means.\n",
 );
 
-/// The version, with the line of the toolchain.
+/// The text of the page of the version and the toolchain.
 pub const VERSION: &str = "scram 1.0.0, proved with rattle-kit-13f logic dac8208d650f15bf\n";
 
 /// Returns the text of a page.

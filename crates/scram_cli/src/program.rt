@@ -1,4 +1,4 @@
-//! The command over the files of the system and standard output.
+//! The command with the files of the system and standard output.
 
 ghost use Rattle.std.specs.Prelude.{◌≡◌, [], IfOk, map, string_bytes, vec_len};
 ghost use Rattle.scram_io.specs.Real.{real_files, real_sink};
@@ -19,11 +19,11 @@ use std::rt;
 use std::sync::Wait;
 use std::thread::Threads;
 
-/// Answers the words after the program's name, with the files of the system and standard output. It returns both with
+/// Answers the words after the program's name, with the files of the system and standard output. Returns both with
 /// their histories: the names and bytes that were read, in order, and the bytes that were written.
 ///
 /// The status and the bytes that were written are the answer to the words and to the bytes that were read. If the
-/// status is 0, what was flown is assured. There is no premise on files or output.
+/// status is 0, what was flown is assured. Nothing is required of the files or the output.
 ///
 /// # Errors
 ///
