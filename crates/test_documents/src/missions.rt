@@ -1,7 +1,7 @@
 //! Generated missions, compared with worked ones.
 
 use mission_gen::{generate, uav};
-use scram_types::{Change, HaltAt};
+use scram_types::{Change, HaltAt, Script};
 use std::rt::HostRuntime;
 use std::test::Fail;
 
@@ -27,28 +27,44 @@ fn is_only_halt(halts: &[HaltAt], proc: u8, frame: u32, step: u8) -> bool {
     }
 }
 
+// The frames, factors and values of the first changes of mission 0.
+const FIRST: [(u32, u8, u8); 5] = [
+    (60, 0, 1),
+    (126, 0, 0),
+    (187, 0, 1),
+    (187, 3, 1),
+    (244, 1, 1),
+];
+
+// Returns the frames of a script, how many changes it has, whether it begins with those of mission 0, and whether its
+// only halt is that of mission 0.
+fn facts(script: &Script) -> (u32, usize, bool, bool) {
+    let changes = script.changes.items();
+    (
+        script.frames,
+        changes.len(),
+        begin_with(changes, &FIRST),
+        is_only_halt(script.halts.items(), 0, 306, 25),
+    )
+}
+
 #[test]
 fn the_first_mission_is_the_worked_one(rt: HostRuntime) -> Result<(), Fail> {
     let (spec, script) = generate(rt.alloc(), 0)?;
-    let first = [
-        (60, 0, 1),
-        (126, 0, 0),
-        (187, 0, 1),
-        (187, 3, 1),
-        (244, 1, 1),
-    ];
-    assert_eq!(rt; spec.factors.items().len(), 6);
-    assert_eq!(rt; script.frames, 1000);
-    assert_eq!(rt; script.changes.items().len(), 27);
-    assert!(rt; begin_with(script.changes.items(), &first));
-    assert!(rt; is_only_halt(script.halts.items(), 0, 306, 25));
+    let factors = spec.factors.items().len();
+    drop(spec);
+    let found = facts(&script);
+    drop(script);
+    assert_eq!(rt; factors, 6);
+    assert_eq!(rt; found, (1000, 27, true, true));
     Ok(())
 }
 
 #[test]
 fn the_aircraft_is_read(rt: HostRuntime) -> Result<(), Fail> {
     let spec = uav(rt.alloc())?;
-    assert_eq!(rt; spec.confs.items().len(), 5);
-    assert_eq!(rt; spec.bounds.items().len(), 25);
+    let found = (spec.confs.items().len(), spec.bounds.items().len());
+    drop(spec);
+    assert_eq!(rt; found, (5, 25));
     Ok(())
 }

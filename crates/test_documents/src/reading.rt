@@ -140,25 +140,31 @@ fn texts_and_numbers_are_refused_at_the_first_broken_rule(rt: HostRuntime) -> Re
     Ok(())
 }
 
+/// Texts, and the numbers from -7 to 10 that they are.
+const NUMBERS: [(&str, Option<i64>); 11] = [
+    ("0", Some(0)),
+    ("5", Some(5)),
+    ("-7", Some(-7)),
+    ("10", Some(10)),
+    ("11", None),
+    ("-8", None),
+    ("5.0", None),
+    ("5e0", None),
+    ("-0", None),
+    ("18446744073709551616", None),
+    ("true", None),
+];
+
+/// Returns the number from -7 to 10 that a text is.
+fn number_of(alloc: Global, text: &str) -> Result<Option<i64>, DocError> {
+    let value = parse(alloc, text.as_bytes())?;
+    Ok(int_in(&value, -7, 10, &Path::root()).ok())
+}
+
 #[test]
 fn whole_numbers_have_no_point_no_exponent_and_64_bits(rt: HostRuntime) -> Result<(), Fail> {
-    let rows = [
-        ("0", Some(0)),
-        ("5", Some(5)),
-        ("-7", Some(-7)),
-        ("10", Some(10)),
-        ("11", None),
-        ("-8", None),
-        ("5.0", None),
-        ("5e0", None),
-        ("-0", None),
-        ("18446744073709551616", None),
-        ("true", None),
-    ];
-    for (number, want) in rows {
-        let value = parse(rt.alloc(), number.as_bytes())?;
-        let got = int_in(&value, -7, 10, &Path::root()).ok();
-        assert_eq!(rt; got, want, "{number}");
+    for (number, want) in NUMBERS {
+        assert_eq!(rt; number_of(rt.alloc(), number)?, want, "{number}");
     }
     Ok(())
 }
@@ -175,53 +181,81 @@ fn brackets(alloc: Global, open: usize, close: usize) -> Result<Vec<u8>, Fail> {
     Ok(bytes)
 }
 
+/// Numbers of `[` and of `]`, and the rule at which these texts are refused.
+const NESTED: [(usize, usize, u8); 5] = [
+    (100, 100, 2),
+    (127, 127, 2),
+    (128, 128, 1),
+    (200, 200, 1),
+    (1_048_576, 0, 1),
+];
+
+/// Returns the rule and the path at which so many brackets are refused.
+fn bracket_fault(alloc: Global, open: usize, close: usize) -> Result<(u8, Path), Fail> {
+    let bytes = brackets(alloc, open, close)?;
+    let fault = first_fault(alloc, &bytes)?;
+    Ok(fault)
+}
+
 #[test]
-fn a_json_text_nests_127_levels_and_is_utf8(rt: HostRuntime) -> Result<(), Fail> {
-    let rows = [
-        (100, 100, 2),
-        (127, 127, 2),
-        (128, 128, 1),
-        (200, 200, 1),
-        (1_048_576, 0, 1),
-    ];
-    for (open, close, rule) in rows {
-        let bytes = brackets(rt.alloc(), open, close)?;
-        let fault = first_fault(rt.alloc(), &bytes)?;
-        assert_eq!(rt; fault.0, rule, "{open} levels");
-        assert_eq!(rt; fault.1.as_str(), ".", "{open} levels");
+fn a_json_text_nests_127_levels(rt: HostRuntime) -> Result<(), Fail> {
+    for (open, close, rule) in NESTED {
+        let (found, path) = bracket_fault(rt.alloc(), open, close)?;
+        assert_eq!(rt; (found, path.as_str()), (rule, "."), "{open} levels");
     }
-    let fault = first_fault(rt.alloc(), b"\xff[]")?;
-    assert_eq!(rt; fault.0, 1);
-    assert_eq!(rt; fault.1.as_str(), ".");
     Ok(())
 }
 
 #[test]
-fn members_and_names(rt: HostRuntime) -> Result<(), Fail> {
-    let value = parse(rt.alloc(), br#"{"a":1,"b":"two"}"#)?;
-    let path = Path::root().member("b");
-    let b = field(&value, "b").and_then(|b| text(b, &path).ok());
-    assert_eq!(rt; b, Some("two"));
-    assert!(rt; field(&value, "c").is_none());
-
-    let rows = [
-        ("p", true),
-        ("alternator_1", true),
-        ("abcdefghijklmnop", true),
-        ("abcdefghijklmnopq", false),
-        ("", false),
-        ("P0", false),
-        ("pQ", false),
-        ("0p", false),
-        ("_p", false),
-        ("p-0", false),
-    ];
-    for (name, valid) in rows {
-        match name_of(name) {
-            Some(found) => assert_eq!(rt; found.as_str(), name),
-            None => assert!(rt; !valid, "{name}"),
-        }
-        assert_eq!(rt; name_of(name).is_some(), valid, "{name}");
-    }
+fn a_json_text_is_utf8(rt: HostRuntime) -> Result<(), Fail> {
+    let (found, path) = first_fault(rt.alloc(), b"\xff[]")?;
+    assert_eq!(rt; (found, path.as_str()), (1, "."));
     Ok(())
+}
+
+/// Returns the text that a member of an object is.
+fn text_member<'a>(v: &'a Value, name: &str) -> Option<&'a str> {
+    let path = Path::root();
+    match field(v, name) {
+        Some(member) => text(member, &path).ok(),
+        None => None,
+    }
+}
+
+#[test]
+fn members_are_found_by_name(rt: HostRuntime) -> Result<(), Fail> {
+    let value = parse(rt.alloc(), br#"{"a":1,"b":"two"}"#)?;
+    assert_eq!(rt; text_member(&value, "b"), Some("two"));
+    assert!(rt; field(&value, "c").is_none());
+    Ok(())
+}
+
+/// Texts that are names, and others.
+const NAMES: [(&str, bool); 10] = [
+    ("p", true),
+    ("alternator_1", true),
+    ("abcdefghijklmnop", true),
+    ("abcdefghijklmnopq", false),
+    ("", false),
+    ("P0", false),
+    ("pQ", false),
+    ("0p", false),
+    ("_p", false),
+    ("p-0", false),
+];
+
+/// Returns whether the name of a text shows that text; none where the text is no name.
+fn is_kept(text: &str) -> Option<bool> {
+    match name_of(text) {
+        Some(name) => Some(name.as_str() == text),
+        None => None,
+    }
+}
+
+#[test]
+fn names_have_16_letters_digits_and_underscores(rt: HostRuntime) {
+    for (text, valid) in NAMES {
+        let want = if valid { Some(true) } else { None };
+        assert_eq!(rt; is_kept(text), want, "{text}");
+    }
 }

@@ -3,6 +3,7 @@
 use fault_script::{factors_at, halt_in, halt_of, restart_of, up_at};
 use scram_types::{Change, FactorId, HaltAt, List, ProcId, RestartAt, Script};
 use std::alloc::{AllocError, Global};
+use std::process::Abort;
 use std::rt::HostRuntime;
 
 // Returns a script in which factor 1 changes in frames 3 and 5. Processor 0 halts in 4 and stays down. Processor 1
@@ -35,40 +36,69 @@ fn script(alloc: Global) -> Result<Script, AllocError> {
     })
 }
 
+// Frames, the value of factor 1, and whether processors 0 and 1 are up.
+const FRAMES: [(u32, u8, bool, bool); 7] = [
+    (0, 0, true, true),
+    (2, 0, true, true),
+    (3, 2, true, false),
+    (4, 2, true, false),
+    (5, 1, false, false),
+    (6, 1, false, true),
+    (7, 1, false, false),
+];
+
+// Returns the values of a frame, and whether processors 0 and 1 are up.
+fn told(script: &Script, frame: u32) -> ([u8; 6], bool, bool) {
+    (
+        factors_at(script, frame),
+        up_at(script, ProcId(0), frame),
+        up_at(script, ProcId(1), frame),
+    )
+}
+
+fn check_frames(rt: &impl Abort, script: &Script) {
+    for (frame, value, up0, up1) in FRAMES {
+        let want = ([0, value, 0, 0, 0, 0], up0, up1);
+        assert_eq!(rt; told(script, frame), want, "in frame {frame}");
+    }
+}
+
 #[test]
 fn tells_values_and_who_is_up(rt: HostRuntime) -> Result<(), AllocError> {
     let script = script(rt.alloc())?;
-    for (frame, value, up0, up1) in [
-        (0, 0, true, true),
-        (2, 0, true, true),
-        (3, 2, true, false),
-        (4, 2, true, false),
-        (5, 1, false, false),
-        (6, 1, false, true),
-        (7, 1, false, false),
-    ] {
-        assert_eq!(rt;
-            factors_at(&script, frame),
-            [0, value, 0, 0, 0, 0],
-            "in frame {frame}"
-        );
-        assert_eq!(rt; up_at(&script, ProcId(0), frame), up0, "in frame {frame}");
-        assert_eq!(rt; up_at(&script, ProcId(1), frame), up1, "in frame {frame}");
-    }
+    check_frames(&rt, &script);
     Ok(())
+}
+
+// Returns the frames of a processor's first halt and of its restart.
+fn halt_and_restart(script: &Script, proc: u8) -> (Option<u32>, Option<u32>) {
+    let halt = match halt_of(script, ProcId(proc)) {
+        Some(halt) => Some(halt.frame),
+        None => None,
+    };
+    (halt, restart_of(script, ProcId(proc)))
+}
+
+// Returns the step of a processor's halt in a frame.
+fn step_in(script: &Script, proc: u8, frame: u32) -> Option<u8> {
+    match halt_in(script, ProcId(proc), frame) {
+        Some(halt) => Some(halt.step),
+        None => None,
+    }
+}
+
+fn check_halts(rt: &impl Abort, script: &Script) {
+    for (proc, halt, restart) in [(0, Some(4), None), (1, Some(2), Some(6)), (2, None, None)] {
+        assert_eq!(rt; halt_and_restart(script, proc), (halt, restart));
+    }
+    for (frame, step) in [(6, Some(3)), (4, None)] {
+        assert_eq!(rt; step_in(script, 1, frame), step);
+    }
 }
 
 #[test]
 fn finds_halts_and_restarts(rt: HostRuntime) -> Result<(), AllocError> {
     let script = script(rt.alloc())?;
-    assert_eq!(rt; halt_of(&script, ProcId(1)).map(|halt| halt.frame), Some(2));
-    assert_eq!(rt; halt_of(&script, ProcId(2)).is_none(), true);
-    assert_eq!(rt;
-        halt_in(&script, ProcId(1), 6).map(|halt| halt.step),
-        Some(3)
-    );
-    assert_eq!(rt; halt_in(&script, ProcId(1), 4).is_none(), true);
-    assert_eq!(rt; restart_of(&script, ProcId(1)), Some(6));
-    assert_eq!(rt; restart_of(&script, ProcId(0)), None);
+    check_halts(&rt, &script);
     Ok(())
 }

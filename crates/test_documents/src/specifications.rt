@@ -41,34 +41,53 @@ fn brackets(alloc: Global, open: usize, length: usize) -> Result<Vec<u8>, NoMemo
     Ok(bytes)
 }
 
+/// Numbers of opening brackets and of all, and the rule at which these texts are refused.
+const DEEP: [(usize, usize, u8); 5] = [
+    (100, 200, 2),
+    (127, 254, 2),
+    (128, 256, 1),
+    (200, 400, 1),
+    (MAX_SPECIFICATION_BYTES, MAX_SPECIFICATION_BYTES, 1),
+];
+
+/// Returns the rule at which so many brackets are refused.
+fn bracket_rule(alloc: Global, open: usize, length: usize) -> Result<u8, NoMemory> {
+    let bytes = brackets(alloc, open, length)?;
+    let (rule, _path) = refusal(alloc, &bytes)?;
+    Ok(rule)
+}
+
 #[test]
 fn deep_texts(rt: HostRuntime) -> Result<(), Fail> {
-    let alloc = rt.alloc();
-    assert_eq!(rt; refusal(alloc, &brackets(alloc, 100, 200)?)?.0, 2);
-    assert_eq!(rt; refusal(alloc, &brackets(alloc, 127, 254)?)?.0, 2);
-    assert_eq!(rt; refusal(alloc, &brackets(alloc, 128, 256)?)?.0, 1);
-    assert_eq!(rt; refusal(alloc, &brackets(alloc, 200, 400)?)?.0, 1);
-    assert_eq!(rt;
-        refusal(
-            alloc,
-            &brackets(alloc, MAX_SPECIFICATION_BYTES, MAX_SPECIFICATION_BYTES)?
-        )?
-        .0,
-        1
-    );
+    for (open, length, rule) in DEEP {
+        assert_eq!(rt;
+            bracket_rule(rt.alloc(), open, length)?,
+            rule,
+            "{open} levels"
+        );
+    }
+    Ok(())
+}
+
+/// Returns the refusal of the example behind a byte that begins no character.
+fn refusal_behind_byte(alloc: Global) -> Result<(u8, Path), NoMemory> {
+    let mut bytes = Vec::from_slice(alloc, &[255])?;
+    bytes.extend_from_slice(EXAMPLE.as_bytes())?;
+    refusal(alloc, &bytes)
+}
+
+#[test]
+fn a_byte_before_it_is_no_json_text(rt: HostRuntime) -> Result<(), Fail> {
+    let (rule, path) = refusal_behind_byte(rt.alloc())?;
+    assert_eq!(rt; (rule, path.as_str()), (1, "."));
     Ok(())
 }
 
 #[test]
-fn a_byte_before_it_and_cuts_are_no_json_text(rt: HostRuntime) -> Result<(), Fail> {
-    let alloc = rt.alloc();
+fn cuts_are_no_json_texts(rt: HostRuntime) -> Result<(), Fail> {
     let text = EXAMPLE.as_bytes();
-    let mut bytes = Vec::from_slice(alloc, &[255])?;
-    bytes.extend_from_slice(text)?;
-    let (rule, path) = refusal(alloc, &bytes)?;
-    assert_eq!(rt; (rule, path.as_str()), (1, "."));
     for end in 0..text.len() {
-        let (rule, path) = refusal(alloc, &text[..end])?;
+        let (rule, path) = refusal(rt.alloc(), &text[..end])?;
         assert_eq!(rt; (rule, path.as_str()), (1, "."), "cut at {end}");
     }
     Ok(())
@@ -83,13 +102,16 @@ fn rewritten(alloc: Global, bytes: &[u8]) -> Result<Vec<u8>, NoMemory> {
     }
 }
 
+/// Returns whether the specification that a text is has this canonical text.
+fn is_written(alloc: Global, text: &str, canonical: &str) -> Result<bool, NoMemory> {
+    let written = rewritten(alloc, text.as_bytes())?;
+    Ok(written.as_slice() == canonical.as_bytes())
+}
+
 #[test]
 fn the_example_is_written_in_its_canonical_text(rt: HostRuntime) -> Result<(), Fail> {
-    let alloc = rt.alloc();
-    let written = rewritten(alloc, EXAMPLE.as_bytes())?;
-    assert!(rt; written.as_slice() == CANONICAL.as_bytes());
-    let again = rewritten(alloc, &written)?;
-    assert!(rt; again.as_slice() == CANONICAL.as_bytes());
+    assert!(rt; is_written(rt.alloc(), EXAMPLE, CANONICAL)?);
+    assert!(rt; is_written(rt.alloc(), CANONICAL, CANONICAL)?);
     Ok(())
 }
 
@@ -101,14 +123,17 @@ fn changed(alloc: Global, text: &str, old: &str, new: &str) -> Result<String, No
     }
 }
 
+/// Returns the canonical text of the example in a version, with its policy.
+fn version(alloc: Global, version: &str, policy: &str) -> Result<String, NoMemory> {
+    let text = changed(alloc, CANONICAL, r#""scram":1"#, version)?;
+    changed(alloc, text.as_str(), r#""preconditions""#, policy)
+}
+
 #[test]
 fn the_second_version_is_written_as_it_was_read(rt: HostRuntime) -> Result<(), Fail> {
-    let alloc = rt.alloc();
-    let second = changed(alloc, CANONICAL, r#""scram":1"#, r#""scram":2"#)?;
     let policy = r#""policy":"settle","preconditions""#;
-    let settle = changed(alloc, second.as_str(), r#""preconditions""#, policy)?;
-    let written = rewritten(alloc, settle.as_str().as_bytes())?;
-    assert!(rt; written.as_slice() == settle.as_str().as_bytes());
+    let settle = version(rt.alloc(), r#""scram":2"#, policy)?;
+    assert!(rt; is_written(rt.alloc(), settle.as_str(), settle.as_str())?);
     Ok(())
 }
 
@@ -116,14 +141,16 @@ fn the_second_version_is_written_as_it_was_read(rt: HostRuntime) -> Result<(), F
 const DEMAND: &str =
     r#""demands":[{"down":[],"from":["full"],"name":"stay","off":[],"on":[{"app":"link","modes":["fast"]}],"to":["full"],"up":["p0"],"when":[]}],"factors""#;
 
+/// Returns the canonical text of the example in the third version, with a policy and a demand.
+fn third_version(alloc: Global) -> Result<String, NoMemory> {
+    let policy = r#""policy":"retarget","preconditions""#;
+    let text = version(alloc, r#""scram":3"#, policy)?;
+    changed(alloc, text.as_str(), r#""factors""#, DEMAND)
+}
+
 #[test]
 fn the_third_version_is_written_as_it_was_read(rt: HostRuntime) -> Result<(), Fail> {
-    let alloc = rt.alloc();
-    let third = changed(alloc, CANONICAL, r#""scram":1"#, r#""scram":3"#)?;
-    let policy = r#""policy":"retarget","preconditions""#;
-    let retarget = changed(alloc, third.as_str(), r#""preconditions""#, policy)?;
-    let demands = changed(alloc, retarget.as_str(), r#""factors""#, DEMAND)?;
-    let written = rewritten(alloc, demands.as_str().as_bytes())?;
-    assert!(rt; written.as_slice() == demands.as_str().as_bytes());
+    let demands = third_version(rt.alloc())?;
+    assert!(rt; is_written(rt.alloc(), demands.as_str(), demands.as_str())?);
     Ok(())
 }

@@ -22,7 +22,11 @@ pub fn start(rt: &HostRuntime, rack: Rack, other: Rack, counters: &Counters) -> 
     let one = Live::new(ProcId(0), rack);
     let two = Live::new(ProcId(1), other);
     match uav(rt.alloc()) {
-        Ok(spec) => fly(rt, &spec, one, two, racks)?,
+        Ok(spec) => {
+            let flown = fly(rt, &spec, one, two, racks);
+            drop(spec);
+            flown?;
+        }
         Err(_) => return Err(ErrorKind::OutOfMemory.into()),
     }
     println!(rt;
@@ -43,8 +47,17 @@ fn fly(
     requires one_there { one.proc.0 < 8 }
     requires two_there { two.proc.0 < 8 }
 {
-    fly_all(rt, spec, &mut one, &mut two, &mut racks)?;
-    print_return(rt, two, racks.pop())
+    let flown = fly_all(rt, spec, &mut one, &mut two, &mut racks);
+    drop(one);
+    let spare = racks.pop();
+    drop(racks);
+    match flown {
+        Ok(()) => print_return(rt, two, spare),
+        Err(error) => {
+            drop((two, spare));
+            Err(error)
+        }
+    }
 }
 
 /// Halts a processor after the last frame, and restarts it if there is a rack for it.

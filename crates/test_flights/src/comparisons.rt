@@ -69,7 +69,9 @@ pub fn fly<R: AllocGlobal + Threads + Wait + Sync>(
     words: &str,
 ) -> io::Result<()> {
     let mission = read_mission(rt, words)?;
-    fly_mission(rt, threads, &mission)
+    let flown = fly_mission(rt, threads, &mission);
+    drop(mission);
+    flown
 }
 
 fn fly_mission<R: AllocGlobal + Threads + Wait + Sync>(
@@ -78,7 +80,18 @@ fn fly_mission<R: AllocGlobal + Threads + Wait + Sync>(
     mission: &Mission,
 ) -> io::Result<()> {
     let wanted = fly_alone(threads.alloc(), mission)?;
-    print_wanted(rt, &wanted)?;
+    let printed = fly_trials(rt, threads, mission, &wanted);
+    drop(wanted);
+    printed
+}
+
+fn fly_trials<R: AllocGlobal + Threads + Wait + Sync>(
+    rt: &HostRuntime,
+    threads: &R,
+    mission: &Mission,
+    wanted: &Flown,
+) -> io::Result<()> {
+    print_wanted(rt, wanted)?;
     let each = Trial {
         whom: "a thread for each",
         asked: None,
@@ -90,10 +103,10 @@ fn fly_mission<R: AllocGlobal + Threads + Wait + Sync>(
         "all but the last",
         all_but(mission.spec().procs.items().len() - 1),
     );
-    print_flights(rt, threads, mission, &wanted, each)?;
-    print_flights(rt, threads, mission, &wanted, none)?;
-    print_flights(rt, threads, mission, &wanted, first)?;
-    print_flights(rt, threads, mission, &wanted, last)
+    print_flights(rt, threads, mission, wanted, each)?;
+    print_flights(rt, threads, mission, wanted, none)?;
+    print_flights(rt, threads, mission, wanted, first)?;
+    print_flights(rt, threads, mission, wanted, last)
 }
 
 /// Flies a mission as often as a trial says, and prints how often the result was the expected one.
@@ -130,7 +143,9 @@ pub fn fly_steps<R: AllocGlobal + Threads + Wait + Sync>(
     let (count, names) = split_word(words);
     let count = number(count)?;
     let documents = read_documents(rt, names)?;
-    fly_each_step(rt, threads, count, &documents)
+    let flown = fly_each_step(rt, threads, count, &documents);
+    drop(documents);
+    flown
 }
 
 fn fly_each_step<R: AllocGlobal + Threads + Wait + Sync>(
@@ -140,10 +155,22 @@ fn fly_each_step<R: AllocGlobal + Threads + Wait + Sync>(
     documents: &Documents,
 ) -> io::Result<()> {
     let wanted = fly_first_step(threads, documents)?;
-    print_wanted(rt, &wanted)?;
+    let printed = compare_steps(rt, threads, count, documents, &wanted);
+    drop(wanted);
+    printed
+}
+
+fn compare_steps<R: AllocGlobal + Threads + Wait + Sync>(
+    rt: &HostRuntime,
+    threads: &R,
+    count: u32,
+    documents: &Documents,
+    wanted: &Flown,
+) -> io::Result<()> {
+    print_wanted(rt, wanted)?;
     let mut counts = Counts::new();
     for step in 0..count {
-        fly_step(threads, documents, step, &wanted, &mut counts)?;
+        fly_step(threads, documents, step, wanted, &mut counts)?;
     }
     counts.print(rt, "a thread for each", count)
 }
@@ -153,7 +180,9 @@ fn fly_first_step<R: AllocGlobal + Threads + Wait + Sync>(
     documents: &Documents,
 ) -> io::Result<Flown> {
     let mission = documents.mission(rt.alloc(), 0)?;
-    fly_alone(rt.alloc(), &mission)
+    let flown = fly_alone(rt.alloc(), &mission);
+    drop(mission);
+    flown
 }
 
 fn fly_step<R: AllocGlobal + Threads + Wait + Sync>(
@@ -164,7 +193,9 @@ fn fly_step<R: AllocGlobal + Threads + Wait + Sync>(
     counts: &mut Counts,
 ) -> io::Result<()> {
     let mission = documents.mission(rt.alloc(), step)?;
-    fly_both(rt, &mission, None, wanted, counts)
+    let flown = fly_both(rt, &mission, None, wanted, counts);
+    drop(mission);
+    flown
 }
 
 fn print_wanted(rt: &HostRuntime, wanted: &Flown) -> io::Result<()> {

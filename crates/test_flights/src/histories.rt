@@ -1,6 +1,8 @@
 //! Flights over a lock, flown again by their histories.
 
 ghost use Rattle.std.specs.Prelude.{◌≡◌};
+ghost use Rattle.event_core.specs.Cores.{flown, standing};
+ghost use Rattle.fail_stop.specs.Ends.{IsOver};
 
 use crate::decks::fly_over_lock;
 use app_model::racks::empty_racks;
@@ -23,9 +25,24 @@ pub fn fly_and_write<R: AllocGlobal + Threads + Wait + Sync>(
 ) -> io::Result<(Flown, Vec<u8>)> {
     let racks = empty_racks(rt.alloc())?;
     let spares = empty_racks(rt.alloc())?;
-    let core = fly_over_lock(rt, mission, asked, racks, spares)?;
-    let text = write_history(rt.alloc(), mission, &core)?;
-    Ok((core.finish(), text))
+    match fly_over_lock(rt, mission, asked, racks, spares) {
+        Ok(core) => finish(rt.alloc(), mission, core),
+        Err(error) => Err(error),
+    }
+}
+
+/// Returns what came of a flight that is over, and its history as a text.
+fn finish(alloc: Global, mission: &Mission, core: Core) -> io::Result<(Flown, Vec<u8>)>
+    requires spec { core.spec ≡ mission.now.spec }
+    requires over { IsOver (flown core) (standing core) }
+{
+    match write_history(alloc, mission, &core) {
+        Ok(text) => Ok((core.finish(), text)),
+        Err(error) => {
+            drop(core);
+            Err(error)
+        }
+    }
 }
 
 fn write_history(alloc: Global, mission: &Mission, core: &Core) -> io::Result<Vec<u8>>

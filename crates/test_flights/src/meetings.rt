@@ -19,7 +19,9 @@ pub fn meet<R: AllocGlobal + Threads + Wait + Sync>(
     words: &str,
 ) -> io::Result<()> {
     let mission = read_mission(rt, words)?;
-    meet_in(rt, threads, &mission)
+    let met = meet_in(rt, threads, &mission);
+    drop(mission);
+    met
 }
 
 fn meet_in<R: AllocGlobal + Threads + Wait + Sync>(
@@ -28,8 +30,19 @@ fn meet_in<R: AllocGlobal + Threads + Wait + Sync>(
     mission: &Mission,
 ) -> io::Result<()> {
     let wanted = fly_alone(threads.alloc(), mission)?;
-    meet_over(rt, threads, mission, Deck::Words, &wanted)?;
-    meet_over(rt, threads, mission, Deck::Lock, &wanted)
+    let met = meet_over_both(rt, threads, mission, &wanted);
+    drop(wanted);
+    met
+}
+
+fn meet_over_both<R: AllocGlobal + Threads + Wait + Sync>(
+    rt: &HostRuntime,
+    threads: &R,
+    mission: &Mission,
+    wanted: &Flown,
+) -> io::Result<()> {
+    meet_over(rt, threads, mission, Deck::Words, wanted)?;
+    meet_over(rt, threads, mission, Deck::Lock, wanted)
 }
 
 fn meet_over<R: AllocGlobal + Threads + Wait + Sync>(
@@ -41,7 +54,9 @@ fn meet_over<R: AllocGlobal + Threads + Wait + Sync>(
 ) -> io::Result<()> {
     let counters = Counters::new(threads.alloc())?;
     let flown = fly_counted(threads, mission, deck, &counters)?;
-    println!(rt; "{deck:?}, as on one thread: {}", is_same(&flown, wanted))?;
+    let same = is_same(&flown, wanted);
+    drop(flown);
+    println!(rt; "{deck:?}, as on one thread: {same}")?;
     counters.print(rt)
 }
 

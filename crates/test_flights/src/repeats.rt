@@ -23,7 +23,9 @@ pub fn repeat<R: AllocGlobal + Threads + Wait + Sync>(
     let deck = deck_named(deck)?;
     let times = number(times)?;
     let mission = read_mission(rt, names)?;
-    repeat_mission(rt, threads, deck, times, &mission)
+    let flown = repeat_mission(rt, threads, deck, times, &mission);
+    drop(mission);
+    flown
 }
 
 fn repeat_mission<R: AllocGlobal + Threads + Wait + Sync>(

@@ -14,7 +14,17 @@ pub fn each_row<F: Fn(&str, &str) -> io::Result<()>>(rt: &HostRuntime, answer: F
     requires { F.IsAlwaysCallable answer }
 {
     let rows = fs::read_to_string(rt, "rows.txt")?;
-    for row in rows.as_str().split("\n\n") {
+    answer_rows(rt, rows.as_str(), answer)
+}
+
+fn answer_rows<F: Fn(&str, &str) -> io::Result<()>>(
+    rt: &HostRuntime,
+    rows: &str,
+    answer: F,
+) -> io::Result<()>
+    requires { F.IsAlwaysCallable answer }
+{
+    for row in rows.split("\n\n") {
         let (title, lines) = row.split_once('\n').unwrap_or((row, ""));
         println!(rt; "> {title}")?;
         answer(title, lines)?;

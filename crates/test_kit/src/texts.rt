@@ -22,7 +22,11 @@ use std::rt::HostRuntime;
 /// Out of memory.
 pub fn uav_text(alloc: Global) -> io::Result<String> {
     match uav(alloc) {
-        Ok(spec) => canonical_text(alloc, &spec),
+        Ok(spec) => {
+            let text = canonical_text(alloc, &spec);
+            drop(spec);
+            text
+        }
         Err(_) => Err(ErrorKind::OutOfMemory.into()),
     }
 }
@@ -87,7 +91,10 @@ pub fn mission_of_texts(alloc: Global, spec: &str, script: &str) -> io::Result<M
     let spec = spec_of_text(alloc, spec)?;
     match script_of_text(alloc, &spec, script) {
         Ok(script) => accepted_mission(alloc, spec, script),
-        Err(error) => Err(error),
+        Err(error) => {
+            drop(spec);
+            Err(error)
+        }
     }
 }
 

@@ -1,78 +1,141 @@
 //! Names, ranges and first areas of applications, by the tables.
 
-use app_model::kinds::{autopilot, data_link, flight_control, navigator, power_monitor, task};
+use app_model::kinds::autopilot::{HOLD, KIND as PILOT};
+use app_model::kinds::data_link::{FAST, KIND as LINK};
+use app_model::kinds::flight_control::{AUGMENTED, DIRECT, KIND as CONTROL};
+use app_model::kinds::navigator::{KIND as NAVIGATOR, ROUTE};
+use app_model::kinds::power_monitor::{KIND as POWER, SAVER};
+use app_model::kinds::task::{KIND as TASK, REDUCED};
 use app_model::{
     Rack, after_halt, after_init, during, kind_name, kind_named, mode_name, mode_named, rack_fits,
     racks_fit, sane, start_area, variable_name, variable_named,
 };
 use scram_types::{KindId, Mode};
 
+// Returns the kind of the first name, and the mode and the variable of a kind that the others name.
+fn numbers_of(kind: u8, names: (&str, &str, &str)) -> (Option<KindId>, Option<Mode>, Option<u8>) {
+    (
+        kind_named(names.0),
+        mode_named(KindId(kind), names.1),
+        variable_named(KindId(kind), names.2),
+    )
+}
+
+// Returns the names of a kind, of its mode and of its variable.
+fn names_of(
+    kind: u8,
+    mode: u8,
+    variable: u8,
+) -> (
+    Option<&'static str>,
+    Option<&'static str>,
+    Option<&'static str>,
+) {
+    (
+        kind_name(KindId(kind)),
+        mode_name(KindId(kind), Mode(mode)),
+        variable_name(KindId(kind), variable),
+    )
+}
+
+// Kinds, modes and variables, and their names.
+const NAMES: [(u8, u8, u8, (&str, &str, &str)); 6] = [
+    (0, 1, 3, ("autopilot", "navigate", "target_alt")),
+    (1, 2, 1, ("flight_control", "direct", "elevator")),
+    (2, 3, 4, ("power_monitor", "essential", "shed")),
+    (3, 1, 1, ("navigator", "route", "bearing_error")),
+    (4, 2, 6, ("datalink", "slow", "ticks")),
+    (5, 3, 6, ("task", "minimal", "ticks")),
+];
+
 #[test]
 fn names_are_those_of_the_tables(rt: HostRuntime) {
-    for (kind, mode, variable, names) in [
-        (0, 1, 3, ("autopilot", "navigate", "target_alt")),
-        (1, 2, 1, ("flight_control", "direct", "elevator")),
-        (2, 3, 4, ("power_monitor", "essential", "shed")),
-        (3, 1, 1, ("navigator", "route", "bearing_error")),
-        (4, 2, 6, ("datalink", "slow", "ticks")),
-        (5, 3, 6, ("task", "minimal", "ticks")),
-    ] {
-        let id = KindId(kind);
-        assert_eq!(rt; kind_named(names.0), Some(id));
-        assert_eq!(rt; mode_named(id, names.1), Some(Mode(mode)));
-        assert_eq!(rt; variable_named(id, names.2), Some(variable));
-        assert_eq!(rt; kind_name(id), Some(names.0));
-        assert_eq!(rt; mode_name(id, Mode(mode)), Some(names.1));
-        assert_eq!(rt; variable_name(id, variable), Some(names.2));
+    for (kind, mode, variable, names) in NAMES {
+        assert_eq!(rt;
+            numbers_of(kind, names),
+            (Some(KindId(kind)), Some(Mode(mode)), Some(variable))
+        );
+        assert_eq!(rt;
+            names_of(kind, mode, variable),
+            (Some(names.0), Some(names.1), Some(names.2))
+        );
     }
-    let kind = KindId(0);
-    assert_eq!(rt; kind_named("pilot"), None);
-    assert_eq!(rt; mode_named(kind, "augmented"), None);
-    assert_eq!(rt; variable_named(kind, "elevator"), None);
-    assert_eq!(rt; kind_name(KindId(6)), None);
-    assert_eq!(rt; mode_name(kind, Mode(0)), None);
-    assert_eq!(rt; mode_name(kind, Mode(3)), None);
-    assert_eq!(rt; variable_name(kind, 7), None);
 }
+
+// Kinds, and modes and variables that they have not; the kinds' names.
+const UNNAMED: [(u8, u8, u8, Option<&str>); 3] = [
+    (6, 1, 3, None),
+    (0, 0, 7, Some("autopilot")),
+    (0, 3, 7, Some("autopilot")),
+];
+
+#[test]
+fn what_is_in_no_table_has_no_name(rt: HostRuntime) {
+    let other = numbers_of(0, ("pilot", "augmented", "elevator"));
+    assert_eq!(rt; other, (None, None, None));
+    for (kind, mode, variable, name) in UNNAMED {
+        assert_eq!(rt; names_of(kind, mode, variable), (name, None, None));
+    }
+}
+
+// For what a range is asked: a status, the end of a halt, the end of an initialisation, or any state.
+#[derive(Clone, Copy, Debug)]
+enum When {
+    During(u8),
+    AfterHalt,
+    AfterInit,
+    Always,
+}
+
+// Returns the range of a variable of a kind in a mode.
+fn range(when: When, kind: u8, mode: u8, variable: u8) -> (i64, i64) {
+    match when {
+        When::During(status) => during(KindId(kind), status, Mode(mode), variable),
+        When::AfterHalt => after_halt(KindId(kind), Mode(mode), variable),
+        When::AfterInit => after_init(KindId(kind), Mode(mode), variable),
+        When::Always => sane(KindId(kind), variable),
+    }
+}
+
+// States, kinds, modes and variables, and their ranges.
+const RANGES: [(When, u8, u8, u8, (i64, i64)); 14] = [
+    (When::During(1), PILOT, HOLD, 1, (-80, 80)),
+    (When::During(1), POWER, SAVER, 3, (0, 60)),
+    (When::During(3), POWER, SAVER, 0, (3, 3)),
+    (When::During(1), NAVIGATOR, ROUTE, 1, (-1_800, 1_799)),
+    (When::During(1), LINK, FAST, 1, (0, 64)),
+    (When::During(1), TASK, REDUCED, 6, (0, 1_000_000)),
+    (When::AfterHalt, CONTROL, AUGMENTED, 1, (0, 0)),
+    (When::AfterHalt, CONTROL, AUGMENTED, 0, (2, 2)),
+    (When::AfterInit, CONTROL, AUGMENTED, 1, (-50, 50)),
+    (When::AfterInit, CONTROL, DIRECT, 2, (-100, 100)),
+    (When::AfterInit, PILOT, HOLD, 5, (0, 0)),
+    (When::Always, TASK, REDUCED, 1, (0, 0)),
+    (When::Always, CONTROL, AUGMENTED, 2, (-300, 300)),
+    (When::Always, POWER, SAVER, 0, (0, 4)),
+];
 
 #[test]
 fn ranges_are_those_of_the_tables(rt: HostRuntime) {
-    let pilot = KindId(autopilot::KIND);
-    let control = KindId(flight_control::KIND);
-    let power = KindId(power_monitor::KIND);
-    let augmented = Mode(flight_control::AUGMENTED);
-    let saver = Mode(power_monitor::SAVER);
-    assert_eq!(rt; during(pilot, 1, Mode(autopilot::HOLD), 1), (-80, 80));
-    assert_eq!(rt; during(power, 1, saver, 3), (0, 60));
-    assert_eq!(rt; during(power, 3, saver, 0), (3, 3));
-    assert_eq!(rt;
-        during(KindId(navigator::KIND), 1, Mode(1), 1),
-        (-1_800, 1_799)
-    );
-    assert_eq!(rt; during(KindId(data_link::KIND), 1, Mode(1), 1), (0, 64));
-    assert_eq!(rt;
-        during(KindId(task::KIND), 1, Mode(task::REDUCED), 6),
-        (0, 1_000_000)
-    );
-    assert_eq!(rt; sane(KindId(task::KIND), 1), (0, 0));
-    assert_eq!(rt; after_halt(control, augmented, 1), (0, 0));
-    assert_eq!(rt; after_halt(control, augmented, 0), (2, 2));
-    assert_eq!(rt; after_init(control, augmented, 1), (-50, 50));
-    assert_eq!(rt;
-        after_init(control, Mode(flight_control::DIRECT), 2),
-        (-100, 100)
-    );
-    assert_eq!(rt; after_init(pilot, Mode(autopilot::HOLD), 5), (0, 0));
-    assert_eq!(rt; sane(control, 2), (-300, 300));
-    assert_eq!(rt; sane(power, 0), (0, 4));
+    for (when, kind, mode, variable, want) in RANGES {
+        let found = range(when, kind, mode, variable);
+        assert_eq!(rt; found, want, "of variable {variable} of kind {kind}");
+    }
 }
+
+// Kinds and their first areas.
+const STARTS: [(u8, [i64; 8]); 4] = [
+    (0, [4, 0, 0, 5_000, 900, 0, 0, 0]),
+    (1, [4, 0, 0, 0, 0, 0, 0, 0]),
+    (2, [4, 8_000, 0, 0, 0, 0, 0, 0]),
+    (5, [4, 0, 0, 0, 0, 0, 0, 0]),
+];
 
 #[test]
 fn applications_begin_as_the_tables_say(rt: HostRuntime) {
-    assert_eq!(rt; start_area(KindId(0)), [4, 0, 0, 5_000, 900, 0, 0, 0]);
-    assert_eq!(rt; start_area(KindId(1)), [4, 0, 0, 0, 0, 0, 0, 0]);
-    assert_eq!(rt; start_area(KindId(2)), [4, 8_000, 0, 0, 0, 0, 0, 0]);
-    assert_eq!(rt; start_area(KindId(5)), [4, 0, 0, 0, 0, 0, 0, 0]);
+    for (kind, area) in STARTS {
+        assert_eq!(rt; start_area(KindId(kind)), area, "of kind {kind}");
+    }
 }
 
 #[test]

@@ -293,18 +293,27 @@ fn racks_answer(mut racks: Vec<Rack>, seen: &Seen) -> (Area, Area) {
     (run, off)
 }
 
-#[test]
-fn racks_answer_with_boxes_and_without(rt: HostRuntime) -> Result<(), Fail> {
-    let racks = racks!(rt);
+// What the power monitor's rack answers to `charging()`, and another one after it.
+const CHARGED: (Area, Area) = ([1, 8_020, 120, 100, 0, 0, 1, 0], NONE);
+
+// Returns what a power monitor sees at its start.
+fn charging() -> Seen {
     let start = start_area(KindId(power_monitor::KIND));
-    let seen = seen_in(power_monitor::NORMAL, start, LEVEL, LEVEL);
-    let charged = [1, 8_020, 120, 100, 0, 0, 1, 0];
-    assert_eq!(rt; racks_answer(racks, &seen), (charged, NONE));
-    assert_eq!(rt;
-        racks_answer(empty_racks(rt.alloc())?, &seen),
-        (charged, NONE)
-    );
-    assert_eq!(rt; racks_answer(Vec::new(rt.alloc()), &seen), (charged, NONE));
+    seen_in(power_monitor::NORMAL, start, LEVEL, LEVEL)
+}
+
+#[test]
+fn racks_answer_with_boxes(rt: HostRuntime) -> Result<(), Fail> {
+    let racks = racks!(rt);
+    assert_eq!(rt; racks_answer(racks, &charging()), CHARGED);
+    Ok(())
+}
+
+#[test]
+fn racks_answer_without_boxes(rt: HostRuntime) -> Result<(), Fail> {
+    let racks = empty_racks(rt.alloc())?;
+    assert_eq!(rt; racks_answer(racks, &charging()), CHARGED);
+    assert_eq!(rt; racks_answer(Vec::new(rt.alloc()), &charging()), CHARGED);
     Ok(())
 }
 

@@ -5,19 +5,50 @@ use scram_io::{Files, MemFiles, MemSink, ReadFault, RealFiles, RealSink, Sink, S
 use std::alloc::Global;
 use std::io;
 use std::io::{ErrorKind, Read, Write};
+use std::process::Abort;
 use std::test::Fail;
+
+// Returns files of these names and bytes; the reads of these numbers fail.
+fn files_of(alloc: Global, named: &[(&str, &[u8])], failing: &[u32]) -> Result<MemFiles, Fail> {
+    let failing = failing.to_vec(alloc)?;
+    let mut entries = Vec::new(alloc);
+    put_entries(alloc, &mut entries, named)?;
+    Ok(MemFiles::new(entries, failing))
+}
+
+fn put_entries(
+    alloc: Global,
+    entries: &mut Vec<(String, Vec<u8>)>,
+    named: &[(&str, &[u8])],
+) -> Result<(), Fail> {
+    for (name, bytes) in named {
+        entries.push((name.to_string(alloc)?, bytes.to_vec(alloc)?))?;
+    }
+    Ok(())
+}
+
+// Returns the bytes of an answer.
+fn bytes_of(answer: &Result<Vec<u8>, ReadFault>) -> Result<&[u8], ReadFault> {
+    match answer {
+        Ok(bytes) => Ok(bytes.as_slice()),
+        Err(fault) => Err(*fault),
+    }
+}
 
 #[test]
 fn files_in_memory(rt: HostRuntime) -> Result<(), Fail> {
-    let mut entries = Vec::new(rt.alloc());
-    for (name, bytes) in [
+    let named = [
         ("twice", b"first".as_slice()),
         ("twice", b"second"),
         ("once", b"123"),
-    ] {
-        entries.push((name.to_string(rt.alloc())?, bytes.to_vec(rt.alloc())?))?;
-    }
-    let mut files = MemFiles::new(entries, [1u32, 6].to_vec(rt.alloc())?);
+    ];
+    let mut files = files_of(rt.alloc(), &named, &[1, 6])?;
+    read_rows(&rt, rt.alloc(), &mut files);
+    drop(files);
+    Ok(())
+}
+
+fn read_rows(rt: &impl Abort, alloc: Global, files: &mut MemFiles) {
     for (name, limit, want) in [
         ("twice", 5, Ok(b"first".as_slice())),
         ("twice", 5, Err(ReadFault::Failed)),
@@ -28,19 +59,20 @@ fn files_in_memory(rt: HostRuntime) -> Result<(), Fail> {
         ("once", 2, Err(ReadFault::Failed)),
         ("once", 0, Err(ReadFault::TooLong)),
     ] {
-        let answer = files.read(rt.alloc(), name, limit);
-        let found = match &answer {
-            Ok(bytes) => Ok(bytes.as_slice()),
-            Err(fault) => Err(*fault),
-        };
-        assert_eq!(rt; found, want, "{name} within {limit}");
+        let answer = files.read(alloc, name, limit);
+        assert_eq!(rt; bytes_of(&answer), want, "{name} within {limit}");
     }
-    Ok(())
 }
 
 #[test]
 fn sink_in_memory(rt: HostRuntime) -> Result<(), Fail> {
     let mut sink = MemSink::new(rt.alloc(), 6, [1u32].to_vec(rt.alloc())?)?;
+    put_rows(&rt, &mut sink);
+    drop(sink);
+    Ok(())
+}
+
+fn put_rows(rt: &impl Abort, sink: &mut MemSink) {
     for (bytes, want) in [
         (b"abc".as_slice(), Ok(())),
         (b"x", Err(SinkFault)),
@@ -53,7 +85,6 @@ fn sink_in_memory(rt: HostRuntime) -> Result<(), Fail> {
     }
     assert_eq!(rt; sink.bytes(), b"abcdef".as_slice());
     assert_eq!(rt; sink.flush(), Ok(()));
-    Ok(())
 }
 
 // Reads from any files and writes to any sink.
@@ -70,25 +101,35 @@ fn copy_file<F: Files, K: Sink>(
 }
 
 #[test]
-fn adapters(rt: HostRuntime) -> Result<(), Fail> {
-    let mut entries = Vec::new(rt.alloc());
-    entries.push((
-        "file".to_string(rt.alloc())?,
-        b"some text".to_vec(rt.alloc())?,
-    ))?;
-    let mut files = MemFiles::new(entries, Vec::new(rt.alloc()));
-    let mut sink = MemSink::new(rt.alloc(), 9, Vec::new(rt.alloc()))?;
-    assert_eq!(rt; copy_file(rt.alloc(), &mut files, &mut sink), Ok(()));
+fn a_file_in_memory_is_copied_to_a_sink_in_memory(rt: HostRuntime) -> Result<(), Fail> {
+    let mut files = files_of(rt.alloc(), &[("file", b"some text".as_slice())], &[])?;
+    copy_to_memory(&rt, rt.alloc(), &mut files)
+}
+
+fn copy_to_memory(rt: &impl Abort, alloc: Global, files: &mut MemFiles) -> Result<(), Fail> {
+    let mut sink = MemSink::new(alloc, 9, Vec::new(alloc))?;
+    assert_eq!(rt; copy_file(alloc, files, &mut sink), Ok(()));
     assert_eq!(rt; sink.bytes(), b"some text".as_slice());
+    Ok(())
+}
+
+#[test]
+fn a_file_that_is_missing_is_not_read(rt: HostRuntime) {
     let mut missing = RealFiles::new(&rt);
-    let read = missing
-        .read(rt.alloc(), "a name of no file", 9)
-        .map(|bytes| bytes.len());
-    assert_eq!(rt; read, Err(ReadFault::Failed));
+    let answer = missing.read(rt.alloc(), "a name of no file", 9);
+    assert_eq!(rt; bytes_of(&answer), Err(ReadFault::Failed));
+}
+
+#[test]
+fn standard_output_takes_a_line(rt: HostRuntime) -> Result<(), Fail> {
     let mut output = RealSink::new(rt.alloc(), &rt)?;
+    put_line(&rt, &mut output);
+    Ok(())
+}
+
+fn put_line(rt: &impl Abort, output: &mut RealSink<HostRuntime>) {
     assert_eq!(rt; output.put(b"standard output takes this line\n"), Ok(()));
     assert_eq!(rt; output.flush(), Ok(()));
-    Ok(())
 }
 
 // A stream that gives or takes one byte a call, a number of times, and then fails or does nothing.
@@ -129,8 +170,16 @@ impl Write for Trickle {
     }
 }
 
+// Returns how many bytes of a stream are read to pass a limit.
+fn length_past<I: Read>(alloc: Global, input: &mut I, limit: usize) -> Result<usize, ErrorKind> {
+    match read_past(alloc, input, limit) {
+        Ok(bytes) => Ok(bytes.len()),
+        Err(error) => Err(error.kind()),
+    }
+}
+
 #[test]
-fn streams_in_pieces(rt: HostRuntime) -> Result<(), Fail> {
+fn streams_are_read_in_pieces(rt: HostRuntime) {
     for (calls, ends, limit, want) in [
         (3, true, 3, Ok(3)),
         (9, true, 3, Ok(4)),
@@ -138,19 +187,27 @@ fn streams_in_pieces(rt: HostRuntime) -> Result<(), Fail> {
         (3, false, 3, Err(ErrorKind::BrokenPipe)),
         (0, true, 0, Ok(0)),
     ] {
-        let read = match read_past(rt.alloc(), &mut Trickle { calls, ends }, limit) {
-            Ok(bytes) => Ok(bytes.len()),
-            Err(error) => Err(error.kind()),
-        };
+        let read = length_past(rt.alloc(), &mut Trickle { calls, ends }, limit);
         assert_eq!(rt; read, want, "{calls} bytes within {limit}");
     }
+}
+
+#[test]
+fn long_streams_are_read_past_a_limit(rt: HostRuntime) -> Result<(), Fail> {
     let long = vec![in rt.alloc(); b'a'; 9000]?;
+    read_long(&rt, rt.alloc(), &long);
+    Ok(())
+}
+
+fn read_long(rt: &impl Abort, alloc: Global, long: &[u8]) {
     for (limit, want) in [(9000, 9000), (8999, 9000), (4096, 4097)] {
-        assert_eq!(rt;
-            read_past(rt.alloc(), &mut long.as_slice(), limit)?.len(),
-            want
-        );
+        let mut rest = long;
+        assert_eq!(rt; length_past(alloc, &mut rest, limit), Ok(want));
     }
+}
+
+#[test]
+fn streams_are_written_in_pieces(rt: HostRuntime) {
     for (calls, ends, want) in [
         (3, true, Ok(())),
         (2, true, Err(SinkFault)),
@@ -159,5 +216,4 @@ fn streams_in_pieces(rt: HostRuntime) -> Result<(), Fail> {
         let written = write_whole(&mut Trickle { calls, ends }, b"abc");
         assert_eq!(rt; written, want, "{calls} bytes");
     }
-    Ok(())
 }

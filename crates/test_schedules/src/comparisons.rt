@@ -38,11 +38,18 @@ pub(crate) fn fly_row(rt: &HostRuntime, spec: &Spec, row: &str) -> io::Result<()
         events: 0,
         first: None,
     };
+    let printed = fly_halts(rt, spec, row, &mut compared);
+    drop(compared);
+    printed
+}
+
+/// Flies the script of a row with each of its halts, and prints what came of it.
+fn fly_halts(rt: &HostRuntime, spec: &Spec, row: &str, compared: &mut Compared) -> io::Result<()> {
     let halts = Halts::of_row(row)?;
     for number in 0..halts.count() {
-        fly_halt(rt, spec, row, halts.halt(number), &mut compared)?;
+        fly_halt(rt, spec, row, halts.halt(number), compared)?;
     }
-    print_compared(rt, row, &compared)
+    print_compared(rt, row, compared)
 }
 
 /// A script with its specification, and its result on one thread.
@@ -62,13 +69,29 @@ fn fly_halt(
     compared: &mut Compared,
 ) -> io::Result<()> {
     let script = script_of(rt.alloc(), spec, row, halt)?;
-    let alone = fly_frames(rt.alloc(), spec, &script)?;
+    let answer = fly_script(rt, spec, &script, row, compared);
+    drop(script);
+    answer
+}
+
+fn fly_script(
+    rt: &HostRuntime,
+    spec: &Spec,
+    script: &Script,
+    row: &str,
+    compared: &mut Compared,
+) -> io::Result<()>
+    requires { Fits spec.now script.now }
+{
+    let alone = fly_frames(rt.alloc(), spec, script)?;
     let case = Case {
         spec,
-        script: &script,
+        script,
         alone: &alone,
     };
-    fly_case(rt, &case, row, compared)
+    let answer = fly_case(rt, &case, row, compared);
+    drop(alone);
+    answer
 }
 
 fn fly_case(rt: &HostRuntime, case: &Case, row: &str, compared: &mut Compared) -> io::Result<()>
@@ -88,21 +111,28 @@ fn compare(rt: &HostRuntime, case: &Case, rule: Rule, compared: &mut Compared) -
     requires { Fits case.now.spec.now case.now.script.now }
 {
     let (events, flown) = fly_by(rt, case.spec, case.script, rule)?;
-    compared.flights = compared.flights.saturating_add(1);
-    if !is_same(case.alone, &flown) {
-        compared.other = compared.other.saturating_add(1);
-    }
-    if !is_judged_ok(case.spec, &flown) {
-        compared.broken = compared.broken.saturating_add(1);
-    }
-    if is_unlike(&compared.first, &flown) {
-        compared.unlike = compared.unlike.saturating_add(1);
-    }
+    count(case, &flown, compared);
     if compared.first.is_none() {
         compared.events = events;
         compared.first = Some(flown);
+    } else {
+        drop(flown);
     }
     Ok(())
+}
+
+/// Counts a flight, and what it is not.
+fn count(case: &Case, flown: &Flown, compared: &mut Compared) {
+    compared.flights = compared.flights.saturating_add(1);
+    if !is_same(case.alone, flown) {
+        compared.other = compared.other.saturating_add(1);
+    }
+    if !is_judged_ok(case.spec, flown) {
+        compared.broken = compared.broken.saturating_add(1);
+    }
+    if is_unlike(&compared.first, flown) {
+        compared.unlike = compared.unlike.saturating_add(1);
+    }
 }
 
 /// Returns the number of events of a flight, and its answer.

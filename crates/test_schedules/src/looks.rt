@@ -2,7 +2,7 @@
 
 ghost use Rattle.fault_script.specs.Fits.{Fits};
 
-use crate::halts::Halts;
+use crate::halts::{Halt, Halts};
 use crate::ruled::fly_some;
 use crate::scripts::{rule_named, script_of};
 use bank_words::Event;
@@ -18,11 +18,18 @@ pub(crate) fn look_row(rt: &HostRuntime, spec: &Spec, row: &str) -> io::Result<(
     for line in row.split('\n') {
         if let Some(rest) = line.strip_prefix("after ") {
             println!(rt; "after {rest}")?;
-            let script = script_of(rt.alloc(), spec, row, halt)?;
-            look(rt, spec, &script, rest)?;
+            look_after(rt, spec, row, halt, rest)?;
         }
     }
     Ok(())
+}
+
+/// Flies the script of a row with this halt as a line says.
+fn look_after(rt: &HostRuntime, spec: &Spec, row: &str, halt: Halt, line: &str) -> io::Result<()> {
+    let script = script_of(rt.alloc(), spec, row, halt)?;
+    let looked = look(rt, spec, &script, line);
+    drop(script);
+    looked
 }
 
 /// Flies this number of events by a rule, as `EVENTS RULE WORD`, and prints what the word asks for.
@@ -33,7 +40,11 @@ fn look(rt: &HostRuntime, spec: &Spec, script: &Script, line: &str) -> io::Resul
     let (rule, word) = split_word(rest);
     let (rule, events) = (rule_named(rule)?, number(events)?);
     match fly_some(rt.alloc(), spec, script, rule, events) {
-        Ok(mut core) => print_word(rt, spec, &mut core, word),
+        Ok(mut core) => {
+            let printed = print_word(rt, spec, &mut core, word);
+            drop(core);
+            printed
+        }
         Err(_) => Err(ErrorKind::OutOfMemory.into()),
     }
 }

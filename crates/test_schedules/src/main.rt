@@ -30,7 +30,9 @@ fn main(rt: HostRuntime) -> io::Result<()> {
 
 fn answer(rt: &HostRuntime, lines: &str) -> io::Result<()> {
     let spec = spec_of_row(rt, lines)?;
-    answer_row(rt, &spec, lines)
+    let answer = answer_row(rt, &spec, lines);
+    drop(spec);
+    answer
 }
 
 fn answer_row(rt: &HostRuntime, spec: &Spec, lines: &str) -> io::Result<()> {

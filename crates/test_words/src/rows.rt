@@ -28,7 +28,9 @@ pub fn fly_row(rt: &HostRuntime, text: &str, row: &str) -> io::Result<()> {
 
 fn fly_step(rt: &HostRuntime, text: &str, row: &str, step: u32) -> io::Result<()> {
     let mission = mission_of(rt, text, row, step)?;
-    open(rt, &mission, row)
+    let flown = open(rt, &mission, row);
+    drop(mission);
+    flown
 }
 
 // Returns the mission of a row, with this step in the place of `STEP`.
@@ -63,8 +65,13 @@ fn fly(rt: &HostRuntime, words: Words, kseat: KSeat, pair: Pair, row: &str) -> i
         Ok(kernel) => {
             let kernel = KernelCrew::kernel(mission, kseat, kernel);
             let mut actors = Actors { pair, kernel };
-            fly_actors(rt, mission, &words.table, &mut actors, row)?;
-            close(rt, words, actors, row)
+            match fly_actors(rt, mission, &words.table, &mut actors, row) {
+                Ok(()) => close(rt, words, actors, row),
+                Err(error) => {
+                    drop((words, actors));
+                    Err(error)
+                }
+            }
         }
         Err(_) => Err(ErrorKind::OutOfMemory.into()),
     }
@@ -143,7 +150,9 @@ fn fly_asked(
 // Compares rows with those of one thread, and prints the result.
 fn print_compared(rt: &HostRuntime, mission: &Mission, rows: &[Row]) -> io::Result<()> {
     let flown = fly_alone(rt.alloc(), mission)?;
-    if flown.rows.items() == rows {
+    let same = flown.rows.items() == rows;
+    drop(flown);
+    if same {
         println!(rt; "rows {} of one thread", rows.len())
     } else {
         println!(rt; "other rows")
