@@ -40,8 +40,8 @@ IsNear spec None frame = frame ≡ 1
 IsNear spec (Some last) frame =
     ((last.frame ≤ frame) × (frame ≤ last.frame + greatest_bound spec.bounds + 1)) ⊎ (frame ≡ last.frame + (spec.window + 1))
 
--- A fault may be the next after a list of faults: its kind is one of the specification's, its frame is one of those
--- allowed, and it may follow the list.
+-- A fault may be the next after a list of faults. Its kind is one of the specification's, its frame is one of the
+-- allowed frames, and it may follow the list.
 pub record IsNextFault (spec : Parts) (before : List Fault) (fault : Fault) : Type 0 where
   pub kind : IsKind spec fault.kind
   pub near : IsNear spec (last_of before) fault.frame

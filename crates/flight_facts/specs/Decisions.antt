@@ -32,7 +32,7 @@ difference_or_dash spec None after = codes "-"
 difference_or_dash spec (Some before) None = codes "-"
 difference_or_dash spec (Some before) (Some after) = difference_text spec before after
 
--- The row in which the reconfiguration `earlier` is decided. None if there is no such reconfiguration, if it is
+-- The row in which the reconfiguration `earlier` is decided. It is none if there is no such reconfiguration, if it is
 -- unfinished, or if it did not end in the row preceding `begin`.
 abbrev pub put_off_in : List Row → Option Report → ℕ → Option ℕ
 put_off_in rows None begin = None
