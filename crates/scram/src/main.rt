@@ -14,17 +14,17 @@ use std::rt::Files;
 use std::sync::Wait;
 use std::thread::Threads;
 
-/// The status of an out-of-memory error before the command is called.
+/// The status if the allocator is out of memory before the command is called.
 const NO_MEMORY: u8 = 9;
-/// The status if a line that is printed here cannot be written.
+/// The status if a line that this file prints cannot be written.
 const UNWRITTEN_OUTPUT: u8 = 4;
-/// The status if the boxes that the program makes are not those of the kinds, which a line says.
+/// The status if the boxes that the program makes are not those of the kinds. A line says so.
 const UNFIT_RACKS: u8 = 1;
 
 fn main(rt: HostRuntime) -> ExitCode {
     let words = match words(&rt) {
         Ok(words) => words,
-        // A word that is not UTF-8 is in no form of the command, and neither is an empty list of words.
+        // No form of the command has a word that is not UTF-8 or an empty list of words.
         Err(error) if error.kind() != ErrorKind::OutOfMemory => Vec::new(rt.alloc()),
         Err(_) => return refuse_memory(&rt),
     };
@@ -34,7 +34,7 @@ fn main(rt: HostRuntime) -> ExitCode {
     }
 }
 
-/// Prints the line of an out-of-memory error before the command is called, when nothing has been read or printed.
+/// Prints the line that reports out of memory, and returns its status. Nothing has been read or printed before.
 fn refuse_memory(rt: &HostRuntime) -> ExitCode {
     match println!(rt; "refused: memory") {
         Ok(()) => ExitCode::from(NO_MEMORY),
@@ -57,7 +57,7 @@ fn answer<R: AllocGlobal + Files + Print + Threads + Wait + Sync>(
     Ok(status.code)
 }
 
-/// Prints that the boxes are not those of the kinds, and returns the status.
+/// Prints the line that reports that the boxes are not those of the kinds, and returns its status.
 fn refuse_racks(rt: &HostRuntime) -> u8 {
     match println!(rt; "refused: racks") {
         Ok(()) => UNFIT_RACKS,

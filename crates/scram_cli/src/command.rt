@@ -45,8 +45,8 @@ use trace_text::lines::Line;
 ///
 /// - `run SPEC SCRIPT` flies a mission.
 /// - `watch SPEC SCRIPT` flies a mission while two readers read its summary.
-/// - `pair SPEC SCRIPT UNIT FRAME STEP` flies a mission with the kernel on two units, of which unit `UNIT` may halt in frame
-///   `FRAME` after `STEP` of its steps.
+/// - `pair SPEC SCRIPT UNIT FRAME STEP` flies a mission with the kernel on two units, of which unit `UNIT` may halt in
+///   frame `FRAME` after `STEP` of its steps.
 /// - `replay SPEC SCRIPT SCHEDULE` flies a mission by a schedule.
 /// - `check SPEC` prints whether a specification is accepted.
 /// - `explain SPEC` and `explain SPEC SCRIPT` print why a specification or a script is refused, or the idle parts.

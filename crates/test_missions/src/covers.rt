@@ -1,4 +1,4 @@
-//! Covers of configurations.
+//! The covers of configurations.
 
 use cube_cover::cover;
 use scram_types::{ConfId, Spec};
@@ -6,7 +6,7 @@ use std::io;
 use std::rt::HostRuntime;
 use test_kit::{given, spec_of_text};
 
-/// Prints the outcome of each configuration's choices over all environments in scope.
+/// Prints the cover of each configuration: the outcome of its choices over all environments in scope.
 pub fn print_covers(rt: &HostRuntime, spec: &str) -> io::Result<()> {
     let spec = spec_of_text(rt.alloc(), spec)?;
     print_covers_in(rt, &spec)

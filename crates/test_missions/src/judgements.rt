@@ -1,4 +1,4 @@
-//! Judging traces that any program has made.
+//! Judgements of traces, which any program may have made.
 
 ghost use Rattle.std.specs.Prelude.{◌<◌, ◌^◌, IsTrue, length};
 
@@ -11,7 +11,7 @@ use test_kit::spec_of_text;
 use trace_props::{Broken, props};
 use trace_text::read_trace;
 
-/// Returns the rows and reports of a text, which must be a trace.
+/// Returns the rows and reports of a trace, or an error if the text is not a trace.
 pub fn parse_trace(alloc: Global, text: &str, spec: &Spec) -> io::Result<Flown> {
     match read_trace(alloc, text.as_bytes(), spec) {
         Ok(flown) => Ok(flown),
@@ -19,7 +19,7 @@ pub fn parse_trace(alloc: Global, text: &str, spec: &Spec) -> io::Result<Flown> 
     }
 }
 
-/// Reads a trace, judges it, and prints the first property that it breaks.
+/// Reads and judges a trace, and prints the first property that it breaks, or that all properties hold.
 pub fn judge(rt: &HostRuntime, spec: &str, trace: &str) -> io::Result<()> {
     let spec = spec_of_text(rt.alloc(), spec)?;
     judge_trace(rt, &spec, trace)
@@ -30,7 +30,7 @@ fn judge_trace(rt: &HostRuntime, spec: &Spec, trace: &str) -> io::Result<()> {
     print_judgement(rt, spec, flown.rows.items(), flown.reports.items())
 }
 
-/// Judges rows and reports, and prints the first property that they break.
+/// Judges rows and reports, and prints the first property that they break, or that all properties hold.
 pub fn print_judgement(
     rt: &HostRuntime,
     spec: &Spec,
@@ -46,7 +46,7 @@ pub fn print_judgement(
     }
 }
 
-/// Returns whether there are at most as many rows as a script may have frames.
+/// Returns whether the number of rows is at most the maximum number of frames of a script.
 fn are_few(rows: &[Row]) -> bool
     ensures { IsTrue result → length rows.now < 2 ^ 32 }
 {

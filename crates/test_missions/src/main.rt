@@ -1,7 +1,7 @@
-//! Whole missions through the calls themselves. A row of `rows.txt` is `fly SPECIFICATION SCRIPT TRACE`, `judge
-//! SPECIFICATION TRACE` or `cover SPECIFICATION`. The files are beside it, and blank lines separate the rows. The
-//! traces were made by an independent model of the rules, except that of `uav`, which is worked out by hand. So are the
-//! judgements and the covers. The targets were found by a walk over all environments.
+//! A test of whole missions by direct calls. A row of `rows.txt` is `fly SPECIFICATION SCRIPT TRACE`, `judge
+//! SPECIFICATION TRACE` or `cover SPECIFICATION`. The files are beside `rows.txt`, and blank lines separate the rows.
+//! An independent model of the rules made the traces, except that of `uav`, which is worked out by hand. The judgements
+//! and the covers are worked out by hand as well. The targets were found by a walk over all environments.
 #![tactic(auto)]
 
 mod covers;

@@ -1,4 +1,4 @@
-//! Missions that are accepted and flown, frame by frame and as a whole.
+//! Missions that are accepted and then flown, both frame by frame and as a whole.
 
 use crate::judgements::{parse_trace, print_judgement};
 use coverage_check::{Mission, targets};
@@ -7,7 +7,8 @@ use std::io;
 use std::rt::HostRuntime;
 use test_kit::{fly_alone, fly_frames, given, is_same, mission_of_texts};
 
-/// Flies a mission by `rows` and by `one_thread`, and prints whether both agree with a trace.
+/// Flies a mission frame by frame and as a whole on one thread. Prints the possible targets, whether each flight agrees
+/// with a trace, and the judgement of the whole flight.
 pub fn fly(rt: &HostRuntime, spec: &str, script: &str, trace: &str) -> io::Result<()> {
     let mission = mission_of_texts(rt.alloc(), spec, script)?;
     fly_mission(rt, &mission, trace)
@@ -33,7 +34,7 @@ fn print_targets(rt: &HostRuntime, spec: &Spec) -> io::Result<()> {
     Ok(())
 }
 
-/// Prints the configurations of a set, given as bits.
+/// Prints the names of the configurations of a set, whose bit `j` is that of configuration `j`.
 fn print_set(rt: &HostRuntime, spec: &Spec, set: u16) -> io::Result<()> {
     for (j, conf) in spec.confs.items().iter().enumerate() {
         if j < 16 && set >> j & 1 == 1 {

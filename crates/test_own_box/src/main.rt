@@ -1,5 +1,5 @@
-//! A builder's program. It flies a mission on words with a flight control of the builder's own in each rack, and prints
-//! the trace. The spare racks have no boxes, so their processors compute the laws without them.
+//! A program as a builder might write it. It flies a mission on words with a flight control of its own in each rack,
+//! and prints the trace. The spare racks have no boxes, so their processors compute the laws without them.
 #![tactic(auto)]
 
 mod own_box;

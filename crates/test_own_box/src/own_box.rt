@@ -1,4 +1,4 @@
-//! A flight control of a builder's own.
+//! A flight control as a builder might write it.
 #![tactic(auto, unfolding(app_model::specs::FlightControl::command, app_model::specs::FlightControl::elevator_after, app_model::specs::FlightControl::aileron_after, app_model::specs::FlightControl::flight_control_ran))]
 
 ghost use Rattle.std.specs.Prelude.{◌≡◌, ◌<◌};
@@ -14,8 +14,8 @@ use app_model::{App, Seen};
 use scram_types::ranges::{clamped_in, make_range};
 use scram_types::{Area, KindId, Order};
 
-/// A flight control that finds the positions that a surface can reach in one frame, and moves to the one nearest to the
-/// command. The law of its kind is stated by the step that the surface makes.
+/// A flight control that finds the positions that a surface can reach in one frame, and moves the surface to the
+/// position nearest to the command. The law of its kind states the step that the surface makes instead.
 #[derive(Drop)]
 pub struct OwnFlightControl {}
 
@@ -34,7 +34,7 @@ impl App for OwnFlightControl {
     }
 }
 
-/// Returns the area after a run.
+/// Returns the area of the flight control after a run.
 fn run(seen: &Seen) -> Area
     ensures { result ≡ flight_control_ran seen.now }
 {
@@ -91,7 +91,7 @@ fn commanded(seen: &Seen, variable: usize) -> i64
     }
 }
 
-/// Returns the position that a surface reaches in one frame.
+/// Returns the position that a surface reaches in one frame, moving from `from` towards `wanted` by at most `step`.
 #[tactic(auto, unfolding(app_model::specs::FlightControl::closer, scram_types::specs::Ranges::clamp_in, scram_types::specs::Numbers::clamp))]
 fn reached(from: i64, wanted: i64, step: u32) -> i64
     requires from { IsWord from }

@@ -1,4 +1,4 @@
-//! The flight of the program's mission.
+//! The flight of the mission whose files are beside the program.
 
 ghost use Rattle.std.specs.Prelude.{◌≡◌, ◌<◌, ◌^◌, length, vec_len};
 
@@ -17,8 +17,8 @@ use test_kit::mission_of_texts;
 use trace_text::put_trace;
 use word_deck::WordFlight;
 
-/// Flies the mission of the documents beside the program with these boxes, if each is of the kind of its place, and
-/// prints the trace.
+/// Flies the mission whose files are beside the program with these boxes, and prints the trace. Refuses the boxes if
+/// one is not of the kind of its place.
 pub fn fly<R: AllocGlobal + Threads + Wait + Sync>(
     rt: &HostRuntime,
     threads: &R,

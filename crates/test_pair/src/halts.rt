@@ -1,4 +1,4 @@
-//! The halts of a row.
+//! The halts with which the script of a row is flown.
 
 ghost use Rattle.std.specs.Prelude.{◌<◌};
 
@@ -6,7 +6,7 @@ use kernel_pair::UnitHalt;
 use std::io::{self, ErrorKind};
 use test_kit::{line_after, number, number_after};
 
-/// The halts of a row: one for each unit, frame and step below these counts.
+/// The halts of a row. There is one for each unit, frame and step, each less than its count here.
 #[derive(Clone, Copy, Debug)]
 pub(crate) struct Halts {
     units: u32,
@@ -17,7 +17,7 @@ pub(crate) struct Halts {
 }
 
 impl Halts {
-    /// Returns the halts of a row, or `None` if it has none.
+    /// Returns the halts of a row, or `None` if the row does not give a positive number of units.
     pub(crate) fn of_row(row: &str) -> io::Result<Option<Halts>> {
         let units = number_after(row, "units ", 0)?;
         let frames = number_after(row, "frames ", 1)?;
@@ -41,7 +41,7 @@ impl Halts {
             .saturating_mul(self.steps)
     }
 
-    /// Returns the halt of this number. The step varies fastest, and then the frame.
+    /// Returns the halt with this number. Consecutive numbers first vary the step, then the frame and then the unit.
     pub(crate) fn halt(&self, number: u32) -> UnitHalt {
         let frames = number / self.steps;
         UnitHalt {
@@ -52,8 +52,7 @@ impl Halts {
     }
 }
 
-/// Returns the halt that the line `halt ` of a row gives by unit, frame and step, or `None` if the row has no such
-/// line.
+/// Returns the halt in the line `halt ` of a row, given as unit, frame and step, or `None` if the row has no such line.
 pub(crate) fn halt_of_row(row: &str) -> io::Result<Option<UnitHalt>> {
     let Some(words) = line_after(row, "halt ") else {
         return Ok(None);

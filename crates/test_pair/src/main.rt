@@ -1,9 +1,9 @@
-//! Flights of the kernel on two units. In `rows.txt` blank lines separate the rows, and a row's script follows `= `.
-//! With `units `, `frames ` and `steps ` the script is flown to its end once for each halt below these numbers, of a
-//! unit, in a frame and after a number of steps. A row without these lines is flown once, with the halt after `halt `
-//! if it has one. Every answer is compared with that of one thread. With lines of `try ` a flight with the halt after
-//! `halt ` makes one event after another. Each is printed with its result and with the next events of both units. The
-//! expected output follows from the rules, worked out by hand.
+//! A test of flights of the kernel on two units. In `rows.txt` blank lines separate the rows, and a row's script
+//! follows `= `. `units `, `frames ` and `steps ` give exclusive upper limits of a halt's unit, frame and number of
+//! steps. The script is flown to its end once for each such halt. A row without these lines is flown once, with the
+//! halt after `halt ` if there is one. Every result is compared with that of one thread. If a row has lines of `try `,
+//! its flight, with the halt after `halt `, makes their events one by one. Each event is printed with its result and
+//! with the next events of both units. The expected output follows from the rules, worked out by hand.
 #![tactic(auto)]
 
 mod halts;

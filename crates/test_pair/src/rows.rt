@@ -11,7 +11,8 @@ use std::io::{self, ErrorKind};
 use std::rt::HostRuntime;
 use test_kit::{fly_alone, is_same};
 
-/// The number of flights, of those with another answer than one thread, and of the events of all.
+/// The number of flights, the number of flights whose result differs from that of one thread, and the number of events
+/// of all flights.
 #[derive(Clone, Copy)]
 struct Compared {
     flights: u32,
@@ -19,7 +20,7 @@ struct Compared {
     events: usize,
 }
 
-/// Flies the script of a row with each of its halts, and on one thread, and prints the results.
+/// Flies the script of a row once on one thread and once with each of the row's halts, and prints the comparison.
 pub(crate) fn fly_row(rt: &HostRuntime, mission: &Mission, row: &str) -> io::Result<()> {
     let single = fly_alone(rt.alloc(), mission)?;
     fly_all(rt, mission, row, &single)
@@ -46,7 +47,7 @@ fn fly_all(rt: &HostRuntime, mission: &Mission, row: &str, single: &Flown) -> io
     print_reports(rt, single.reports.items())
 }
 
-/// Flies a mission with this halt, and compares the answer with that of one thread.
+/// Flies a mission with a halt, if there is one, and compares the result with that of one thread.
 fn compare(
     rt: &HostRuntime,
     mission: &Mission,
@@ -64,7 +65,7 @@ fn compare(
     Ok(())
 }
 
-/// Returns the number of events of a flight, and its answer.
+/// Flies a script on two units, and returns the number of events and the result of the flight.
 fn fly(
     rt: &HostRuntime,
     spec: &Spec,

@@ -1,4 +1,4 @@
-//! Events that are tried one by one.
+//! Events that are made one by one.
 
 ghost use Rattle.fault_script.specs.Fits.{Fits};
 ghost use Rattle.scram_types.specs.Specification.{IsSpec};
@@ -55,7 +55,7 @@ fn try_lines(rt: &HostRuntime, core: &mut PairCore, row: &str) -> io::Result<()>
     Ok(())
 }
 
-/// Makes the event of these words, or for `go UNIT` all next events of a unit in order.
+/// Makes the event that the words name, or for `go UNIT` all next events of a unit in order, and prints the result.
 fn try_words(rt: &HostRuntime, core: &mut PairCore, words: &str) -> io::Result<()>
     requires { IsSpec core.old.spec }
 {
@@ -69,7 +69,8 @@ fn try_words(rt: &HostRuntime, core: &mut PairCore, words: &str) -> io::Result<(
     }
 }
 
-/// Makes the next events of a unit until it has none, and returns their number. No row has a thousand.
+/// Makes the next events of a unit until it has none, and returns their number. It makes at most 1,000, which no row
+/// reaches.
 fn go(core: &mut PairCore, unit: u32) -> u32
     requires { IsSpec core.old.spec }
 {
@@ -86,7 +87,7 @@ fn go(core: &mut PairCore, unit: u32) -> u32
     1_000
 }
 
-/// Returns the event with a name and one or two numbers.
+/// Returns the event that the words give by a name and one or two numbers.
 fn event_of(words: &str) -> io::Result<PairEvent> {
     let (name, rest) = words.split_once(' ').unwrap_or((words, ""));
     let (first, second) = rest.split_once(' ').unwrap_or((rest, "0"));

@@ -1,4 +1,4 @@
-//! The output for a flight.
+//! The output for the flight of a row.
 
 use schedule_replay::ReplayError;
 use schedule_replay::refusals::{make_illegal_line, make_short_line};

@@ -1,10 +1,10 @@
-//! Schedules that are read, written and flown again. In `rows.txt` blank lines separate the rows. A row has a title, a
-//! script for `uav` after `= `, and the pieces of its schedule, in order. `line ` precedes a line, and `rest ` the text
-//! after the last line feed. `turns` is the whole round-robin schedule, and `turns FROM TO` its lines from `FROM`,
-//! counted from 0, up to but not including `TO`. For a schedule that is read, the program prints the number of its
-//! events and whether the text written for them is read back to them, and then flies it. With `brief` the rows of the
-//! trace are left out, and `on ` names another specification. The expected output follows from the rules, worked out by
-//! hand. The traces are from the worked rows of the command and from `bench/flights`.
+//! A test of schedules that are read, written and flown again. In `rows.txt` blank lines separate the rows. A row has a
+//! title, a script for `uav` after `= `, and the pieces of its schedule, in order. `line ` precedes a line, and `rest `
+//! the text after the last line feed. `turns` is the whole round-robin schedule, and `turns FROM TO` its lines from
+//! `FROM`, counted from 0, up to but not including `TO`. If the schedule can be read, the program prints the number of
+//! its events and whether the text written for them is read back to them. It then flies the schedule. With `brief` the
+//! rows of the trace are left out, and `on ` names another specification. The expected output follows from the rules,
+//! worked out by hand. The traces are from the worked rows of the command and from `bench/flights`.
 #![tactic(auto)]
 
 mod answers;

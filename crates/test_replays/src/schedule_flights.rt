@@ -15,7 +15,7 @@ use std::io::{self, ErrorKind};
 use std::rt::HostRuntime;
 use test_kit::{line_after, script_of_text};
 
-/// Flies the schedule of a row if it can be read, and prints the result.
+/// Flies the schedule of a row, and prints the result. If the schedule cannot be read, prints the line that refuses it.
 pub fn answer_row(rt: &HostRuntime, spec: &Spec, row: &str) -> io::Result<()> {
     let script = script_of_text(rt.alloc(), spec, line_after(row, "= ").unwrap_or(""))?;
     let bytes = bytes_of(rt.alloc(), spec, &script, row)?;
@@ -57,7 +57,7 @@ fn answer_list(
     fly(rt, spec, script, list, row)
 }
 
-/// Returns whether the text that is written for a list is read back to the list.
+/// Returns whether the schedule that is written for a list of events is read back to the same list.
 fn is_read_back(alloc: Global, spec: &Spec, list: &[Event]) -> io::Result<bool>
     requires { HasEvents spec.now list.now }
 {

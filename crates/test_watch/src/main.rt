@@ -1,8 +1,8 @@
-//! Telemetry of flights. A row of `rows.txt` has a title and lines. `note COUNT` publishes the first `COUNT` rows of a
-//! mission of `uav`, whose script follows `= `. It prints what the readers see, one that is there before the rows and
-//! one that is noted after them. `fly NUMBER` flies the mission of a number while two readers read, and compares each
-//! summary that they see with that of the flight on one thread. How many different summaries they saw depends on the
-//! machine, so it is printed to standard error.
+//! A test of the telemetry of flights. A row of `rows.txt` has a title and lines. `note COUNT` publishes the first
+//! `COUNT` rows of a mission of `uav`, whose script follows `= `. It prints the summaries that two readers see, one
+//! noted before the rows are published and one noted after. `fly NUMBER` flies the mission generated from `NUMBER`
+//! while two readers read, and compares each summary that they see with that of the flight on one thread. The number of
+//! different summaries that they see depends on the machine, so it is printed to standard error.
 #![tactic(auto)]
 
 mod notes;
@@ -21,7 +21,7 @@ fn main(rt: HostRuntime) -> io::Result<()> {
     each_row(&rt, |title, lines| answer_row(&rt, &rt, title, lines))
 }
 
-/// Answers a row.
+/// Answers a row of `rows.txt`.
 fn answer_row<R: AllocGlobal + Threads + Wait + Sync>(
     rt: &HostRuntime,
     threads: &R,

@@ -11,7 +11,8 @@ use std::rt::HostRuntime;
 use telemetry_tap::{Publisher, Tap, Watch};
 use test_kit::{fly_alone, given, mission_of_texts, uav_text};
 
-/// Publishes the first rows of a mission of `uav` with this script, and prints what the readers see.
+/// Publishes the first `count` rows of a mission of `uav` with this script, and prints the summaries that the readers
+/// see.
 pub fn note(rt: &HostRuntime, count: u32, script: &str) -> io::Result<()> {
     let text = uav_text(rt.alloc())?;
     let mission = mission_of_texts(rt.alloc(), text.as_str(), script)?;
@@ -33,7 +34,7 @@ fn note_rows(rt: &HostRuntime, count: u32, mission: &Mission, flown: &Flown) -> 
     print_summary(rt, "note", &tap.read(&mut reader))
 }
 
-/// Hands the first rows to a watch that has taken none.
+/// Hands the first `count` rows to a watch that has taken none. If there are fewer rows, hands all of them.
 fn hand_rows<W: Watch>(rows: &[Row], count: u32, watch: &mut W)
     requires rows { rows.now ≡ rows_of (W.watched watch.old).spec (W.watched watch.old).script }
     requires taken { W.taken watch.old ≡ 0 }

@@ -1,4 +1,4 @@
-//! Readers during a flight.
+//! Readers that read while a mission is flown.
 
 ghost use Rattle.std.specs.Prelude.{◌≡◌};
 ghost use Rattle.fault_script.specs.Fits.{Fits};
@@ -24,7 +24,7 @@ use word_deck::WordFlight;
 const MAX_READS: u32 = 10_000_000;
 
 /// The result of a reader. It says whether each summary was that of the flight on one thread and none was older than
-/// the preceding one. It has the number of different summaries, and the number of frames of the last one.
+/// the preceding one. It also has the number of different summaries, and the number of frames of the last one.
 #[derive(Clone, Copy, Debug)]
 struct Seen {
     right: bool,
@@ -32,7 +32,8 @@ struct Seen {
     frames: u32,
 }
 
-/// Flies the mission of a number while two readers read, and compares what they see with the flight on one thread.
+/// Flies the mission generated from a number while two readers read, and compares each summary that they see with the
+/// flight on one thread.
 pub fn fly<R: AllocGlobal + Threads + Wait + Sync>(
     rt: &HostRuntime,
     threads: &R,
@@ -44,7 +45,7 @@ pub fn fly<R: AllocGlobal + Threads + Wait + Sync>(
     fly_read(rt, threads, &mission, &flown, &summaries)
 }
 
-/// Returns the mission of a number.
+/// Returns the mission generated from a number.
 fn generated_mission(alloc: Global, number: u32) -> io::Result<Mission> {
     let text = generated_text(alloc, number)?;
     match text.as_str().split_once('\n') {
@@ -53,7 +54,7 @@ fn generated_mission(alloc: Global, number: u32) -> io::Result<Mission> {
     }
 }
 
-/// Returns the text of the mission of a number, with a line for its specification and one for its script.
+/// Returns the text of the mission generated from a number, with a line for its specification and one for its script.
 fn generated_text(alloc: Global, number: u32) -> io::Result<String> {
     match generate(alloc, number) {
         Ok((spec, script)) => text_of(alloc, &spec, &script),
@@ -99,7 +100,7 @@ fn fly_read<R: AllocGlobal + Threads + Wait + Sync>(
     print_seen(rt, "other", other)
 }
 
-/// Prints what a reader saw.
+/// Prints the result of a reader.
 fn print_seen(rt: &HostRuntime, name: &str, seen: Option<Seen>) -> io::Result<()> {
     match seen {
         Some(seen) => {
@@ -113,15 +114,15 @@ fn print_seen(rt: &HostRuntime, name: &str, seen: Option<Seen>) -> io::Result<()
     }
 }
 
-/// The tap that readers read, and the summaries that they are to see.
+/// The tap that readers read, and the summaries that they may see.
 #[derive(Clone, Copy)]
 struct Station<'t, 'a> {
     tap: &'t Tap<'a>,
     summaries: &'t [Summary],
 }
 
-/// Flies a mission while these readers read. It returns the result of the flight, and what each reader that has a
-/// thread saw.
+/// Flies a mission while two readers read. Returns the result of the flight, and the result of each reader that has a
+/// thread.
 fn read_beside<'a, W: Watch, R: Threads + Wait + Sync>(
     rt: &R,
     station: Station<'_, 'a>,
@@ -170,7 +171,7 @@ fn read_beside<'a, W: Watch, R: Threads + Wait + Sync>(
     )
 }
 
-/// Reads until the summary of all frames is seen, or gives up after many reads.
+/// Reads until the summary of all frames is seen, or gives up after [`MAX_READS`] reads.
 fn read_on(tap: &Tap, mut reader: Reader, summaries: &[Summary]) -> Seen
     requires { IsReaderOf tap.now reader }
 {
@@ -191,7 +192,7 @@ fn read_on(tap: &Tap, mut reader: Reader, summaries: &[Summary]) -> Seen
 }
 
 impl Seen {
-    /// Adds a summary that was read.
+    /// Adds a summary that was read to the result.
     fn add(&mut self, summary: &Summary, summaries: &[Summary]) {
         if summary.frames < self.frames || !is_listed(summary, summaries) {
             self.right = false;
@@ -203,7 +204,7 @@ impl Seen {
     }
 }
 
-/// Returns whether a summary is the entry of a list for its number of frames.
+/// Returns whether a summary equals the entry of a list at the index of the summary's number of frames.
 fn is_listed(summary: &Summary, summaries: &[Summary]) -> bool {
     match summaries.get(summary.frames as usize) {
         Some(listed) => *listed == *summary,

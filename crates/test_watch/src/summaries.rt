@@ -1,4 +1,4 @@
-//! Summaries, worked out from a flight on one thread.
+//! The summaries of a flight, computed from the flight on one thread.
 
 use coverage_check::Mission;
 use fault_script::walks::up_set_at;
@@ -9,7 +9,7 @@ use std::io;
 use std::rt::HostRuntime;
 use telemetry_tap::Summary;
 
-/// Returns the summaries of a flight, one for each number of frames from 0 on.
+/// Returns the summaries of a flight. The entry at index `n` is the summary of the first `n` frames.
 ///
 /// # Errors
 ///
@@ -40,7 +40,7 @@ fn summary_of(spec: &Spec, row: &Row, reports: &[Report]) -> Summary {
     }
 }
 
-/// Returns the number of reconfigurations that begin up to a frame.
+/// Returns the number of reconfigurations that begin in a frame up to `frame`, inclusive.
 fn count_begun(reports: &[Report], frame: u32) -> u32 {
     let mut begun = 0u32;
     for report in reports {
@@ -51,7 +51,7 @@ fn count_begun(reports: &[Report], frame: u32) -> u32 {
     begun
 }
 
-/// Prints a summary.
+/// Prints a summary, preceded by a title.
 pub fn print_summary(rt: &HostRuntime, title: &str, summary: &Summary) -> io::Result<()> {
     println!(rt;
         "{title}: frames {} running {} up {} begun {}",

@@ -13,7 +13,7 @@ use std::sync::Wait;
 use std::thread::Threads;
 use test_kit::{Counters, counted_racks, counted_spares};
 
-/// A number of bytes that is larger than the output of any row.
+/// The number of bytes for which a sink has room if the row does not say otherwise. It exceeds the output of any row.
 const ROOM: u32 = 200_000;
 
 /// The files that the command reads, and the sink to which it writes.
@@ -23,8 +23,8 @@ pub struct Outside {
     pub sink: MemSink,
 }
 
-/// Creates the boxes, calls the command, and returns the status and the sink. The processor `plain` has the autopilot
-/// that remembers nothing.
+/// Creates the boxes, calls the command, and returns the status and the sink. If `plain` names a processor, that
+/// processor gets the autopilot that does not remember its last call.
 pub fn answer<R: AllocGlobal + Threads + Wait + Sync>(
     rt: &HostRuntime,
     threads: &R,
@@ -50,7 +50,7 @@ pub fn answer_counted<R: AllocGlobal + Threads + Wait + Sync>(
     call(threads, words, outside, racks, spares)
 }
 
-/// Returns the sink of a row, which fails if the row says so.
+/// Returns the sink of a row, with the room and the failing calls that the row gives.
 pub fn make_sink(rt: &HostRuntime, row: &str) -> io::Result<MemSink> {
     let failing = numbers(rt.alloc(), row, "! put ")?;
     let rooms = numbers(rt.alloc(), row, "! room ")?;
@@ -85,7 +85,7 @@ fn call<R: AllocGlobal + Threads + Wait + Sync>(
     Ok((status.code, sink))
 }
 
-/// Prints the bytes that were put, but only the selected frames of a flight.
+/// Prints the text that the command wrote, but only those frames of a flight that are named in `frames`.
 pub fn print_answer(rt: &HostRuntime, bytes: &[u8], frames: &str) -> io::Result<()> {
     let Ok(text) = str::from_utf8(bytes) else {
         return Err(ErrorKind::InvalidData.into());
@@ -100,7 +100,7 @@ pub fn print_answer(rt: &HostRuntime, bytes: &[u8], frames: &str) -> io::Result<
     Ok(())
 }
 
-/// Returns whether a line is selected, given whether the preceding line is.
+/// Returns whether a line is to be printed. `before` says whether the preceding line is.
 fn is_line_wanted(line: &str, frames: &str, before: bool) -> bool {
     match line.split_once(' ') {
         Some(("frame", rest)) => is_frame_wanted(rest, frames),

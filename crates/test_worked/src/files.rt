@@ -1,10 +1,10 @@
 //! The files of a row. The first is a file of the data folder, changed as each line `~ PIECE => OTHER PIECE` says. The
-//! second has the lines after `= `, and is missing if no line begins with `=`. The third has the lines after `- ` in
-//! the same way. `! read N` and `! put N` name a call that fails, counted from 0, and `! room N` the number of bytes
-//! for which the sink has room. If a put is named, the number of lines that were written is printed. `! first N` and `!
-//! second N` extend a file to this number of bytes, with spaces at its end. `! plain N` gives processor `N` the
-//! autopilot that remembers nothing. `! counted` gives each processor boxes that count their calls, of which those of
-//! the first two processors wait for one another, and the counts are printed.
+//! second has the lines after `= `, and is missing if no line begins with `=`. The third has the lines after `- `, and
+//! is missing if no line begins with `-`. `! read N` and `! put N` name a call that fails, counted from 0, and `! room
+//! N` the number of bytes for which the sink has room. If a put is named, the number of lines that were written is
+//! printed. `! first N` and `! second N` extend a file to `N` bytes, with spaces at its end. `! plain N` gives
+//! processor `N` the autopilot that does not remember its last call. `! counted` gives each processor boxes that count
+//! their calls, and the counts are printed. The boxes of the first two processors wait for one another.
 
 use scram_io::MemFiles;
 use std::alloc::Global;
@@ -54,7 +54,7 @@ pub fn is_put_failing(row: &str) -> bool {
     row.split('\n').any(|line| line.starts_with("! put "))
 }
 
-/// Returns the numbers in a row's lines that begin with these words.
+/// Returns the numbers in the lines of a row that begin with `words`.
 pub fn numbers(alloc: Global, row: &str, words: &str) -> io::Result<Vec<u32>> {
     let mut numbers = Vec::new(alloc);
     for line in row.split('\n') {
@@ -65,7 +65,8 @@ pub fn numbers(alloc: Global, row: &str, words: &str) -> io::Result<Vec<u32>> {
     Ok(numbers)
 }
 
-/// Returns the text, with spaces appended if a row's line with these words asks for more bytes.
+/// Returns the text, with spaces appended up to the number of bytes in the row's line that begins with `words`, if
+/// there is one.
 fn pad(alloc: Global, text: String, row: &str, words: &str) -> io::Result<String> {
     match numbers(alloc, row, words)?.first() {
         Some(length) => {
@@ -77,8 +78,8 @@ fn pad(alloc: Global, text: String, row: &str, words: &str) -> io::Result<String
     }
 }
 
-/// Returns the file of the lines that begin with a mark, each without the mark and the space after it. A mark alone is
-/// no line of the file, but makes the file exist.
+/// Returns the file of the lines of a row that begin with a mark, each without the mark and the space after it. A line
+/// that is only the mark adds no line to the file, but makes the file exist.
 fn listed_file(alloc: Global, row: &str, mark: &str) -> io::Result<Option<String>> {
     let mut file = None;
     for line in row.split('\n') {

@@ -1,8 +1,9 @@
-//! The worked rows. The program gives the title of each row in `rows.txt` to the command as its words, on files of
-//! which some pieces are changed. It prints what the command answers, and of a flight's frames only those named after
-//! `: `. The expected output follows from the rules, worked out by hand, with four exceptions. The lines of `fly` were
-//! computed by another program. The missions of `gen` are printed by `bench/generate`, and the flights and bounds of
-//! `vtol` by `bench/flights`. The other traces that are judged were printed by this command.
+//! A test of worked rows. The title of each row in `rows.txt` is given to the command as its words, with the row's
+//! files, of which some pieces are changed. The program prints the answer of the command. Of a flight's frames, it
+//! prints only those named after `: `. The expected output follows from the rules, worked out by hand, with four
+//! exceptions. The lines of `fly` were computed by another program. The missions of `gen` are printed by
+//! `bench/generate`, and the flights and bounds of `vtol` by `bench/flights`. The other traces that are judged were
+//! printed by this command.
 #![tactic(auto)]
 
 mod answers;
@@ -21,7 +22,7 @@ fn main(rt: HostRuntime) -> io::Result<()> {
     each_row(&rt, |title, lines| answer_row(&rt, &rt, title, lines))
 }
 
-/// Prints what the command answers to the words of a row.
+/// Prints the answer of the command to the words of a row.
 fn answer_row<R: AllocGlobal + Threads + Wait + Sync>(
     rt: &HostRuntime,
     threads: &R,
@@ -51,7 +52,7 @@ fn answer_words<R: AllocGlobal + Threads + Wait + Sync>(
     }
 }
 
-/// Prints the answer of the command, and if a put is to fail, the number of lines that were written.
+/// Prints the answer of the command, and the number of lines that were written if the row names a put that fails.
 fn print_plain(
     rt: &HostRuntime,
     status: u8,
