@@ -157,7 +157,7 @@ fn add_word_field(line: &mut Line, kind: KindId, area: &Area, i: u8)
     }
 }
 
-/// Returns the name of word `i` of an area of a kind, at most 16 bytes, or `None` if there is no such kind or it does
+/// Returns the name of word `i` of a kind's area, at most 16 bytes. Returns `None` if there is no such kind or it does
 /// not use this word of its area.
 #[tactic(auto, using(app_model::proofs::ShortNames::variable_short))]
 pub fn name_of_variable(kind: KindId, i: u8) -> Option<&'static str>

@@ -1,4 +1,4 @@
--- What status 0 assures about flights.
+-- The assurances that status 0 gives about flights.
 use Rattle.std.specs.Prelude.{◌≡◌, ℕ, List, []}
 use Rattle.scram_types.specs.Scripts.{ScriptParts}
 use Rattle.scram_types.specs.Specification.{Parts}
