@@ -190,7 +190,7 @@ const NESTED: [(usize, usize, u8); 5] = [
     (1_048_576, 0, 1),
 ];
 
-/// Returns the rule and the path at which so many brackets are refused.
+/// Returns the rule and the path at which this number of brackets is refused.
 fn bracket_fault(alloc: Global, open: usize, close: usize) -> Result<(u8, Path), Fail> {
     let bytes = brackets(alloc, open, close)?;
     let fault = first_fault(alloc, &bytes)?;

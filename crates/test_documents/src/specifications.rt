@@ -50,7 +50,7 @@ const DEEP: [(usize, usize, u8); 5] = [
     (MAX_SPECIFICATION_BYTES, MAX_SPECIFICATION_BYTES, 1),
 ];
 
-/// Returns the rule at which so many brackets are refused.
+/// Returns the rule at which this number of brackets is refused.
 fn bracket_rule(alloc: Global, open: usize, length: usize) -> Result<u8, NoMemory> {
     let bytes = brackets(alloc, open, length)?;
     let (rule, _path) = refusal(alloc, &bytes)?;
