@@ -1,5 +1,5 @@
-//! The conditions A1 to A4. Among other things, a configuration must be complete, differ from the others and overload
-//! no processor.
+//! The conditions A1 to A4: the needs of applications are met, not too many environments are in scope, configurations
+//! are distinct and not empty, and no processor is overloaded.
 
 ghost use Rattle.std.specs.Prelude.{◌≡◌, length};
 ghost use Rattle.std.specs.Option.{option_map_or};

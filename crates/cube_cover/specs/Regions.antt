@@ -51,6 +51,7 @@ HoldsMarked regions passes cubes = (v : Env) → is_in cubes v ≡ is_marked reg
 abbrev pub HoldsMore : List Cube → List Cube → Cube → Bool → Type 0
 HoldsMore before after cube wanted = (v : Env) → is_in after v ≡ (is_in before v || (wanted && holds cube v))
 
--- In scope, a region that holds an environment has the target that is chosen from configuration `i` in the environment.
+-- Each environment in scope is in some region, and each region that holds it has the target that is chosen from
+-- configuration `i` in the environment.
 abbrev pub AreAll : Parts → ConfId → List Region → Type 0
 AreAll spec i regions = (passes : ℕ → Bool) → Agree spec (is_marked regions passes) (λ v. passes (choose spec i v).0)

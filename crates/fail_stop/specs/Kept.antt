@@ -87,7 +87,7 @@ pub record Kept (m : Flight) (at : Places) (words : Word → ℕ) : Type 0 where
 abbrev pub opening_places : Places
 opening_places = record { proc = λ p. At 0 0; frame = 0; step = 0 }
 
--- The words at the opening.
+-- The value of each word at the opening.
 abbrev pub opening_words : Flight → Word → ℕ
 opening_words m ReleaseWord = if nat_eq m.frames 0 then 0 else 1
 opening_words m (KernelWord i) = word_in (m.kernel_image 0) i

@@ -18,7 +18,7 @@ abbrev pub proc_opening : List (List ℤ) → List (Option ProcId) → ℕ → �
 proc_opening areas keepers p r =
     if nat_lt r 8 then 0 else (if nat_lt r 72 then start_word areas keepers p (r - 8) else 0)
 
--- The word at index `n` at the opening.
+-- The word at index `n` in the list of words at the opening.
 abbrev pub opening_at : ℕ → List ℕ → List (List ℤ) → List (Option ProcId) → ℕ → ℕ
 opening_at frames first areas keepers n =
     if nat_eq n 0 then (if nat_eq frames 0 then 0 else 1)

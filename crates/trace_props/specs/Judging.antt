@@ -96,7 +96,7 @@ unchosen_to spec rows r None = None
 unchosen_to spec rows r (Some to) = unless_chosen (least_from (chooses spec rows r.from to) r.begin (r.end + 1 - r.begin)) r.end
 
 -- The frame in which SP2 is broken: the end, if the table does not choose the target in any row of the reconfiguration.
--- Otherwise none.
+-- It is none otherwise.
 abbrev pub unchosen_at : Parts → List Row → Report → Option ℕ
 unchosen_at spec rows r = unchosen_to spec rows r r.to
 
@@ -105,8 +105,8 @@ abbrev pub late_by : Report → Option ℕ → Option ℕ
 late_by r None = Some (last_frame r)
 late_by r (Some bound) = if nat_le (r.end - r.begin) bound then None else Some (last_frame r)
 
--- The frame in which SP3 is broken: the last frame, if no bound is given or the reconfiguration took longer. Otherwise
--- none.
+-- The frame in which SP3 is broken: the last frame, if no bound is given or the reconfiguration took longer. It is none
+-- otherwise.
 abbrev pub late_at : Parts → Report → Option ℕ
 late_at spec r = late_by r (bound_on spec r.from r.to)
 
@@ -159,13 +159,13 @@ breaks_target_precondition row to pre = goes_to to pre.conf && breaks_preconditi
 abbrev pub unmet_in : Parts → Row → Option ConfId → Bool
 unmet_in spec row to = list_any (breaks_target_precondition row to) spec.preconditions
 
--- The frame before a given end, if its row does not meet some precondition of the target. Otherwise none.
+-- The frame before a given end, if its row does not meet some precondition of the target. It is none otherwise.
 abbrev pub unmet_before : Parts → List Row → Option ConfId → ℕ → Option ℕ
 unmet_before spec rows to zero = None
 unmet_before spec rows to (suc f) = option_and_then (λ (row : Row). if unmet_in spec row to then Some f else None) (slice_get rows f)
 
--- The frame before the end of a reconfiguration, if its row does not meet some precondition of the target. Otherwise
--- none.
+-- The frame before the end of a reconfiguration, if its row does not meet some precondition of the target. It is none
+-- otherwise.
 abbrev pub unmet_at : Parts → List Row → Report → Option ℕ
 unmet_at spec rows r = unmet_before spec rows r.to r.end
 
@@ -201,7 +201,7 @@ abbrev pub has_cause : Parts → List Row → Option Report → Report → Bool
 has_cause spec rows before r = changes_in spec rows r.begin || changes_in spec rows (r.begin + 1) || follows spec rows before r
 
 -- The frame in which SP5 is broken: the begin, if the reconfiguration has no cause and does not begin in the last row.
--- Otherwise none.
+-- It is none otherwise.
 abbrev pub causeless_at : Parts → List Row → Option Report → Report → Option ℕ
 causeless_at spec rows before r = if nat_le (length rows) (r.begin + 1) || has_cause spec rows before r then None else Some r.begin
 

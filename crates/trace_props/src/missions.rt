@@ -58,7 +58,7 @@ pub fn calm_settles()
     know();
 }
 
-/// Collects the facts of the other crates on choice, time, scripts, rows and laws.
+/// States the facts of the other crates on choice, time, scripts, rows and laws.
 fn know()
     ensures { IsKnown }
 {
