@@ -2,7 +2,7 @@
 #![tactic(auto, unfolding(crate::specs::Motion::toward, crate::specs::Motion::plus_tenth, crate::specs::Motion::climb_after, crate::specs::Motion::bank_after, crate::specs::Motion::alt_after, crate::specs::Motion::heading_after, crate::specs::Motion::world_after))]
 
 ghost use Rattle.std.specs.Prelude.{◌≡◌, ◌≤ℤ◌, pos};
-ghost use Rattle.scram_types.specs.Numbers.{IsWord, part, modulo, minus};
+ghost use Rattle.scram_types.specs.Numbers.{FitsSums, part, modulo, minus};
 ghost use Rattle.airframe.specs.Motion.{toward, plus_tenth, climb_after, bank_after, alt_after, heading_after, world_after, step_of, IsFlyable};
 
 use scram_types::World;
@@ -22,7 +22,7 @@ fn quarter(x: i64) -> i64
     requires low { minus 8589934592 ≤ℤ x }
     requires high { x ≤ℤ pos 8589934592 }
     ensures value { result ≡ part x 4 }
-    ensures word { IsWord result }
+    ensures word { FitsSums result }
 {
     x / 4
 }
@@ -32,16 +32,16 @@ fn half(x: i64) -> i64
     requires low { minus 8589934592 ≤ℤ x }
     requires high { x ≤ℤ pos 8589934592 }
     ensures value { result ≡ part x 2 }
-    ensures word { IsWord result }
+    ensures word { FitsSums result }
 {
     x / 2
 }
 
 #[tactic(auto, unfolding(scram_types::specs::Numbers::part))]
 fn tenth(x: i64) -> i64
-    requires { IsWord x }
+    requires { FitsSums x }
     ensures value { result ≡ part x 10 }
-    ensures word { IsWord result }
+    ensures word { FitsSums result }
 {
     x / 10
 }
@@ -54,24 +54,24 @@ fn around(x: i64) -> i64
 }
 
 fn quarter_toward(x: i64, target: i64) -> i64
-    requires x { IsWord x }
-    requires target { IsWord target }
+    requires x { FitsSums x }
+    requires target { FitsSums target }
     ensures { result ≡ toward x target 4 }
 {
     sum(x, quarter(gap(x, target)))
 }
 
 fn half_toward(x: i64, target: i64) -> i64
-    requires x { IsWord x }
-    requires target { IsWord target }
+    requires x { FitsSums x }
+    requires target { FitsSums target }
     ensures { result ≡ toward x target 2 }
 {
     sum(x, half(gap(x, target)))
 }
 
 fn with_tenth(x: i64, y: i64) -> i64
-    requires x { IsWord x }
-    requires y { IsWord y }
+    requires x { FitsSums x }
+    requires y { FitsSums y }
     ensures { result ≡ plus_tenth x y }
 {
     sum(x, tenth(y))
@@ -79,7 +79,7 @@ fn with_tenth(x: i64, y: i64) -> i64
 
 fn next_climb(motion: &Motion) -> i64
     ensures value { result ≡ climb_after motion.now }
-    ensures word { IsWord result }
+    ensures word { FitsSums result }
 {
     let climb = clamped_in(make_range(300, 300), motion.world.climb);
     let elevator = clamped_in(make_range(300, 300), motion.elevator);
@@ -88,7 +88,7 @@ fn next_climb(motion: &Motion) -> i64
 
 fn next_bank(motion: &Motion) -> i64
     ensures value { result ≡ bank_after motion.now }
-    ensures word { IsWord result }
+    ensures word { FitsSums result }
 {
     let bank = clamped_in(make_range(300, 300), motion.world.bank);
     let aileron = clamped_in(make_range(300, 300), motion.aileron);

@@ -2,7 +2,7 @@
 #![tactic(auto, unfolding(crate::specs::Autopilot::target_alt, crate::specs::Autopilot::target_heading, crate::specs::Autopilot::altitude_error, crate::specs::Autopilot::integral_after, crate::specs::Autopilot::pitch_after, crate::specs::Autopilot::roll_after, crate::specs::Autopilot::autopilot_ran, scram_types::specs::Numbers::part))]
 
 ghost use Rattle.std.specs.Prelude.{◌≡◌, ◌+ℤ◌};
-ghost use Rattle.scram_types.specs.Numbers.{IsWord, part};
+ghost use Rattle.scram_types.specs.Numbers.{FitsSums, part};
 ghost use Rattle.app_model.specs.Autopilot.{target_alt, target_heading, altitude_error, integral_after, pitch_after, roll_after, autopilot_ran};
 
 use crate::headings::short_turn;
@@ -18,7 +18,7 @@ use scram_types::ranges::{clamped_in, make_range};
 
 fn wanted_altitude(seen: &Seen) -> i64
     ensures value { result ≡ target_alt seen.now }
-    ensures word { IsWord result }
+    ensures word { FitsSums result }
 {
     if seen.mode.0 == NAVIGATE {
         read_goal_altitude(seen)
@@ -29,7 +29,7 @@ fn wanted_altitude(seen: &Seen) -> i64
 
 fn wanted_heading(seen: &Seen) -> i64
     ensures value { result ≡ target_heading seen.now }
-    ensures word { IsWord result }
+    ensures word { FitsSums result }
 {
     if seen.mode.0 == NAVIGATE {
         read_goal_heading(seen)
@@ -40,7 +40,7 @@ fn wanted_heading(seen: &Seen) -> i64
 
 fn error_of_altitude(seen: &Seen) -> i64
     ensures value { result ≡ altitude_error seen.now }
-    ensures word { IsWord result }
+    ensures word { FitsSums result }
 {
     clamped_in(
         make_range(500, 500),
@@ -50,7 +50,7 @@ fn error_of_altitude(seen: &Seen) -> i64
 
 fn next_integral(seen: &Seen) -> i64
     ensures value { result ≡ integral_after seen.now }
-    ensures word { IsWord result }
+    ensures word { FitsSums result }
 {
     clamped_in(
         make_range(4_000, 4_000),
@@ -59,8 +59,8 @@ fn next_integral(seen: &Seen) -> i64
 }
 
 fn lift(error: i64, integral: i64) -> i64
-    requires error { IsWord error }
-    requires integral { IsWord integral }
+    requires error { FitsSums error }
+    requires integral { FitsSums integral }
     ensures { result ≡ part error 10 +ℤ part integral 100 }
 {
     error / 10 + integral / 100

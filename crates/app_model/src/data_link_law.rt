@@ -2,7 +2,7 @@
 #![tactic(auto, unfolding(crate::specs::DataLink::fresh_of, crate::specs::DataLink::fresh, crate::specs::DataLink::rate_after, crate::specs::DataLink::waiting, crate::specs::DataLink::going, crate::specs::DataLink::queued_after, crate::specs::DataLink::sent_after, crate::specs::DataLink::left_over, crate::specs::DataLink::dropped_after, crate::specs::DataLink::data_link_ran))]
 
 ghost use Rattle.std.specs.Prelude.{◌≡◌, ◌≤ℤ◌, ◌<◌, ◌-ℤ◌, pos};
-ghost use Rattle.scram_types.specs.Numbers.{IsWord, minus};
+ghost use Rattle.scram_types.specs.Numbers.{FitsSums, minus};
 ghost use Rattle.app_model.specs.DataLink.{fresh_of, fresh, rate_after, waiting, going, queued_after, sent_after, left_over, dropped_after, data_link_ran};
 
 use crate::kinds::data_link::{DROPPED, FAST, KIND, QUEUED, SENT};
@@ -54,7 +54,7 @@ fn all_waiting(seen: &Seen) -> i64
 
 fn all_going(seen: &Seen) -> i64
     ensures value { result ≡ going seen.now }
-    ensures word { IsWord result }
+    ensures word { FitsSums result }
 {
     next_rate(seen).min(all_waiting(seen))
 }
@@ -62,7 +62,7 @@ fn all_going(seen: &Seen) -> i64
 fn without(waiting: i64, going: i64) -> i64
     requires waiting_low { minus 4294967296 ≤ℤ waiting }
     requires waiting_high { waiting ≤ℤ pos 4294967300 }
-    requires going { IsWord going }
+    requires going { FitsSums going }
     ensures value { result ≡ waiting -ℤ going }
     ensures low { minus 8589934592 ≤ℤ result }
     ensures high { result ≤ℤ pos 8589934600 }
@@ -89,7 +89,7 @@ fn next_sent(seen: &Seen) -> i64
 fn without_both(waiting: i64, going: i64, queued: i64) -> i64
     requires waiting_low { minus 4294967296 ≤ℤ waiting }
     requires waiting_high { waiting ≤ℤ pos 4294967300 }
-    requires going { IsWord going }
+    requires going { FitsSums going }
     requires queued_low { minus 8589934592 ≤ℤ queued }
     requires queued_high { queued ≤ℤ pos 64 }
     ensures value { result ≡ (waiting -ℤ going) -ℤ queued }

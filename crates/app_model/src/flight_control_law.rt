@@ -2,7 +2,7 @@
 #![tactic(auto, unfolding(crate::specs::FlightControl::closer, crate::specs::FlightControl::command, crate::specs::FlightControl::elevator_after, crate::specs::FlightControl::aileron_after, crate::specs::FlightControl::flight_control_ran))]
 
 ghost use Rattle.std.specs.Prelude.{◌≡◌, ◌<◌};
-ghost use Rattle.scram_types.specs.Numbers.{IsWord};
+ghost use Rattle.scram_types.specs.Numbers.{FitsSums};
 ghost use Rattle.app_model.specs.FlightControl.{command, closer, elevator_after, aileron_after, flight_control_ran};
 
 use crate::kinds::autopilot;
@@ -17,7 +17,7 @@ use scram_types::ranges::{clamped_in, make_range};
 fn commanded(seen: &Seen, variable: usize) -> i64
     requires { variable < 8 }
     ensures value { result ≡ command seen.now variable }
-    ensures word { IsWord result }
+    ensures word { FitsSums result }
 {
     if read_lead(autopilot::KIND, seen, STATUS) == 1 {
         read_lead(autopilot::KIND, seen, variable)
@@ -27,8 +27,8 @@ fn commanded(seen: &Seen, variable: usize) -> i64
 }
 
 fn move_closer(x: i64, target: i64, step: u32) -> i64
-    requires x { IsWord x }
-    requires target { IsWord target }
+    requires x { FitsSums x }
+    requires target { FitsSums target }
     ensures value { result ≡ closer x target step }
 {
     sum(x, clamped_in(make_range(step, step), gap(x, target)))

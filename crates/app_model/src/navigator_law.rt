@@ -2,7 +2,7 @@
 #![tactic(auto, unfolding(crate::specs::Navigator::bearing_error_after, crate::specs::Navigator::climb_left_after, crate::specs::Navigator::near, crate::specs::Navigator::on_course, crate::specs::Navigator::navigator_ran))]
 
 ghost use Rattle.std.specs.Prelude.{◌≡◌};
-ghost use Rattle.scram_types.specs.Numbers.{IsWord};
+ghost use Rattle.scram_types.specs.Numbers.{FitsSums};
 ghost use Rattle.app_model.specs.Navigator.{near, on_course, navigator_ran, climb_left_after, bearing_error_after};
 
 use crate::headings::short_turn;
@@ -17,14 +17,14 @@ use scram_types::ranges::{clamped_in, make_range};
 
 fn next_bearing(seen: &Seen) -> i64
     ensures value { result ≡ bearing_error_after seen.now }
-    ensures word { IsWord result }
+    ensures word { FitsSums result }
 {
     short_turn(read_goal_heading(seen), read_heading(seen))
 }
 
 fn next_climb(seen: &Seen) -> i64
     ensures value { result ≡ climb_left_after seen.now }
-    ensures word { IsWord result }
+    ensures word { FitsSums result }
 {
     if seen.mode.0 == ROUTE {
         clamped_in(

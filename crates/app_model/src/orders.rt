@@ -2,7 +2,7 @@
 #![tactic(auto, unfolding(crate::specs::Orders::faded, crate::specs::Orders::kept_area, crate::specs::Orders::halted_word, crate::specs::Orders::halted, crate::specs::Orders::initialised_word, crate::specs::Orders::initialised))]
 
 ghost use Rattle.std.specs.Prelude.{◌≡◌, ◌<◌, ◌+◌, ◌==◌, IfSome, None};
-ghost use Rattle.scram_types.specs.Numbers.{IsWord, part};
+ghost use Rattle.scram_types.specs.Numbers.{FitsSums, part};
 ghost use Rattle.scram_types.specs.declared.orders.Order.TheVariants.{Run};
 ghost use Rattle.app_model.specs.Law.{law};
 ghost use Rattle.app_model.specs.Orders.{faded, halted_word, halted, initialised_word, initialised, initialising, kept_area};
@@ -32,15 +32,15 @@ fn keep(kind: u8, status: i64, seen: &Seen) -> Area
 
 #[tactic(auto, unfolding(scram_types::specs::Numbers::part))]
 fn share(x: i64, left: u8) -> i64
-    requires { IsWord x }
+    requires { FitsSums x }
     ensures value { result ≡ part x left }
-    ensures word { IsWord result }
+    ensures word { FitsSums result }
 {
     if left == 0 { 0 } else { x / i64::from(left) }
 }
 
 fn fade(x: i64, left: u8) -> i64
-    requires { IsWord x }
+    requires { FitsSums x }
     ensures { result ≡ faded x left }
 {
     gap(share(x, left), x)

@@ -2,7 +2,7 @@
 #![tactic(auto, unfolding(crate::specs::PowerMonitor::alternator_gives, crate::specs::PowerMonitor::supply_after, crate::specs::PowerMonitor::demand_after, crate::specs::PowerMonitor::charge_after, crate::specs::PowerMonitor::shed_after, crate::specs::PowerMonitor::power_monitor_ran))]
 
 ghost use Rattle.std.specs.Prelude.{◌≡◌, ◌≤ℤ◌, ◌+ℤ◌, ◌-ℤ◌, pos};
-ghost use Rattle.scram_types.specs.Numbers.{IsWord};
+ghost use Rattle.scram_types.specs.Numbers.{FitsSums};
 ghost use Rattle.app_model.specs.PowerMonitor.{supply_after, demand_after, charge_after, shed_after, power_monitor_ran, alternator_gives};
 
 use crate::kinds::power_monitor::{CHARGE, KIND, NORMAL, SAVER};
@@ -21,14 +21,14 @@ fn alternator_gives(value: u8) -> i64
 
 fn next_supply(seen: &Seen) -> i64
     ensures value { result ≡ supply_after seen.now }
-    ensures word { IsWord result }
+    ensures word { FitsSums result }
 {
     alternator_gives(seen.factors[0]) + alternator_gives(seen.factors[1])
 }
 
 fn next_demand(seen: &Seen) -> i64
     ensures value { result ≡ demand_after seen.now }
-    ensures word { IsWord result }
+    ensures word { FitsSums result }
 {
     match seen.mode.0 {
         NORMAL => 100,
@@ -38,9 +38,9 @@ fn next_demand(seen: &Seen) -> i64
 }
 
 fn balance(charge: i64, supply: i64, demand: i64) -> i64
-    requires charge { IsWord charge }
-    requires supply { IsWord supply }
-    requires demand { IsWord demand }
+    requires charge { FitsSums charge }
+    requires supply { FitsSums supply }
+    requires demand { FitsSums demand }
     ensures { result ≡ (charge +ℤ supply) -ℤ demand }
 {
     charge + supply - demand
@@ -48,7 +48,7 @@ fn balance(charge: i64, supply: i64, demand: i64) -> i64
 
 fn next_charge(seen: &Seen) -> i64
     ensures value { result ≡ charge_after seen.now }
-    ensures word { IsWord result }
+    ensures word { FitsSums result }
 {
     let balance = balance(
         read_own(KIND, seen, CHARGE),

@@ -2,7 +2,7 @@
 #![tactic(auto, unfolding(scram_types::specs::Numbers::word, crate::specs::Reads::own_word, crate::specs::Reads::lead_word, crate::specs::Reads::altitude, crate::specs::Reads::heading, crate::specs::Reads::goal_altitude, crate::specs::Reads::goal_heading, crate::specs::Reads::ticks_after))]
 
 ghost use Rattle.std.specs.Prelude.{◌≡◌, ◌<◌};
-ghost use Rattle.scram_types.specs.Numbers.{IsWord, word};
+ghost use Rattle.scram_types.specs.Numbers.{FitsSums, word};
 ghost use Rattle.app_model.specs.Reads.{own_word, lead_word, altitude, heading, goal_altitude, goal_heading, ticks_after};
 
 use crate::kinds::every_kind::TICKS;
@@ -22,7 +22,7 @@ fn word_at(area: &Area, variable: usize) -> i64
 pub fn read_own(kind: u8, seen: &Seen, variable: usize) -> i64
     requires { variable < 8 }
     ensures value { result ≡ own_word kind seen.now variable }
-    ensures word { IsWord result }
+    ensures word { FitsSums result }
 {
     clamped_in(
         mode_range(kind, seen.mode.0, variable),
@@ -35,7 +35,7 @@ pub fn read_lead(kind: u8, seen: &Seen, variable: usize) -> i64
     requires kind { kind < 8 }
     requires variable { variable < 8 }
     ensures value { result ≡ lead_word kind seen.now variable }
-    ensures word { IsWord result }
+    ensures word { FitsSums result }
 {
     clamped_in(
         sane_range(kind, variable),
@@ -46,7 +46,7 @@ pub fn read_lead(kind: u8, seen: &Seen, variable: usize) -> i64
 /// Returns the aircraft's altitude in feet, clamped to 0 to 40,000.
 pub fn read_altitude(seen: &Seen) -> i64
     ensures value { result ≡ altitude seen.now }
-    ensures word { IsWord result }
+    ensures word { FitsSums result }
 {
     clamped_in(make_range(0, 40_000), seen.world.alt)
 }
@@ -54,7 +54,7 @@ pub fn read_altitude(seen: &Seen) -> i64
 /// Returns the aircraft's heading in tenths of a degree, clamped to 0 to 3,599.
 pub fn read_heading(seen: &Seen) -> i64
     ensures value { result ≡ heading seen.now }
-    ensures word { IsWord result }
+    ensures word { FitsSums result }
 {
     clamped_in(make_range(0, 3_599), seen.world.heading)
 }
@@ -62,7 +62,7 @@ pub fn read_heading(seen: &Seen) -> i64
 /// Returns the goal's altitude in feet, clamped to 0 to 40,000.
 pub fn read_goal_altitude(seen: &Seen) -> i64
     ensures value { result ≡ goal_altitude seen.now }
-    ensures word { IsWord result }
+    ensures word { FitsSums result }
 {
     clamped_in(make_range(0, 40_000), seen.goal.altitude)
 }
@@ -70,7 +70,7 @@ pub fn read_goal_altitude(seen: &Seen) -> i64
 /// Returns the goal's heading in tenths of a degree, clamped to 0 to 3,599.
 pub fn read_goal_heading(seen: &Seen) -> i64
     ensures value { result ≡ goal_heading seen.now }
-    ensures word { IsWord result }
+    ensures word { FitsSums result }
 {
     clamped_in(make_range(0, 3_599), seen.goal.heading)
 }

@@ -1,6 +1,6 @@
 //! Processors that fly with a core. The fields are public so that clauses can name them.
 
-ghost use Rattle.std.specs.Prelude.{◌≡◌, ◌<◌, IfOk, IfSome, Some, length, map, vec_len, ℕ};
+ghost use Rattle.std.specs.Prelude.{◌≡◌, ◌<◌, IfOk, IfSome, Some, length, map, ℕ};
 ghost use Rattle.event_core.specs.Cores.{IsNextIn, IsWordIn, core_places, flown};
 ghost use Rattle.event_core.specs.Flyers.{FlyBy, FlyersFit, IsLastDraft};
 ghost use Rattle.event_core.specs.Places.{HasLooked};
@@ -14,7 +14,7 @@ ghost use Rattle.scram_types.specs.Scripts.{ScriptParts};
 ghost use Rattle.scram_types.specs.Specification.{Parts};
 
 use crate::cores::Core;
-use app_model::Rack;
+use app_model::Boxes;
 use bank_words::{Event, encode};
 use fail_stop::flyers::make_flyers;
 use fail_stop::{Draft, Flyer};
@@ -29,20 +29,17 @@ pub struct Flyers {
 }
 
 impl Flyers {
-    /// Returns the processors before the first frame. Rack `p` belongs to processor `p`, and spare rack `p` is for its
-    /// restart.
+    /// Returns the processors with their racks, before the first frame.
     ///
     /// # Errors
     ///
     /// Out of memory.
-    pub fn open(alloc: Global, racks: Vec<Rack>, spares: Vec<Rack>) -> Result<Flyers, NoMemory>
-        requires racks { vec_len racks ≡ 8 }
-        requires spares { vec_len spares ≡ 8 }
+    pub fn open(alloc: Global, boxes: Boxes) -> Result<Flyers, NoMemory>
         ensures fits { (spec : Parts) (script : ScriptParts) → IfOk result (λ flyers. FlyersFit spec script (λ p. At 0 0) flyers) }
-        ensures racks { IfOk result (λ flyers. map (λ flyer. unit_rack flyer.unit) flyers.all.items ≡ map Some racks.items) }
-        ensures spares { IfOk result (λ flyers. map (λ flyer. flyer.spare) flyers.all.items ≡ map Some spares.items) }
+        ensures racks { IfOk result (λ flyers. map (λ flyer. unit_rack flyer.unit) flyers.all.items ≡ map Some boxes.racks.items) }
+        ensures spares { IfOk result (λ flyers. map (λ flyer. flyer.spare) flyers.all.items ≡ map Some boxes.spares.items) }
     {
-        let all = make_flyers(alloc, racks, spares)?;
+        let all = make_flyers(alloc, boxes)?;
         Ok(Flyers {
             all,
             drafted: [None; 8],

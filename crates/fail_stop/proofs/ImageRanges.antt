@@ -12,7 +12,7 @@ use Rattle.scram_types.specs.declared.specification.Place.{Place}
 use Rattle.scram_types.specs.declared.rows.Env.{Env}
 use Rattle.scram_types.specs.declared.ids.ProcId.{ProcId}
 use Rattle.scram_types.specs.Lookups.{kind_of_app, place_of}
-use Rattle.scram_types.specs.Numbers.{IsWord, word}
+use Rattle.scram_types.specs.Numbers.{FitsSums, word}
 use Rattle.scram_types.specs.Scripts.{ScriptParts}
 use Rattle.scram_types.specs.Specification.{IsSpec, Parts}
 use Rattle.scram_types.proofs.Eights.{eight_at}
@@ -63,7 +63,7 @@ sane_small = each_kind SaneSmall
 small_ends : (r : Range) → is_small r ≡ true → (r.below ≤ 4294967296) × (r.above ≤ 4294967296)
 small_ends r is = (grind (arith, nat_tests, is), grind (arith, nat_tests, is))
 
-in_during : (kind status mode i : ℕ) (x : ℤ) → kind < 6 → status ≤ 4 → i < 8 → Between (during kind status mode i) x → IsWord x
+in_during : (kind status mode i : ℕ) (x : ℤ) → kind < 6 → status ≤ 4 → i < 8 → Between (during kind status mode i) x → FitsSums x
 unfolding sane
 in_during kind status mode i x low few small b =
     let inside = (tables_narrow kind mode i low small).sane status few in
@@ -72,20 +72,20 @@ in_during kind status mode i x low few small b =
     let above = ends.1 in
     record { low = omega (arith, ints, inside.least, b.least, below); high = omega (arith, ints, inside.greatest, b.greatest, above) }
 
-in_start : (kind mode i : ℕ) (x : ℤ) → kind < 6 → i < 8 → Between (after_init kind mode i) x → IsWord x
+in_start : (kind mode i : ℕ) (x : ℤ) → kind < 6 → i < 8 → Between (after_init kind mode i) x → FitsSums x
 in_start kind mode i x low small b =
     let inside = (tables_narrow kind mode i low small).init in
     in_during kind 4 mode i x low (omega arith) small (record { least = omega (arith, ints, inside.least, b.least); greatest = omega (arith, ints, inside.greatest, b.greatest) })
 
 -- each word of a slot is such a number
 abbrev pub AreWords : List ℤ → Type 0
-AreWords xs = (i : ℕ) → i < 8 → IsWord (slice_index_or xs i (pos 0))
+AreWords xs = (i : ℕ) → i < 8 → FitsSums (slice_index_or xs i (pos 0))
 
-zero_word : IsWord (pos 0)
+zero_word : FitsSums (pos 0)
 zero_word = record { low = omega (arith, ints); high = omega (arith, ints) }
 
 zeros_words : AreWords zeros
-zeros_words i low = subst IsWord (sym (eight_at (λ j. pos 0) i (pos 0) low)) zero_word
+zeros_words i low = subst FitsSums (sym (eight_at (λ j. pos 0) i (pos 0) low)) zero_word
 
 either_words : (b : Bool) (x y : List ℤ) → AreWords x → AreWords y → AreWords (if b then x else y)
 either_words true x y is_x is_y = is_x
@@ -138,6 +138,6 @@ slot_words spec facts script p (suc f) a low =
     (either_words (is_proc p (task_given spec script f a).proc) _ _ (law_of_words spec facts (env_at spec script f) (state_after spec script f) (task_given spec script f a) a (areas_words spec facts script f a low)) before)
     before
 
-pub read_back : (x : ℤ) → IsWord x → decode (encode x) ≡ x
+pub read_back : (x : ℤ) → FitsSums x → decode (encode x) ≡ x
 read_back (pos n) is = to_z-of_z w64 (pos n) (record { sfits = omega (arith, ints, is.high) })
 read_back (negsuc n) is = to_z-of_z w64 (negsuc n) (record { sfits = omega (arith, ints, is.low) })

@@ -19,7 +19,7 @@ use Rattle.scram_types.specs.declared.specification.Policy.TheVariants.{Retarget
 use Rattle.scram_types.specs.Bits.{bits_below}
 use Rattle.scram_types.specs.Eights.{eight}
 use Rattle.scram_types.specs.Lookups.{conf_id, place_of}
-use Rattle.scram_types.specs.Numbers.{IsWord, minus}
+use Rattle.scram_types.specs.Numbers.{FitsSums, minus}
 use Rattle.scram_types.specs.Scripts.{ScriptParts}
 use Rattle.scram_types.specs.Specification.{Each, IsChoice, IsSpec, Parts, place_in}
 use Rattle.scram_types.proofs.BitSets.{bits_lt}
@@ -177,12 +177,12 @@ module _ (spec : Parts) (facts : IsSpec spec) where
 -- the world
 
 record IsWorldWords (world : World) : Type 0 where
-  alt : IsWord world.alt
-  climb : IsWord world.climb
-  heading : IsWord world.heading
-  bank : IsWord world.bank
+  alt : FitsSums world.alt
+  climb : FitsSums world.climb
+  heading : FitsSums world.heading
+  bank : FitsSums world.bank
 
-word_between : (x : ℤ) → minus 300 ≤ℤ x → x ≤ℤ pos 40000 → IsWord x
+word_between : (x : ℤ) → minus 300 ≤ℤ x → x ≤ℤ pos 40000 → FitsSums x
 word_between x low high = record { low = omega (arith, ints, low, high); high = omega (arith, ints, low, high) }
 
 lower : (x : ℤ) → pos 0 ≤ℤ x → minus 300 ≤ℤ x
@@ -201,7 +201,7 @@ world_words world flies = record {
 
 world_at : (spec : Parts) (script : ScriptParts) (f : ℕ) → IsWorldWords (state_after spec script f).world
 world_at spec script zero =
-    let zero_is : IsWord (pos 0) = record { low = omega (arith, ints); high = omega (arith, ints) } in
+    let zero_is : FitsSums (pos 0) = record { low = omega (arith, ints); high = omega (arith, ints) } in
     record { alt = record { low = omega (arith, ints); high = omega (arith, ints) }; climb = zero_is; heading = record { low = omega (arith, ints); high = omega (arith, ints) }; bank = zero_is }
 world_at spec script (suc f) = world_words (state_after spec script (suc f)).world (flyable _)
 

@@ -1,6 +1,6 @@
 //! Processors in flight. The fields are public so that clauses can name them.
 
-ghost use Rattle.std.specs.Prelude.{◌≡◌, ◌<◌, ◌+◌, ◌∷◌, IfOk, ℕ, None, Some, false, length, map, vec_len};
+ghost use Rattle.std.specs.Prelude.{◌≡◌, ◌<◌, ◌+◌, ◌∷◌, IfOk, ℕ, None, Some, false, length, map};
 ghost use Rattle.std.specs.Vec.Iter.{into_iter_items, into_iter_len};
 ghost use Rattle.scram_types.specs.Scripts.{ScriptParts};
 ghost use Rattle.scram_types.specs.Specification.{IsSpec};
@@ -13,7 +13,7 @@ ghost use Rattle.fail_stop.specs.Flyers.{AreFlyersAt, flyer_halted, flyer_starte
 
 use crate::snapshots::Snapshot;
 use crate::units::{Halted, Live};
-use app_model::Rack;
+use app_model::{Boxes, Rack};
 use scram_types::{Image, NoMemory, ProcId, Spec};
 use std::alloc::Global;
 use std::vec::IntoIter;
@@ -108,25 +108,18 @@ impl Flyer {
     }
 }
 
-/// Returns eight processors before their first frame. Rack `p` belongs to processor `p`, and spare rack `p` is for its
-/// restart.
+/// Returns eight processors with their racks, before their first frame.
 ///
 /// # Errors
 ///
 /// Out of memory.
-pub fn make_flyers(
-    alloc: Global,
-    racks: Vec<Rack>,
-    spares: Vec<Rack>,
-) -> Result<Vec<Flyer>, NoMemory>
-    requires racks { vec_len racks ≡ 8 }
-    requires spares { vec_len spares ≡ 8 }
+pub fn make_flyers(alloc: Global, boxes: Boxes) -> Result<Vec<Flyer>, NoMemory>
     ensures flyers { (m : Flight) → IfOk result (λ flyers. AreFlyersAt m (λ p. At 0 0) flyers.items) }
-    ensures racks { IfOk result (λ flyers. map (λ flyer. unit_rack flyer.unit) flyers.items ≡ map Some racks.items) }
-    ensures spares { IfOk result (λ flyers. map (λ flyer. flyer.spare) flyers.items ≡ map Some spares.items) }
+    ensures racks { IfOk result (λ flyers. map (λ flyer. unit_rack flyer.unit) flyers.items ≡ map Some boxes.racks.items) }
+    ensures spares { IfOk result (λ flyers. map (λ flyer. flyer.spare) flyers.items ≡ map Some boxes.spares.items) }
 {
-    let mut racks = racks.into_iter();
-    let mut spares = spares.into_iter();
+    let mut racks = boxes.racks.into_iter();
+    let mut spares = boxes.spares.into_iter();
     let mut flyers = Vec::with_capacity(alloc, 8)?;
     for p in 0..8 {
         let rack = next_rack(&mut racks);

@@ -5,9 +5,9 @@ ghost use Rattle.form_base.specs.Endings.{Tells};
 ghost use Rattle.flight_forms.specs.Answers.{FlyAnswers, GenAnswers, SummaryAnswers};
 ghost use Rattle.fault_script.specs.Fits.{Fits};
 
-use crate::boxes::Boxes;
 use crate::missions::make_mission;
 use crate::runs::{FlightText, fly};
+use app_model::Boxes;
 use form_base::refusals::Refusal;
 use form_base::status::{ANSWERED, Status};
 use form_base::telling::{tell, tell_refusal};

@@ -2,7 +2,6 @@
 //! the bytes of the files that its words name. Each flight that is answered with status 0 is assured.
 #![tactic(auto)]
 
-mod boxes;
 mod documents;
 mod generated;
 pub mod laws;
@@ -14,7 +13,6 @@ mod runs;
 mod summaries;
 mod watches;
 
-pub use boxes::Boxes;
 pub use generated::{fly_generated, print_generated};
 pub use lines::{make_outside_line, make_script_line};
 pub use missions::MissionFiles;

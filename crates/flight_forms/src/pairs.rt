@@ -9,9 +9,9 @@ ghost use Rattle.flight_forms.specs.Answers.{PairAnswers};
 ghost use Rattle.flight_forms.specs.Texts.{flight_text};
 ghost use Rattle.flight_forms.specs.declared.runs.FlightText.TheVariants.{Trace};
 
-use crate::boxes::Boxes;
 use crate::missions::{MissionFiles, read_mission};
 use crate::runs::{FlightText, tell_flown};
+use app_model::Boxes;
 use coverage_check::Mission;
 use form_base::refusals::Refusal;
 use form_base::status::Status;
@@ -90,14 +90,7 @@ fn fly_on_units(
     ensures reports { IfOk result (λ flown. flown.reports ≡ reports_of mission.now.spec mission.now.script) }
 {
     mission.holds();
-    let mut core = PairCore::open(
-        alloc,
-        mission.spec(),
-        mission.script(),
-        Some(halt),
-        boxes.racks,
-        boxes.spares,
-    )?;
+    let mut core = PairCore::open(alloc, mission.spec(), mission.script(), Some(halt), boxes)?;
     fly_on(&mut core);
     Ok(core.finish())
 }

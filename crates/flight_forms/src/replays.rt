@@ -8,10 +8,10 @@ ghost use Rattle.flight_forms.specs.Answers.{IsReplayAnswer, ListAnswers, Replay
 ghost use Rattle.flight_forms.specs.Documents.{AsksSchedule, AsksScript};
 ghost use Rattle.flight_forms.specs.Replays.{MakesReplay, TellsReplay};
 
-use crate::boxes::Boxes;
 use crate::documents::{ScheduleDocument, ScriptDocument};
 use crate::missions::make_mission;
 use crate::runs::{FlightText, tell_flown};
+use app_model::Boxes;
 use bank_words::Event;
 use coverage_check::Mission;
 use form_base::loads::load;
@@ -142,14 +142,7 @@ fn fly_replay<K: Sink>(alloc: Global, replayed: &Replay, out: &mut K, boxes: Box
     mission.holds();
     let spec = mission.spec();
     let list = replayed.list.items();
-    match replay(
-        alloc,
-        spec,
-        mission.script(),
-        boxes.racks,
-        boxes.spares,
-        list,
-    ) {
+    match replay(alloc, spec, mission.script(), boxes, list) {
         Ok(flown) => {
             let status = tell_flown(out, mission, &flown, FlightText::Trace);
             drop(flown);

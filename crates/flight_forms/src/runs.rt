@@ -9,9 +9,9 @@ ghost use Rattle.form_base.specs.declared.status.TheConstants.{ANSWERED};
 ghost use Rattle.flight_forms.specs.Answers.{RunAnswers};
 ghost use Rattle.flight_forms.specs.Texts.{flight_text, flown_text};
 
-use crate::boxes::Boxes;
 use crate::lines::make_fly_line;
 use crate::missions::{MissionFiles, read_mission};
+use app_model::Boxes;
 use coverage_check::Mission;
 use form_base::refusals::Refusal;
 use form_base::status::{ANSWERED, Status};
@@ -86,7 +86,7 @@ fn fly_on_threads<R: AllocGlobal + Threads + Wait + Sync>(
     ensures rows { IfOk result (λ flown. flown.rows ≡ rows_of mission.now.spec mission.now.script) }
     ensures reports { IfOk result (λ flown. flown.reports ≡ reports_of mission.now.spec mission.now.script) }
 {
-    let flight = WordFlight::open(rt.alloc(), mission, boxes.racks, boxes.spares)?;
+    let flight = WordFlight::open(rt.alloc(), mission, boxes)?;
     Ok(flight.run(rt).flown)
 }
 

@@ -9,9 +9,9 @@ ghost use Rattle.telemetry_tap.specs.Taps.{IsReaderOf, rows_published, tap_missi
 ghost use Rattle.flight_forms.specs.Answers.{WatchAnswers};
 ghost use Rattle.flight_forms.specs.Texts.{watch_text};
 
-use crate::boxes::Boxes;
 use crate::lines::make_watch_line;
 use crate::missions::{MissionFiles, read_mission};
+use app_model::Boxes;
 use coverage_check::Mission;
 use form_base::refusals::Refusal;
 use form_base::status::{ANSWERED, Status};
@@ -78,7 +78,7 @@ fn fly_watched<R: AllocGlobal + Threads + Wait + Sync>(
 ) -> Result<Summary, NoMemory>
     ensures { IfOk result (λ summary. summary ≡ summary_after mission.now mission.now.script.frames) }
 {
-    let flight = WordFlight::open(rt.alloc(), mission, boxes.racks, boxes.spares)?;
+    let flight = WordFlight::open(rt.alloc(), mission, boxes)?;
     let (tap, writer, mut readers) = Tap::open(rt.alloc(), mission, 2)?;
     let Some(one) = readers.pop() else {
         unreachable!()

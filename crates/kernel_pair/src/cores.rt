@@ -5,7 +5,7 @@ use crate::events::{PairEvent, UnitHalt};
 use crate::logs::end_frame;
 use crate::machines::PairMachine;
 use crate::setups::Setup;
-use app_model::Rack;
+use app_model::Boxes;
 use bank_words::kernel_encode;
 use fail_stop::flyers::make_flyers;
 use fail_stop::{Flyer, Snapshot};
@@ -34,7 +34,7 @@ impl<'a> std::marker::Model for PairCore<'a> {
 }
 
 impl<'a> PairCore<'a> {
-    ghost use Rattle.std.specs.Prelude.{◌≡◌, ◌<◌, ℕ, [], IfErr, IfOk, IsTrue, ◌↔◌, Some, length, take, vec_len};
+    ghost use Rattle.std.specs.Prelude.{◌≡◌, ◌<◌, ℕ, [], IfErr, IfOk, IsTrue, ◌↔◌, Some, length, take};
     ghost use Rattle.scram_types.specs.Specification.{IsSpec};
     ghost use Rattle.fault_script.specs.Fits.{Fits};
     ghost use Rattle.fault_script.specs.Times.{restart_of};
@@ -47,9 +47,8 @@ impl<'a> PairCore<'a> {
     ghost use Rattle.kernel_pair.specs.Pairs.{IsPairNext, IsPairOpening, IsPairOver, IsPairReplay, frame_to_make, next_unit};
     ghost use Rattle.kernel_pair.specs.declared.events.PairEvent.TheVariants.{Fly, Note, Store};
 
-    /// Creates a flight before its first event. `racks[p]` holds the boxes of processor `p`, and `spares[p]` its boxes
-    /// after a restart. All memory of the flight is allocated here: the rows and reports of both units, and room for
-    /// every possible event.
+    /// Creates a flight before its first event. All memory of the flight is allocated here: the rows and reports of
+    /// both units, and room for every possible event.
     ///
     /// # Errors
     ///
@@ -59,12 +58,9 @@ impl<'a> PairCore<'a> {
         spec: &'a Spec,
         script: &'a Script,
         halt: Option<UnitHalt>,
-        racks: Vec<Rack>,
-        spares: Vec<Rack>,
+        boxes: Boxes,
     ) -> Result<PairCore<'a>, NoMemory>
         requires script { Fits spec.now script.now }
-        requires racks { vec_len racks ≡ 8 }
-        requires spares { vec_len spares ≡ 8 }
         ensures spec { IfOk result (λ core. core.spec ≡ spec.now) }
         ensures script { IfOk result (λ core. core.script ≡ script.now) }
         ensures halt { IfOk result (λ core. core.halt ≡ halt) }
@@ -72,7 +68,7 @@ impl<'a> PairCore<'a> {
         ensures events { IfOk result (λ core. core.events ≡ []) }
     {
         let setup = Setup { spec, script, halt };
-        let flyers = make_flyers(alloc, racks, spares)?;
+        let flyers = make_flyers(alloc, boxes)?;
         let first = Kernel::new(alloc, spec, script)?;
         let second = Kernel::new(alloc, spec, script)?;
         let machine = PairMachine::open(alloc, &setup, &kernel_encode(&first.image()))?;

@@ -12,7 +12,7 @@ use crate::members::Member;
 use crate::shared_cores::{FlightOf, SharedCore};
 use crate::steps::make_any;
 use crate::turns::{fly_kernel, fly_processor};
-use app_model::Rack;
+use app_model::{Boxes, Rack};
 use coverage_check::Mission;
 use crossbeam_utils::CachePadded;
 use event_core::Core;
@@ -39,22 +39,19 @@ pub struct LockFlight<'a> {
 }
 
 impl<'a> LockFlight<'a> {
-    /// Returns a flight of a mission before its first step. Rack `p` belongs to processor `p`, and spare rack `p` is
-    /// for its restart. Allocates all memory that the flight needs. The only error is out of memory.
+    /// Returns a flight of a mission before its first step. Allocates all memory that the flight needs. The only error
+    /// is out of memory.
     pub fn open(
         alloc: Global,
         mission: &'a Mission,
-        racks: Vec<Rack>,
-        spares: Vec<Rack>,
+        boxes: Boxes,
     ) -> Result<LockFlight<'a>, NoMemory>
-        requires racks { vec_len racks ≡ 8 }
-        requires spares { vec_len spares ≡ 8 }
         ensures mission { IfOk result (λ flight. flight.mission.now ≡ mission.now) }
         ensures fits { IfOk result (λ flight. All (λ member. MemberFits flight.mission.now member.value) flight.members.items) }
     {
         mission.holds();
         let core = Core::open(alloc, mission.spec(), mission.script())?;
-        let members = make_members(alloc, mission, racks, spares)?;
+        let members = make_members(alloc, mission, boxes)?;
         let back = Vec::with_capacity(alloc, members.len())?;
         Ok(LockFlight {
             mission,
@@ -109,14 +106,14 @@ struct Roster {
 fn make_members(
     alloc: Global,
     mission: &Mission,
-    racks: Vec<Rack>,
-    spares: Vec<Rack>,
+    boxes: Boxes,
 ) -> Result<Vec<CachePadded<Member>>, NoMemory>
-    requires { vec_len racks ≡ 8 }
     ensures fits { IfOk result (λ members. All (λ member. MemberFits mission.now member.value) members.items) }
 {
-    let mut racks = racks;
-    let mut spares = spares;
+    let Boxes {
+        mut racks,
+        mut spares,
+    } = boxes;
     let mut members = Vec::with_capacity(alloc, racks.len())?;
     for _ in 0..8u8 {
         add_next(mission, &mut racks, &mut spares, &mut members)?;

@@ -1,6 +1,6 @@
 //! The flight of a schedule on one thread.
 
-ghost use Rattle.std.specs.Prelude.{◌≡◌, ◌++◌, ◌∷◌, [], List, Err, IfErr, IfOk, IfSome, None, Some, length, slice_get, take, vec_len};
+ghost use Rattle.std.specs.Prelude.{◌≡◌, ◌++◌, ◌∷◌, [], List, Err, IfErr, IfOk, IfSome, None, Some, length, slice_get, take};
 ghost use Rattle.event_core.specs.Cores.{IsNextIn, IsWordIn, core_places, core_words, flown};
 ghost use Rattle.event_core.specs.Flyers.{FlyBy, FlyersFit};
 ghost use Rattle.event_core.specs.Replays.{IsReplay};
@@ -13,7 +13,7 @@ ghost use Rattle.event_core.specs.declared.cores.Illegal.{Illegal};
 ghost use Rattle.bank_words.specs.declared.events.Event.{Event};
 
 use crate::turns::proc_count;
-use app_model::Rack;
+use app_model::Boxes;
 use bank_words::Event;
 use event_core::Core;
 use event_core::flyers::Flyers;
@@ -49,8 +49,7 @@ impl From<NoMemory> for ReplayError {
 }
 
 /// Flies a list of events as a schedule, on one thread, and returns the rows and reports. If the list is a schedule at
-/// whose end the flight is over, they are those of the one-thread trace. Rack `p` is the rack of processor `p`, and
-/// spare rack `p` is for its restart. It does not block.
+/// whose end the flight is over, they are those of the one-thread trace. It does not block.
 ///
 /// # Errors
 ///
@@ -60,17 +59,14 @@ pub fn replay(
     alloc: Global,
     spec: &Spec,
     script: &Script,
-    racks: Vec<Rack>,
-    spares: Vec<Rack>,
+    boxes: Boxes,
     events: &[Event],
 ) -> Result<Flown, ReplayError>
     requires script { Fits spec.now script.now }
-    requires racks { vec_len racks ≡ 8 }
-    requires spares { vec_len spares ≡ 8 }
     ensures { AnswersReplay spec.now script.now events.now result }
 {
     let core = Core::open(alloc, spec, script)?;
-    let flyers = Flyers::open(alloc, racks, spares)?;
+    let flyers = Flyers::open(alloc, boxes)?;
     let core = fly(core, spec, flyers, events)?;
     land(core, spec, events)
 }

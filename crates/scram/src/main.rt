@@ -2,7 +2,7 @@
 //! command, and ends with the command's status.
 #![tactic(auto)]
 
-use app_model::racks_fit;
+use app_model::{Boxes, racks_fit};
 use racks::racks;
 use scram_cli::run_program;
 use scram_types::NoMemory;
@@ -53,7 +53,7 @@ fn answer<R: AllocGlobal + Files + Print + Threads + Wait + Sync>(
     if !racks_fit(&racks) || !racks_fit(&spares) {
         return Ok(refuse_racks(rt));
     }
-    let (status, _files, _out) = run_program(threads, words, racks, spares)?;
+    let (status, _files, _out) = run_program(threads, words, Boxes { racks, spares })?;
     Ok(status.code)
 }
 

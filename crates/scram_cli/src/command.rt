@@ -1,6 +1,6 @@
 //! The function that runs the command.
 
-ghost use Rattle.std.specs.Prelude.{◌≡◌, ◌∷◌, [], Some, map, string_bytes, vec_len};
+ghost use Rattle.std.specs.Prelude.{◌≡◌, ◌∷◌, [], Some, map, string_bytes};
 ghost use Rattle.scram_io.specs.Outside.{Rose};
 ghost use Rattle.form_base.specs.Answers.{Gives};
 ghost use Rattle.form_base.specs.Assurance.{Assured};
@@ -14,7 +14,7 @@ ghost use Rattle.scram_cli.specs.Pages.{page_text};
 
 use crate::forms::{FlightForm, Form, Look, SpecificationForm, form_of};
 use crate::pages::{Page, page_text};
-use app_model::Rack;
+use app_model::Boxes;
 use choice_forms::{Question, choices, choose};
 use columns_form::columns_form;
 use explain_form::{explain, explain_script};
@@ -22,8 +22,8 @@ use faults_form::{FaultsQuestion, faults};
 use fill_form::fill;
 use flight_forms::laws::flights_are_assured;
 use flight_forms::{
-    Boxes, MissionFiles, PairFiles, ReplayFiles, fly_generated, pair_form, print_generated,
-    replay_form, run, watch,
+    MissionFiles, PairFiles, ReplayFiles, fly_generated, pair_form, print_generated, replay_form,
+    run, watch,
 };
 use flights_form::{ScriptsFiles, flights};
 use form_base::refusals::{Refusal, Refused};
@@ -63,18 +63,14 @@ use trace_text::lines::Line;
 ///
 /// When the call returns, all printed text has been written, or the status is 4.
 ///
-/// A mission is flown with a thread for each processor. `replay`, `pair` and `flights` fly without threads. `racks` are
-/// the boxes of the processors, and `spares` those of processors that restart.
+/// A mission is flown with a thread for each processor. `replay`, `pair` and `flights` fly without threads.
 pub fn scram<R: AllocGlobal + Threads + Wait + Sync, F: Files, K: Sink>(
     rt: &R,
     words: &[String],
     files: &mut F,
     out: &mut K,
-    racks: Vec<Rack>,
-    spares: Vec<Rack>,
+    boxes: Boxes,
 ) -> Status
-    requires racks { vec_len racks ≡ 8 }
-    requires spares { vec_len spares ≡ 8 }
     ensures answer { Ends (FormAnswers (form_of (map string_bytes words.now))) (files_of (form_of (map string_bytes words.now)))
         (F.state files.old) (F.state files.new) (IsSent (K.state out.old) (K.state out.new) result.code) }
     ensures read { result.code ≡ UNREAD_FILE → Rose (F.state files.old).faults (F.state files.new).faults }
@@ -86,7 +82,7 @@ pub fn scram<R: AllocGlobal + Threads + Wait + Sync, F: Files, K: Sink>(
 {
     flights_are_assured();
     reconfigurations_are_assured();
-    send_answer(rt, words, files, out, Boxes { racks, spares })
+    send_answer(rt, words, files, out, boxes)
 }
 
 // Answers the words, and flushes the sink.

@@ -1,6 +1,6 @@
 //! The command with the files of the system and standard output.
 
-ghost use Rattle.std.specs.Prelude.{◌≡◌, [], IfOk, map, string_bytes, vec_len};
+ghost use Rattle.std.specs.Prelude.{◌≡◌, [], IfOk, map, string_bytes};
 ghost use Rattle.scram_io.specs.Real.{real_files, real_sink};
 ghost use Rattle.scram_cli.specs.Answers.{FormAnswers};
 ghost use Rattle.scram_cli.specs.Assurance.{AssuresForm};
@@ -9,7 +9,7 @@ ghost use Rattle.scram_cli.specs.Forms.{files_of, form_of};
 ghost use Rattle.form_base.specs.declared.status.TheConstants.{ANSWERED};
 
 use crate::command::scram;
-use app_model::Rack;
+use app_model::Boxes;
 use form_base::status::Status;
 use scram_io::{RealFiles, RealSink};
 use scram_types::NoMemory;
@@ -31,11 +31,8 @@ use std::thread::Threads;
 pub fn run_program<'a, R: AllocGlobal + rt::Files + Print + Threads + Wait + Sync>(
     rt: &'a R,
     words: &[String],
-    racks: Vec<Rack>,
-    spares: Vec<Rack>,
+    boxes: Boxes,
 ) -> Result<(Status, RealFiles<'a, R>, RealSink<'a, R>), NoMemory>
-    requires racks { vec_len racks ≡ 8 }
-    requires spares { vec_len spares ≡ 8 }
     ensures answer { IfOk result (λ ended. Ends (FormAnswers (form_of (map string_bytes words.now))) (files_of (form_of (map string_bytes words.now)))
         (real_files (record { history = []; faults = 0 })) (real_files ended.1)
         (IsSent (real_sink (record { sent = []; held = []; faults = 0 })) (real_sink ended.2) ended.0.code)) }
@@ -43,6 +40,6 @@ pub fn run_program<'a, R: AllocGlobal + rt::Files + Print + Threads + Wait + Syn
 {
     let mut files = RealFiles::new(rt);
     let mut out = RealSink::new(rt.alloc(), rt)?;
-    let status = scram(rt, words, &mut files, &mut out, racks, spares);
+    let status = scram(rt, words, &mut files, &mut out, boxes);
     Ok((status, files, out))
 }

@@ -23,6 +23,6 @@ unfoldable pub word : List ℤ → ℕ → ℤ
 word area i = slice_index_or area i (pos 0)
 
 -- The number z is small enough that sums of a few such numbers fit 64 bits.
-pub record IsWord (z : ℤ) : Type 0 where
+pub record FitsSums (z : ℤ) : Type 0 where
   pub low : minus 4294967296 ≤ℤ z
   pub high : z ≤ℤ pos 4294967296

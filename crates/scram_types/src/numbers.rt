@@ -2,7 +2,7 @@
 #![tactic(auto, unfolding(crate::specs::Numbers::clamp))]
 
 ghost use Rattle.std.specs.Prelude.{◌-ℤ◌, ◌+ℤ◌, pos, ◌≡◌, ◌≤ℤ◌};
-ghost use Rattle.scram_types.specs.Numbers.{IsWord, clamp, minus};
+ghost use Rattle.scram_types.specs.Numbers.{FitsSums, clamp, minus};
 
 /// Returns `x`, restricted to the range from `low` to `high`, inclusive.
 pub fn clamped(x: i64, low: i64, high: i64) -> i64
@@ -22,8 +22,8 @@ pub fn clamped(x: i64, low: i64, high: i64) -> i64
 
 /// Returns `x + y`, where both numbers are within 2^32 of 0.
 pub fn sum(x: i64, y: i64) -> i64
-    requires x { IsWord x }
-    requires y { IsWord y }
+    requires x { FitsSums x }
+    requires y { FitsSums y }
     ensures value { result ≡ x +ℤ y }
     ensures low { minus 8589934592 ≤ℤ result }
     ensures high { result ≤ℤ pos 8589934592 }
@@ -33,8 +33,8 @@ pub fn sum(x: i64, y: i64) -> i64
 
 /// Returns `target - x`, where both numbers are within 2^32 of 0.
 pub fn gap(x: i64, target: i64) -> i64
-    requires x { IsWord x }
-    requires target { IsWord target }
+    requires x { FitsSums x }
+    requires target { FitsSums target }
     ensures value { result ≡ target -ℤ x }
     ensures low { minus 8589934592 ≤ℤ result }
     ensures high { result ≤ℤ pos 8589934592 }

@@ -2,7 +2,7 @@
 #![tactic(auto, unfolding(crate::specs::Ranges::clamp_in))]
 
 ghost use Rattle.std.specs.Prelude.{◌≡◌, ◌≤ℤ◌, pos};
-ghost use Rattle.scram_types.specs.Numbers.{IsWord, minus};
+ghost use Rattle.scram_types.specs.Numbers.{FitsSums, minus};
 ghost use Rattle.scram_types.specs.Ranges.{clamp_in, limit};
 
 use crate::numbers::clamped;
@@ -26,7 +26,7 @@ pub fn clamped_in(range: Range, x: i64) -> i64
     ensures value { result ≡ clamp_in range x }
     ensures low { minus range.below ≤ℤ result }
     ensures high { result ≤ℤ pos range.above }
-    ensures word { IsWord result }
+    ensures word { FitsSums result }
 {
     clamped(x, -i64::from(range.below), i64::from(range.above))
 }

@@ -3,7 +3,7 @@
 use crate::decks::fly_over_words;
 use crate::documents::{Documents, read_documents, read_mission};
 use crate::histories::{fly_again, fly_and_write};
-use app_model::racks::empty_racks;
+use app_model::empty_boxes;
 use coverage_check::Mission;
 use scram_types::Flown;
 use std::alloc::AllocGlobal;
@@ -235,9 +235,8 @@ fn fly_asked<R: AllocGlobal + Threads + Wait + Sync>(
     mission: &Mission,
     asked: Option<[bool; 8]>,
 ) -> io::Result<Flown> {
-    let racks = empty_racks(rt.alloc())?;
-    let spares = empty_racks(rt.alloc())?;
-    fly_over_words(rt, mission, asked, racks, spares)
+    let boxes = empty_boxes(rt.alloc())?;
+    fly_over_words(rt, mission, asked, boxes)
 }
 
 fn fly_twice<R: AllocGlobal + Threads + Wait + Sync>(

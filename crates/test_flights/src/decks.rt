@@ -1,11 +1,10 @@
 //! Flights over both decks.
 
-ghost use Rattle.std.specs.Prelude.{◌≡◌, IfOk, vec_len};
+ghost use Rattle.std.specs.Prelude.{◌≡◌, IfOk};
 ghost use Rattle.event_core.specs.Cores.{core_places, flown};
 ghost use Rattle.fail_stop.specs.Ends.{IsOver};
 
-use app_model::Rack;
-use app_model::racks::empty_racks;
+use app_model::{Boxes, empty_boxes};
 use coverage_check::Mission;
 use event_core::Core;
 use lock_deck::LockFlight;
@@ -29,25 +28,20 @@ pub fn fly_over<R: AllocGlobal + Threads + Wait + Sync>(
     mission: &Mission,
     deck: Deck,
 ) -> io::Result<Flown> {
-    let racks = empty_racks(rt.alloc())?;
-    let spares = empty_racks(rt.alloc())?;
-    fly_with(rt, mission, deck, racks, spares)
+    let boxes = empty_boxes(rt.alloc())?;
+    fly_with(rt, mission, deck, boxes)
 }
 
-/// Flies a mission with a thread for each processor, with these boxes and these spare boxes for restarts.
+/// Flies a mission with a thread for each processor, with these racks.
 pub fn fly_with<R: AllocGlobal + Threads + Wait + Sync>(
     rt: &R,
     mission: &Mission,
     deck: Deck,
-    racks: Vec<Rack>,
-    spares: Vec<Rack>,
-) -> io::Result<Flown>
-    requires racks { vec_len racks ≡ 8 }
-    requires spares { vec_len spares ≡ 8 }
-{
+    boxes: Boxes,
+) -> io::Result<Flown> {
     match deck {
-        Deck::Words => fly_over_words(rt, mission, None, racks, spares),
-        Deck::Lock => Ok(fly_over_lock(rt, mission, None, racks, spares)?.finish()),
+        Deck::Words => fly_over_words(rt, mission, None, boxes),
+        Deck::Lock => Ok(fly_over_lock(rt, mission, None, boxes)?.finish()),
     }
 }
 
@@ -56,13 +50,9 @@ pub fn fly_over_words<R: AllocGlobal + Threads + Wait + Sync>(
     rt: &R,
     mission: &Mission,
     asked: Option<[bool; 8]>,
-    racks: Vec<Rack>,
-    spares: Vec<Rack>,
-) -> io::Result<Flown>
-    requires racks { vec_len racks ≡ 8 }
-    requires spares { vec_len spares ≡ 8 }
-{
-    let Ok(flight) = WordFlight::open(rt.alloc(), mission, racks, spares) else {
+    boxes: Boxes,
+) -> io::Result<Flown> {
+    let Ok(flight) = WordFlight::open(rt.alloc(), mission, boxes) else {
         return Err(ErrorKind::OutOfMemory.into());
     };
     match asked {
@@ -77,15 +67,12 @@ pub fn fly_over_lock<'a, R: AllocGlobal + Threads + Wait + Sync>(
     rt: &R,
     mission: &'a Mission,
     asked: Option<[bool; 8]>,
-    racks: Vec<Rack>,
-    spares: Vec<Rack>,
+    boxes: Boxes,
 ) -> io::Result<Core<'a>>
-    requires racks { vec_len racks ≡ 8 }
-    requires spares { vec_len spares ≡ 8 }
     ensures spec { IfOk result (λ core. core.spec ≡ mission.now.spec) }
     ensures over { IfOk result (λ core. IsOver (flown core) (core_places core)) }
 {
-    let Ok(flight) = LockFlight::open(rt.alloc(), mission, racks, spares) else {
+    let Ok(flight) = LockFlight::open(rt.alloc(), mission, boxes) else {
         return Err(ErrorKind::OutOfMemory.into());
     };
     match asked {

@@ -5,7 +5,7 @@ ghost use Rattle.event_core.specs.Cores.{core_places, flown};
 ghost use Rattle.fail_stop.specs.Ends.{IsOver};
 
 use crate::decks::fly_over_lock;
-use app_model::racks::empty_racks;
+use app_model::empty_boxes;
 use bank_words::Event;
 use coverage_check::Mission;
 use event_core::Core;
@@ -23,9 +23,8 @@ pub fn fly_and_write<R: AllocGlobal + Threads + Wait + Sync>(
     mission: &Mission,
     asked: Option<[bool; 8]>,
 ) -> io::Result<(Flown, Vec<u8>)> {
-    let racks = empty_racks(rt.alloc())?;
-    let spares = empty_racks(rt.alloc())?;
-    match fly_over_lock(rt, mission, asked, racks, spares) {
+    let boxes = empty_boxes(rt.alloc())?;
+    match fly_over_lock(rt, mission, asked, boxes) {
         Ok(core) => finish(rt.alloc(), mission, core),
         Err(error) => Err(error),
     }
@@ -65,11 +64,10 @@ pub fn fly_again<R: AllocGlobal>(rt: &R, mission: &Mission, text: &[u8]) -> io::
 }
 
 fn replay_events<R: AllocGlobal>(rt: &R, mission: &Mission, events: &[Event]) -> io::Result<Flown> {
-    let racks = empty_racks(rt.alloc())?;
-    let spares = empty_racks(rt.alloc())?;
+    let boxes = empty_boxes(rt.alloc())?;
     mission.holds();
     let (spec, script) = (mission.spec(), mission.script());
-    match replay(rt.alloc(), spec, script, racks, spares, events) {
+    match replay(rt.alloc(), spec, script, boxes, events) {
         Ok(flown) => Ok(flown),
         Err(_) => Err(ErrorKind::InvalidData.into()),
     }

@@ -2,7 +2,7 @@
 
 use crate::decks::{Deck, fly_with};
 use crate::documents::read_mission;
-use app_model::{Rack, racks_fit};
+use app_model::{Boxes, Rack, racks_fit};
 use coverage_check::Mission;
 use scram_types::Flown;
 use std::alloc::AllocGlobal;
@@ -82,5 +82,5 @@ fn fly_fitting<R: AllocGlobal + Threads + Wait + Sync>(
     if !racks_fit(&racks) || !racks_fit(&spares) {
         return Err(ErrorKind::InvalidInput.into());
     }
-    fly_with(rt, mission, deck, racks, spares)
+    fly_with(rt, mission, deck, Boxes { racks, spares })
 }

@@ -2,7 +2,7 @@
 #![tactic(auto, unfolding(app_model::specs::FlightControl::command, app_model::specs::FlightControl::elevator_after, app_model::specs::FlightControl::aileron_after, app_model::specs::FlightControl::flight_control_ran))]
 
 ghost use Rattle.std.specs.Prelude.{◌≡◌, ◌<◌};
-ghost use Rattle.scram_types.specs.Numbers.{IsWord};
+ghost use Rattle.scram_types.specs.Numbers.{FitsSums};
 ghost use Rattle.app_model.specs.FlightControl.{aileron_after, closer, command, elevator_after, flight_control_ran};
 
 use app_model::kinds::autopilot;
@@ -82,7 +82,7 @@ fn next_aileron(seen: &Seen) -> i64
 fn commanded(seen: &Seen, variable: usize) -> i64
     requires { variable < 8 }
     ensures value { result ≡ command seen.now variable }
-    ensures word { IsWord result }
+    ensures word { FitsSums result }
 {
     if read_lead(autopilot::KIND, seen, STATUS) == 1 {
         read_lead(autopilot::KIND, seen, variable)
@@ -94,8 +94,8 @@ fn commanded(seen: &Seen, variable: usize) -> i64
 /// Returns the position that a surface reaches in one frame, moving from `from` towards `wanted` by at most `step`.
 #[tactic(auto, unfolding(app_model::specs::FlightControl::closer, scram_types::specs::Ranges::clamp_in, scram_types::specs::Numbers::clamp))]
 fn reached(from: i64, wanted: i64, step: u32) -> i64
-    requires from { IsWord from }
-    requires wanted { IsWord wanted }
+    requires from { FitsSums from }
+    requires wanted { FitsSums wanted }
     ensures { result ≡ closer from wanted step }
 {
     let step = i64::from(step);

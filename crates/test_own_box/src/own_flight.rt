@@ -3,7 +3,7 @@
 ghost use Rattle.std.specs.Prelude.{◌≡◌, ◌<◌, ◌^◌, length, vec_len};
 
 use app_model::racks::empty_racks;
-use app_model::{Rack, racks_fit};
+use app_model::{Boxes, Rack, racks_fit};
 use coverage_check::Mission;
 use scram_io::{RealSink, Sink};
 use scram_types::{Flown, Spec};
@@ -43,7 +43,7 @@ fn fly_mission<R: AllocGlobal + Threads + Wait + Sync>(
 {
     let _frames = mission.script().frames;
     let spares = empty_racks(rt.alloc())?;
-    match WordFlight::open(rt.alloc(), mission, racks, spares) {
+    match WordFlight::open(rt.alloc(), mission, Boxes { racks, spares }) {
         Ok(flight) => print_trace(rt, mission.spec(), &flight.run(threads).flown),
         Err(_) => Err(ErrorKind::OutOfMemory.into()),
     }

@@ -3,7 +3,7 @@
 ghost use Rattle.fault_script.specs.Fits.{Fits};
 
 use crate::halts::{Halts, halt_of_row};
-use app_model::racks::empty_racks;
+use app_model::empty_boxes;
 use coverage_check::Mission;
 use kernel_pair::{PairCore, UnitHalt, fly_on};
 use scram_types::{Flown, Report, Script, Spec};
@@ -74,9 +74,8 @@ fn fly(
 ) -> io::Result<(usize, Flown)>
     requires { Fits spec.now script.now }
 {
-    let racks = empty_racks(rt.alloc())?;
-    let spares = empty_racks(rt.alloc())?;
-    match PairCore::open(rt.alloc(), spec, script, halt, racks, spares) {
+    let boxes = empty_boxes(rt.alloc())?;
+    match PairCore::open(rt.alloc(), spec, script, halt, boxes) {
         Ok(mut core) => {
             fly_on(&mut core);
             let events = core.events().len();

@@ -4,7 +4,7 @@ ghost use Rattle.fault_script.specs.Fits.{Fits};
 ghost use Rattle.scram_types.specs.Specification.{IsSpec};
 
 use crate::halts::{halt_of_row, low_byte};
-use app_model::racks::empty_racks;
+use app_model::empty_boxes;
 use coverage_check::Mission;
 use kernel_pair::{PairCore, PairEvent, UnitHalt};
 use scram_types::{ProcId, Script, Spec};
@@ -28,9 +28,8 @@ fn try_halt(
 ) -> io::Result<()>
     requires { Fits spec.now script.now }
 {
-    let racks = empty_racks(rt.alloc())?;
-    let spares = empty_racks(rt.alloc())?;
-    match PairCore::open(rt.alloc(), spec, script, halt, racks, spares) {
+    let boxes = empty_boxes(rt.alloc())?;
+    match PairCore::open(rt.alloc(), spec, script, halt, boxes) {
         Ok(mut core) => {
             core.holds();
             try_lines(rt, &mut core, row)

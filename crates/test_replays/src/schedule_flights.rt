@@ -5,7 +5,7 @@ ghost use Rattle.schedule_replay.specs.Events.{HasEvents};
 
 use crate::answers::{print_answer, print_line};
 use crate::schedules::bytes_of;
-use app_model::racks::empty_racks;
+use app_model::empty_boxes;
 use bank_words::Event;
 use schedule_replay::refusals::make_fault_line;
 use schedule_replay::{ScheduleError, read_schedule, replay, write_schedule};
@@ -74,8 +74,7 @@ fn is_read_back(alloc: Global, spec: &Spec, list: &[Event]) -> io::Result<bool>
 fn fly(rt: &HostRuntime, spec: &Spec, script: &Script, list: &[Event], row: &str) -> io::Result<()>
     requires { Fits spec.now script.now }
 {
-    let racks = empty_racks(rt.alloc())?;
-    let spares = empty_racks(rt.alloc())?;
-    let answer = replay(rt.alloc(), spec, script, racks, spares, list);
+    let boxes = empty_boxes(rt.alloc())?;
+    let answer = replay(rt.alloc(), spec, script, boxes, list);
     print_answer(rt, spec, &answer, row)
 }

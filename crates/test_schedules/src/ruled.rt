@@ -10,7 +10,7 @@ ghost use Rattle.fault_script.specs.Fits.{Fits};
 ghost use Rattle.test_schedules.specs.Ruled.{IsByRule};
 
 use crate::choices::{Chooser, Rule};
-use app_model::racks::empty_racks;
+use app_model::empty_boxes;
 use bank_words::Event;
 use event_core::Core;
 use event_core::flyers::Flyers;
@@ -35,10 +35,9 @@ pub fn fly<'a>(
     ensures rule { IfOk result (λ core. IsByRule (flown core) rule core.history (core_places core) (core_words core)) }
     ensures over { IfOk result (λ core. IsOver (flown core) (core_places core)) }
 {
-    let racks = empty_racks(alloc)?;
-    let spares = empty_racks(alloc)?;
+    let boxes = empty_boxes(alloc)?;
     let core = Core::open(alloc, spec, script)?;
-    let mut flyers = Flyers::open(alloc, racks, spares)?;
+    let mut flyers = Flyers::open(alloc, boxes)?;
     Ok(fly_on(core, spec, &mut flyers, rule))
 }
 
@@ -60,10 +59,9 @@ pub fn fly_some<'a>(
     ensures rule { IfOk result (λ core. IsByRule (flown core) rule core.history (core_places core) (core_words core)) }
     ensures count { IfOk result (λ core. (length core.history ≡ events) ⊎ (IsOver (flown core) (core_places core) × (length core.history < events))) }
 {
-    let racks = empty_racks(alloc)?;
-    let spares = empty_racks(alloc)?;
+    let boxes = empty_boxes(alloc)?;
     let core = Core::open(alloc, spec, script)?;
-    let mut flyers = Flyers::open(alloc, racks, spares)?;
+    let mut flyers = Flyers::open(alloc, boxes)?;
     Ok(fly_events(core, spec, &mut flyers, rule, events))
 }
 

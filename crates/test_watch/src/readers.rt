@@ -5,7 +5,7 @@ ghost use Rattle.fault_script.specs.Fits.{Fits};
 ghost use Rattle.telemetry_tap.specs.Taps.{IsReaderOf};
 
 use crate::summaries::list_summaries;
-use app_model::racks::empty_racks;
+use app_model::empty_boxes;
 use coverage_check::Mission;
 use mission_gen::{generate, write_mission};
 use scram_types::{Flown, Script, Spec};
@@ -79,9 +79,8 @@ fn fly_read<R: AllocGlobal + Threads + Wait + Sync>(
     flown: &Flown,
     summaries: &[Summary],
 ) -> io::Result<()> {
-    let racks = empty_racks(rt.alloc())?;
-    let spares = empty_racks(rt.alloc())?;
-    let flight = given(WordFlight::open(rt.alloc(), mission, racks, spares))?;
+    let boxes = empty_boxes(rt.alloc())?;
+    let flight = given(WordFlight::open(rt.alloc(), mission, boxes))?;
     let (tap, writer, mut readers) = given(Tap::open(rt.alloc(), mission, 2))?;
     let Some(one) = readers.pop() else {
         unreachable!()

@@ -6,7 +6,7 @@ ghost use Rattle.word_table.specs.Tables.{AreOpening, AreSeatsOf, IsSeatOf, seat
 ghost use Rattle.word_deck.specs.Crews.{CrewFits};
 ghost use Rattle.test_words.specs.Actors.{PairFits};
 
-use app_model::Rack;
+use app_model::{Boxes, Rack};
 use std::io::{self, ErrorKind};
 use word_deck::{Crew, KernelCrew};
 use word_table::{Seat, WordTable};
@@ -25,13 +25,8 @@ pub struct Actors<'a> {
     pub kernel: KernelCrew<'a>,
 }
 
-/// Returns the crews of two processors before the first frame, with racks from the ends of these lists.
-pub fn pair_of(
-    words: &WordTable,
-    mut seats: Vec<Seat>,
-    mut racks: Vec<Rack>,
-    mut spares: Vec<Rack>,
-) -> io::Result<Pair>
+/// Returns the crews of two processors before the first frame. Their racks are the last of the lists.
+pub fn pair_of(words: &WordTable, mut seats: Vec<Seat>, boxes: Boxes) -> io::Result<Pair>
     requires seats { AreSeatsOf words.now seats.items }
     requires opening { AreOpening seats.items }
     ensures { IfOk result (λ pair. PairFits words.now pair) }
@@ -40,6 +35,10 @@ pub fn pair_of(
         return Err(ErrorKind::InvalidInput.into());
     }
     let (two, one) = (seats.pop(), seats.pop());
+    let Boxes {
+        mut racks,
+        mut spares,
+    } = boxes;
     let first = crew_of(words, one, racks.pop(), spares.pop())?;
     let second = crew_of(words, two, racks.pop(), spares.pop())?;
     Ok(Pair { first, second })

@@ -7,7 +7,7 @@ ghost use Rattle.test_words.specs.Actors.{ActorsFit, PairFits};
 use crate::crews::{Actors, Pair, pair_of};
 use crate::looks::look;
 use crate::rounds::{fly_rounds, print_turns, repeat_turns};
-use app_model::racks::empty_racks;
+use app_model::empty_boxes;
 use coverage_check::Mission;
 use scram_kernel::Kernel;
 use scram_types::Row;
@@ -42,11 +42,10 @@ fn mission_of(rt: &HostRuntime, text: &str, row: &str, step: u32) -> io::Result<
 
 // Opens the words of a mission, and flies it as the row's lines say.
 fn open(rt: &HostRuntime, mission: &Mission, row: &str) -> io::Result<()> {
-    let racks = empty_racks(rt.alloc())?;
-    let spares = empty_racks(rt.alloc())?;
+    let boxes = empty_boxes(rt.alloc())?;
     match Words::open(rt.alloc(), mission) {
         Ok((words, kseat, seats)) => {
-            let pair = pair_of(&words.table, seats, racks, spares)?;
+            let pair = pair_of(&words.table, seats, boxes)?;
             fly(rt, words, kseat, pair, row)
         }
         Err(_) => Err(ErrorKind::OutOfMemory.into()),

@@ -1,7 +1,7 @@
 //! The answer of the command to the words of a row.
 
 use crate::files::numbers;
-use app_model::{Rack, racks_fit};
+use app_model::{Boxes, Rack, racks_fit};
 use more_apps::PlainAutopilot;
 use racks::racks;
 use scram_cli::scram;
@@ -81,7 +81,13 @@ fn call<R: AllocGlobal + Threads + Wait + Sync>(
         mut files,
         mut sink,
     } = outside;
-    let status = scram(threads, words, &mut files, &mut sink, racks, spares);
+    let status = scram(
+        threads,
+        words,
+        &mut files,
+        &mut sink,
+        Boxes { racks, spares },
+    );
     Ok((status.code, sink))
 }
 

@@ -10,7 +10,7 @@ use crate::kernels::KernelCrew;
 use crate::landings::{RackCell, RackPair, Resources, Shared};
 use crate::scopes::{Roster, fly};
 use crate::watched::WatchedKernel;
-use app_model::Rack;
+use app_model::{Boxes, Rack};
 use coverage_check::Mission;
 use scram_kernel::Kernel;
 use scram_types::{Flown, NoMemory};
@@ -55,17 +55,13 @@ pub struct Landed<'a> {
 }
 
 impl<'a> WordFlight<'a> {
-    /// Creates a flight of a mission with racks of boxes and spare racks for restarts. Rack `p` is the rack of
-    /// processor `p`. All memory of the flight is allocated here. The only error is out of memory.
+    /// Creates a flight of a mission. All memory of the flight is allocated here. The only error is out of memory.
     #[tactic(auto, using(crate::proofs::Outcomes::at_table))]
     pub fn open(
         alloc: Global,
         mission: &'a Mission,
-        racks: Vec<Rack>,
-        spares: Vec<Rack>,
+        boxes: Boxes,
     ) -> Result<WordFlight<'a>, NoMemory>
-        requires racks { vec_len racks ≡ 8 }
-        requires spares { vec_len spares ≡ 8 }
         ensures mission { IfOk result (λ flight. flight.mission ≡ mission.entry) }
     {
         mission.holds();
@@ -83,7 +79,7 @@ impl<'a> WordFlight<'a> {
                 own,
                 landed,
             },
-            cells: cells(alloc, racks, spares),
+            cells: cells(alloc, boxes),
         })
     }
 
@@ -238,11 +234,10 @@ fn spins_of<R: Threads>(rt: &R) -> u32 {
     }
 }
 
-// Returns the cells of the processors. Cell `p` holds rack `p` and spare rack `p`, or is empty if there are no such
-// racks.
-fn cells(alloc: Global, racks: Vec<Rack>, spares: Vec<Rack>) -> [RackCell; 8] {
-    let mut racks = racks.into_iter();
-    let mut spares = spares.into_iter();
+// Returns the cells of the processors. Cell `p` holds rack `p` and spare rack `p`.
+fn cells(alloc: Global, boxes: Boxes) -> [RackCell; 8] {
+    let mut racks = boxes.racks.into_iter();
+    let mut spares = boxes.spares.into_iter();
     [
         next_cell(alloc, &mut racks, &mut spares),
         next_cell(alloc, &mut racks, &mut spares),
