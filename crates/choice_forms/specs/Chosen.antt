@@ -5,5 +5,5 @@ use Rattle.form_base.specs.Answers.{Gives}
 use Rattle.choice_forms.specs.declared.choosing.Chosen.{Chosen}
 
 -- The answer has status 0, and its text consists of the two pieces.
-abbrev pub TellsChosen : Chosen → ℕ → List ℕ → Type 0
-TellsChosen chosen = Gives (ANSWERED, chosen.choice ++ chosen.needs)
+abbrev pub GivesChosen : Chosen → ℕ → List ℕ → Type 0
+GivesChosen chosen = Gives (ANSWERED, chosen.choice ++ chosen.needs)

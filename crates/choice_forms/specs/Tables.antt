@@ -38,5 +38,5 @@ abbrev pub ShowsShares : Table → Type 0
 ShowsShares table = HasShares table.spec table.shares.items
 
 -- The answer has status 0, and its text lists the choices of the specification.
-abbrev pub TellsChoices : Table → ℕ → List ℕ → Type 0
-TellsChoices table = Gives (ANSWERED, choices_text table.spec)
+abbrev pub GivesChoices : Table → ℕ → List ℕ → Type 0
+GivesChoices table = Gives (ANSWERED, choices_text table.spec)

@@ -9,7 +9,7 @@ ghost use Rattle.form_base.specs.Endings.{Ends, IsTaken, Prepares, PreparesWitho
 ghost use Rattle.form_base.specs.Refusals.{told};
 ghost use Rattle.choice_forms.specs.Answers.{ChooseAnswers};
 ghost use Rattle.choice_forms.specs.Choosing.{IsUnknown, choose_answer, chosen_line, env_after, env_after_all, others_up, taken_down, valued, with_value};
-ghost use Rattle.choice_forms.specs.Chosen.{TellsChosen};
+ghost use Rattle.choice_forms.specs.Chosen.{GivesChosen};
 ghost use Rattle.choice_forms.specs.States.{state_word_text};
 
 use crate::lines::{make_chosen_line, make_needs_line};
@@ -75,7 +75,7 @@ fn read_chosen<F: Files>(
     question: Question<'_>,
     files: &mut F,
 ) -> Result<Chosen, Refusal>
-    ensures { Prepares (ChooseAnswers question.entry.specification.now question.entry.conf.now question.entry.state.now) TellsChosen
+    ensures { Prepares (ChooseAnswers question.entry.specification.now question.entry.conf.now question.entry.state.now) GivesChosen
         (question.entry.specification.now ∷ []) (F.state files.old) (F.state files.new) result }
 {
     match load(alloc, &Specification, question.specification, files) {
@@ -85,7 +85,7 @@ fn read_chosen<F: Files>(
 }
 
 fn chosen_of(alloc: Global, spec: Spec, conf: &str, state: &[StateWord]) -> Result<Chosen, Refusal>
-    ensures { PreparesWithoutFiles (Gives (choose_answer spec conf.now state.now)) TellsChosen result }
+    ensures { PreparesWithoutFiles (Gives (choose_answer spec conf.now state.now)) GivesChosen result }
 {
     let chosen = find_chosen(alloc, &spec, conf, state);
     drop(spec);
@@ -98,7 +98,7 @@ fn find_chosen(
     conf: &str,
     state: &[StateWord],
 ) -> Result<Chosen, Refusal>
-    ensures { PreparesWithoutFiles (Gives (choose_answer spec.now conf.now state.now)) TellsChosen result }
+    ensures { PreparesWithoutFiles (Gives (choose_answer spec.now conf.now state.now)) GivesChosen result }
 {
     match spec.conf_named(conf.as_bytes()) {
         Some(c) => match env_after_all(spec, state) {

@@ -10,7 +10,7 @@ ghost use Rattle.form_base.specs.Answers.{Gives};
 ghost use Rattle.form_base.specs.Endings.{Ends, IsTaken, Prepares, PreparesWithoutFiles};
 ghost use Rattle.form_base.specs.declared.status.TheConstants.{ANSWERED};
 ghost use Rattle.choice_forms.specs.Answers.{ChoicesAnswers, choices_answer};
-ghost use Rattle.choice_forms.specs.Tables.{HasShares, ShowsShares, TellsChoices, choice_text, choices_text, choices_text_from};
+ghost use Rattle.choice_forms.specs.Tables.{HasShares, ShowsShares, GivesChoices, choice_text, choices_text, choices_text_from};
 
 use crate::lines::make_choice_line;
 use coverage_check::refuse_states;
@@ -56,7 +56,7 @@ pub fn choices<F: Files, K: Sink>(
 
 /// Reads the specification and returns it with the shares of its configurations, or returns the refusal.
 fn read_table<F: Files>(alloc: Global, specification: &str, files: &mut F) -> Result<Table, Refusal>
-    ensures reads { Prepares (ChoicesAnswers specification.now) TellsChoices (specification.now ∷ []) (F.state files.old) (F.state files.new) result }
+    ensures reads { Prepares (ChoicesAnswers specification.now) GivesChoices (specification.now ∷ []) (F.state files.old) (F.state files.new) result }
     ensures shares { IfOk result ShowsShares }
 {
     match load(alloc, &Specification, specification, files) {
@@ -66,7 +66,7 @@ fn read_table<F: Files>(alloc: Global, specification: &str, files: &mut F) -> Re
 }
 
 fn find_table(alloc: Global, spec: Spec) -> Result<Table, Refusal>
-    ensures prepares { PreparesWithoutFiles (Gives (choices_answer spec (state_refusal spec))) TellsChoices result }
+    ensures prepares { PreparesWithoutFiles (Gives (choices_answer spec (state_refusal spec))) GivesChoices result }
     ensures shares { IfOk result ShowsShares }
 {
     if let Some(shown) = refuse_states(&spec) {

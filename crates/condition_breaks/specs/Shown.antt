@@ -6,16 +6,16 @@ use Rattle.condition_breaks.specs.declared.breaks.Break.{Break}
 use Rattle.condition_breaks.specs.declared.breaks.Break.TheVariants as broken
 
 -- The environment of a place, if it has one, belongs to the specification.
-abbrev pub IsShownIn : Parts → Break → Type 0
-IsShownIn spec (broken.NeedOff c a b) = ⊤
-IsShownIn spec broken.ManyStates = ⊤
-IsShownIn spec (broken.NothingOn c) = ⊤
-IsShownIn spec (broken.SameAgain c d) = ⊤
-IsShownIn spec (broken.Overloaded c p) = ⊤
-IsShownIn spec (broken.Unmet asked c v) = IsEnv spec v
-IsShownIn spec broken.StartLeft = ⊤
-IsShownIn spec (broken.BoundLacking i j) = ⊤
-IsShownIn spec broken.WindowShort = ⊤
-IsShownIn spec (broken.Unheld found) = ⊤
-IsShownIn spec (broken.PreconditionMissed k) = ⊤
-IsShownIn spec (broken.DemandMissed c k v) = IsEnv spec v
+abbrev pub HasEnvOf : Parts → Break → Type 0
+HasEnvOf spec (broken.NeedOff c a b) = ⊤
+HasEnvOf spec broken.ManyStates = ⊤
+HasEnvOf spec (broken.NothingOn c) = ⊤
+HasEnvOf spec (broken.SameAgain c d) = ⊤
+HasEnvOf spec (broken.Overloaded c p) = ⊤
+HasEnvOf spec (broken.Unmet asked c v) = IsEnv spec v
+HasEnvOf spec broken.StartLeft = ⊤
+HasEnvOf spec (broken.BoundLacking i j) = ⊤
+HasEnvOf spec broken.WindowShort = ⊤
+HasEnvOf spec (broken.Unheld found) = ⊤
+HasEnvOf spec (broken.PreconditionMissed k) = ⊤
+HasEnvOf spec (broken.DemandMissed c k v) = IsEnv spec v

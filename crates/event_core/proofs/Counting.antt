@@ -18,7 +18,7 @@ use Rattle.frame_model.specs.Flights.{row_at}
 use Rattle.scram_kernel.specs.Kernels.{rows_below}
 use Rattle.scram_types.proofs.Searches.{length_listed}
 use Rattle.event_core.specs.declared.places.Places.{Places as KeptPlaces}
-use Rattle.event_core.specs.Cores.{CoreParts, core_of, core_places, core_words, flown, frames_ended}
+use Rattle.event_core.specs.Cores.{CoreParts, core_of, core_places, core_words, core_flight, frames_ended}
 use Rattle.event_core.specs.Counts.{HistoriesCountFrames, notes_in, releases_in, with_note, with_release}
 use Rattle.event_core.specs.Replays.{IsReplay}
 use Rattle.event_core.proofs.Ending.{ended_by}
@@ -107,7 +107,7 @@ counted spec script facts events places words r =
 -- the rows of a core, by its history
 pub rows_counted : (core : CoreParts) (spec : Parts) (script : ScriptParts) (places : KeptPlaces) (stored : List ℕ) (history : List Event) (rows : List Row) → core_of spec script places stored history ≡ core
     → IsSpec spec → rows ≡ rows_below core.spec core.script (frames_ended core.spec core.places)
-    → IsReplay (flown core) core.history (core_places core) (core_words core) → length rows ≡ notes_in core.history / length core.spec.procs
+    → IsReplay (core_flight core) core.history (core_places core) (core_words core) → length rows ≡ notes_in core.history / length core.spec.procs
 rows_counted core spec script places stored history rows view facts is replay =
     let sound : IsSpec core.spec = subst (λ (core : CoreParts). IsSpec core.spec) view facts in
     ap length is ∙ length_listed (row_at core.spec core.script) (frames_ended core.spec core.places)

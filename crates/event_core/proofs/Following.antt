@@ -23,7 +23,7 @@ use Rattle.fail_stop.specs.Flyers.{AreFlyersAt, IsFlyerAt, IsUnitAt, flyer_halte
 use Rattle.fail_stop.proofs.FlyersAt.{flyers_with, unit_begun, unit_stopped, unit_up}
 use Rattle.event_core.specs.declared.flyers.Flyers.{Flyers}
 use Rattle.event_core.specs.declared.places.Places.{Places as KeptPlaces}
-use Rattle.event_core.specs.Cores.{CoreParts, core_places, flown}
+use Rattle.event_core.specs.Cores.{CoreParts, core_places, core_flight}
 use Rattle.event_core.specs.Flyers.{AreLastDrafts, FlyBy, FlyersFit, IsLastDraft}
 use Rattle.event_core.specs.Places.{HasLooked, kept_opening, machine_places}
 use Rattle.event_core.proofs.Opens.{places_open}
@@ -110,9 +110,9 @@ module _ {X : Type 0} {Y : X → Type 0} where
       (sym (ap (λ (places : KeptPlaces). (machine_places places).proc) is ∙ ap (λ (at : Places). at.proc) places_open)) fits
 
   pub fly_on : (was core : CoreParts) (words words2 : Word → ℕ) (e : Event) (flyers : Flyers X Y) → core.spec ≡ was.spec → core.script ≡ was.script
-      → Happens (flown was) (core_places was) words e (core_places core) words2 → FlyersFit was.spec was.script (proc_after (flown was) (core_places was) e) flyers → FlyBy core flyers
+      → Happens (core_flight was) (core_places was) words e (core_places core) words2 → FlyersFit was.spec was.script (proc_after (core_flight was) (core_places was) e) flyers → FlyBy core flyers
   fly_on was core words words2 e flyers same_spec same_script happens fits =
-      let at : (core_places core).proc ≡ proc_after (flown was) (core_places was) e = λ i q. happens.proc q i in
+      let at : (core_places core).proc ≡ proc_after (core_flight was) (core_places was) e = λ i q. happens.proc q i in
       subst (λ (spec : Parts). FlyersFit spec core.script (core_places core).proc flyers) (sym same_spec)
       (subst (λ (script : ScriptParts). FlyersFit was.spec script (core_places core).proc flyers) (sym same_script)
       (subst (λ (at : ℕ → Place). FlyersFit was.spec was.script at flyers) (sym at) fits))

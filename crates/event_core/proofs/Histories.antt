@@ -16,7 +16,7 @@ use Rattle.fail_stop.proofs.Keeps.{keeps, opens}
 use Rattle.fail_stop.proofs.ScriptBorder.{restarts_within, script_flies}
 use Rattle.fault_script.specs.Fits.{Fits}
 use Rattle.event_core.specs.declared.places.Places.{Places as KeptPlaces}
-use Rattle.event_core.specs.Cores.{CoreParts, core_of, core_places, core_words, flown}
+use Rattle.event_core.specs.Cores.{CoreParts, core_of, core_places, core_words, core_flight}
 use Rattle.event_core.specs.Places.{machine_places}
 use Rattle.event_core.specs.Replays.{IsReplay}
 use Rattle.event_core.specs.Rooms.{events_a_frame, events_left}
@@ -25,8 +25,8 @@ use Rattle.event_core.proofs.Opens.{all_events}
 
 -- the invariant of the parts gives that of the core
 pub replayed_by : (core : CoreParts) (spec : Parts) (script : ScriptParts) (places : KeptPlaces) (stored : List ℕ) (history : List Event) → core_of spec script places stored history ≡ core
-    → IsReplay (flight_of spec script) history (machine_places places) (stored_in stored) → IsReplay (flown core) core.history (core_places core) (core_words core)
-replayed_by core spec script places stored history is r = subst (λ (core : CoreParts). IsReplay (flown core) core.history (core_places core) (core_words core)) is r
+    → IsReplay (flight_of spec script) history (machine_places places) (stored_in stored) → IsReplay (core_flight core) core.history (core_places core) (core_words core)
+replayed_by core spec script places stored history is r = subst (λ (core : CoreParts). IsReplay (core_flight core) core.history (core_places core) (core_words core)) is r
 
 -- each event reduces the number of events left
 module _ (m : Flight) (flies : Flies m) (within : (p r : ℕ) → m.restart p ≡ Some r → r < m.frames) (flying : 0 < m.frames) where

@@ -19,7 +19,7 @@ use Rattle.bank_words.specs.Images.{kernel_encode}
 use Rattle.bank_words.specs.declared.images.KernelImage.{KernelImage}
 use Rattle.frame_model.specs.Storage.{kernel_image}
 use Rattle.scram_kernel.specs.Kernels.{KernelParts, kernel_after}
-use Rattle.event_core.specs.Cores.{CoreParts, MachineKeeps, core_of, frames_ended, flown, core_places}
+use Rattle.event_core.specs.Cores.{CoreParts, MachineKeeps, core_of, frames_ended, core_flight, core_places}
 use Rattle.event_core.specs.Places.{machine_places}
 use Rattle.event_core.proofs.Ending.{ended_by}
 use Rattle.event_core.proofs.Fewer.{first_flies}
@@ -67,8 +67,8 @@ module _ {spec : Parts} {script : ScriptParts} {places : KeptPlaces} {stored : L
 
 -- the same of a core that has these parts
 pub over_by : (core : CoreParts) (spec : Parts) (script : ScriptParts) (places : KeptPlaces) (stored : List ℕ) (history : List Event) (room count : ℕ) → core_of spec script places stored history ≡ core
-    → MachineKeeps spec script places stored history room count → (script.frames ≡ 0) ⊎ ((suc places.frame ≡ script.frames) × (length spec.procs ≤ places.step)) → IsOver (flown core) (core_places core)
-over_by core spec script places stored history room count is k over = subst (λ (core : CoreParts). IsOver (flown core) (core_places core)) is (is_over k over)
+    → MachineKeeps spec script places stored history room count → (script.frames ≡ 0) ⊎ ((suc places.frame ≡ script.frames) × (length spec.procs ≤ places.step)) → IsOver (core_flight core) (core_places core)
+over_by core spec script places stored history room count is k over = subst (λ (core : CoreParts). IsOver (core_flight core) (core_places core)) is (is_over k over)
 
 true_less : (a b : ℕ) → IsTrue (nat_le a b) → a ≤ b
 true_less a b is = grind (arith, nat_tests, is)
@@ -79,19 +79,19 @@ less_true a b is = grind (arith, nat_tests, is)
 -- in the last frame the flight is over once all are noted
 pub over_told : (core : CoreParts) (spec : Parts) (script : ScriptParts) (places : KeptPlaces) (stored : List ℕ) (history : List Event) (room count : ℕ) (procs : List Proc) → core_of spec script places stored history ≡ core
     → MachineKeeps spec script places stored history room count → procs ≡ spec.procs → 0 < script.frames → suc places.frame ≡ script.frames
-    → (IsTrue (nat_le (length procs) places.step) → IsOver (flown core) (core_places core)) × (IsOver (flown core) (core_places core) → IsTrue (nat_le (length procs) places.step))
+    → (IsTrue (nat_le (length procs) places.step) → IsOver (core_flight core) (core_places core)) × (IsOver (core_flight core) (core_places core) → IsTrue (nat_le (length procs) places.step))
 over_told core spec script places stored history room count procs is k is_procs some last = rw is_procs (
   λ all. over_by core spec script places stored history room count is k (inr (last, true_less (length spec.procs) places.step all)),
-  λ over. told (subst (λ (core : CoreParts). IsOver (flown core) (core_places core)) (sym is) over),
+  λ over. told (subst (λ (core : CoreParts). IsOver (core_flight core) (core_places core)) (sym is) over),
 ) where
   told : IsOver (flight_of spec script) (machine_places places) → IsTrue (nat_le (length spec.procs) places.step)
   told (inl none) = absurd (omega (arith, some, none))
   told (inr frames_ended) = less_true (length spec.procs) places.step frames_ended.2
 
 pub ended_in : (core : CoreParts) (spec : Parts) (script : ScriptParts) (places : KeptPlaces) (stored : List ℕ) (history : List Event) (room count : ℕ) (kernel : KernelParts) → core_of spec script places stored history ≡ core
-    → MachineKeeps spec script places stored history room count → kernel ≡ kernel_after spec script (frames_ended spec places) → IsOver (flown core) (core_places core) → kernel.past ≡ kernel.script.frames
+    → MachineKeeps spec script places stored history room count → kernel ≡ kernel_after spec script (frames_ended spec places) → IsOver (core_flight core) (core_places core) → kernel.past ≡ kernel.script.frames
 ended_in core spec script places stored history room count kernel is k is_kernel over =
-    let here : IsOver (flight_of spec script) (machine_places places) = subst (λ (core : CoreParts). IsOver (flown core) (core_places core)) (sym is) over in
+    let here : IsOver (flight_of spec script) (machine_places places) = subst (λ (core : CoreParts). IsOver (core_flight core) (core_places core)) (sym is) over in
     ap (λ (k : KernelParts). k.past) is_kernel ∙ over_ended k here ∙ sym (ap (λ (k : KernelParts). k.script.frames) is_kernel)
 
 pub word_said : (core : CoreParts) (spec : Parts) (script : ScriptParts) (places : KeptPlaces) (stored : List ℕ) (history : List Event) (image : KernelImage) → core_of spec script places stored history ≡ core

@@ -24,7 +24,7 @@ use Rattle.fail_stop.specs.Listed.{stored_in}
 use Rattle.fail_stop.specs.ScriptFlights.{flight_of, image_words_after}
 use Rattle.event_core.specs.declared.places.Places.{Places as KeptPlaces}
 use Rattle.fail_stop.proofs.Plans.{Mid, gate, is_less, mid, plan_store}
-use Rattle.event_core.specs.Cores.{CoreParts, MachineKeeps, core_of, core_places, core_words, flown, frames_ended}
+use Rattle.event_core.specs.Cores.{CoreParts, MachineKeeps, core_of, core_places, core_words, core_flight, frames_ended}
 use Rattle.event_core.specs.Places.{HasLooked, machine_places}
 use Rattle.event_core.specs.Reads.{bank_taken, kernel_words_stored, word_read}
 use Rattle.event_core.proofs.Ending.{ended_by}
@@ -78,9 +78,9 @@ module _ {spec : Parts} {script : ScriptParts} {places : KeptPlaces} {stored : L
 
 -- the same of a core that has these parts
 pub looking_in : (core : CoreParts) (spec : Parts) (script : ScriptParts) (places : KeptPlaces) (stored : List ℕ) (history : List Event) (room count p : ℕ) → core_of spec script places stored history ≡ core
-    → MachineKeeps spec script places stored history room count → ReadersFind → p < length core.spec.procs → HasLooked (flown core) ((core_places core).proc p) → Looking spec script places stored p
+    → MachineKeeps spec script places stored history room count → ReadersFind → p < length core.spec.procs → HasLooked (core_flight core) ((core_places core).proc p) → Looking spec script places stored p
 looking_in core spec script places stored history room count p is k find low looked =
-    looking k find p (subst (λ (core : CoreParts). p < length core.spec.procs) (sym is) low) (subst (λ (core : CoreParts). HasLooked (flown core) ((core_places core).proc p)) (sym is) looked)
+    looking k find p (subst (λ (core : CoreParts). p < length core.spec.procs) (sym is) low) (subst (λ (core : CoreParts). HasLooked (core_flight core) ((core_places core).proc p)) (sym is) looked)
 
 pub said_by : (core : CoreParts) (spec : Parts) (script : ScriptParts) (places : KeptPlaces) (stored : List ℕ) (history : List Event) (p : ℕ) (image : KernelImage) → core_of spec script places stored history ≡ core
     → p < length core.spec.procs → Looking spec script places stored p → image ≡ kernel_image spec script (frames_ended spec places) → image ≡ kernel_image spec script places.frame
@@ -127,7 +127,7 @@ store_looked m at words p i next =
 
 -- the machine goes on
 pub goes_on_by : (core : CoreParts) (spec : Parts) (script : ScriptParts) (places : KeptPlaces) (stored : List ℕ) (history : List Event) (room count : ℕ) → core_of spec script places stored history ≡ core
-    → MachineKeeps spec script places stored history room count → MachineGoesOn → IsOver (flown core) (core_places core) ⊎ ((event : Event) × IsNext (flown core) (core_places core) (core_words core) event)
+    → MachineKeeps spec script places stored history room count → MachineGoesOn → IsOver (core_flight core) (core_places core) ⊎ ((event : Event) × IsNext (core_flight core) (core_places core) (core_words core) event)
 goes_on_by core spec script places stored history room count is k on =
-    subst (λ (core : CoreParts). IsOver (flown core) (core_places core) ⊎ ((event : Event) × IsNext (flown core) (core_places core) (core_words core) event)) is
+    subst (λ (core : CoreParts). IsOver (core_flight core) (core_places core) ⊎ ((event : Event) × IsNext (core_flight core) (core_places core) (core_words core) event)) is
     (on spec script k.fits (machine_places places) (stored_in stored) (kept_of k))

@@ -13,7 +13,7 @@ use Rattle.fail_stop.specs.ScriptFlights.{flight_of}
 use Rattle.fail_stop.proofs.ListLaw.{list_written, target}
 use Rattle.fail_stop.proofs.ScriptBorder.{restarts_within, script_flies}
 use Rattle.event_core.specs.declared.places.Places.{Places as KeptPlaces}
-use Rattle.event_core.specs.Cores.{MachineKeeps, CoreParts, core_of, flown, core_places, core_words}
+use Rattle.event_core.specs.Cores.{MachineKeeps, CoreParts, core_of, core_flight, core_places, core_words}
 use Rattle.event_core.specs.Places.{machine_places}
 use Rattle.event_core.specs.Replays.{IsReplay}
 use Rattle.event_core.specs.Rooms.{events_left}
@@ -91,11 +91,11 @@ kept_of {spec} {script} {places} {stored} {history} k = replay_kept (flight_of s
 -- the same of a core that has these parts
 pub happens_by : (core : CoreParts) (spec : Parts) (script : ScriptParts) (places : KeptPlaces) (stored : List ℕ) (history : List Event) (e : Event) (places2 : KeptPlaces) (stored2 : List ℕ)
     → core_of spec script places stored history ≡ core → Happens (flight_of spec script) (machine_places places) (stored_in stored) e (machine_places places2) (stored_in stored2)
-    → Happens (flown core) (core_places core) (core_words core) e (machine_places places2) (stored_in stored2)
-happens_by core spec script places stored history e places2 stored2 is h = subst (λ (core : CoreParts). Happens (flown core) (core_places core) (core_words core) e (machine_places places2) (stored_in stored2)) is h
+    → Happens (core_flight core) (core_places core) (core_words core) e (machine_places places2) (stored_in stored2)
+happens_by core spec script places stored history e places2 stored2 is h = subst (λ (core : CoreParts). Happens (core_flight core) (core_places core) (core_words core) e (machine_places places2) (stored_in stored2)) is h
 
 pub fewer_by : (core : CoreParts) (spec : Parts) (script : ScriptParts) (places : KeptPlaces) (stored : List ℕ) (history : List Event) (places2 : KeptPlaces)
     → core_of spec script places stored history ≡ core → events_left (flight_of spec script) (machine_places places2) < events_left (flight_of spec script) (machine_places places)
-    → events_left (flight_of spec script) (machine_places places2) < events_left (flown core) (core_places core)
+    → events_left (flight_of spec script) (machine_places places2) < events_left (core_flight core) (core_places core)
 fewer_by core spec script places stored history places2 is low =
-    subst (λ (core : CoreParts). events_left (flight_of spec script) (machine_places places2) < events_left (flown core) (core_places core)) is low
+    subst (λ (core : CoreParts). events_left (flight_of spec script) (machine_places places2) < events_left (core_flight core) (core_places core)) is low

@@ -31,8 +31,8 @@ abbrev pub core_of : Parts → ScriptParts → KeptPlaces → List ℕ → List 
 core_of spec script places stored history = record { spec = spec; script = script; places = places; stored = stored; history = history }
 
 -- The flight that a core flies, as a flight of the event machine.
-abbrev pub flown : CoreParts → Flight
-flown core = flight_of core.spec core.script
+abbrev pub core_flight : CoreParts → Flight
+core_flight core = flight_of core.spec core.script
 
 -- The places of all actors of a core.
 abbrev pub core_places : CoreParts → Places
@@ -44,20 +44,20 @@ core_words core = stored_in core.stored
 
 -- The event is the next event of its actor in the core.
 abbrev pub IsNextIn : CoreParts → Event → Type 0
-IsNextIn core event = IsNext (flown core) (core_places core) (core_words core) event
+IsNextIn core event = IsNext (core_flight core) (core_places core) (core_words core) event
 
 -- The next event of the actor of an event, or `None` if the actor has none.
 abbrev pub next_event : CoreParts → Event → Option Event
-next_event core event = next_of_actor (flown core) (core_places core) (core_words core) event
+next_event core event = next_of_actor (core_flight core) (core_places core) (core_words core) event
 
 -- The word is a valid argument for the event in the core. If the event is a store, it is the word that the event
 -- stores.
 abbrev pub IsWordIn : CoreParts → Event → ℕ → Type 0
-IsWordIn core event word = IsEventWord (flown core) (core_places core) event word
+IsWordIn core event word = IsEventWord (core_flight core) (core_places core) event word
 
 -- The event takes the first core to the second.
 abbrev pub HappensIn : CoreParts → Event → CoreParts → Type 0
-HappensIn old event new = Happens (flown old) (core_places old) (core_words old) event (core_places new) (core_words new)
+HappensIn old event new = Happens (core_flight old) (core_places old) (core_words old) event (core_places new) (core_words new)
 
 -- The event is not the next of its actor, and the error has that event and the actor's next event.
 abbrev pub RefusesEvent : CoreParts → Event → Illegal → Type 0

@@ -55,7 +55,7 @@ impl<'a> Core<'a> {
     ghost use Rattle.frame_model.specs.Flights.{reports_of, rows_of};
     ghost use Rattle.scram_kernel.specs.Kernels.{rows_below};
     ghost use Rattle.event_core.specs.Counts.{notes_in};
-    ghost use Rattle.event_core.specs.Cores.{HappensIn, IsNextIn, IsWordIn, RefusesEvent, core_places, core_words, flown, frames_ended, next_event};
+    ghost use Rattle.event_core.specs.Cores.{HappensIn, IsNextIn, IsWordIn, RefusesEvent, core_places, core_words, core_flight, frames_ended, next_event};
     ghost use Rattle.fault_script.specs.Fits.{Fits};
     ghost use Rattle.event_core.specs.Places.{HasLooked, kept_opening};
     ghost use Rattle.event_core.specs.Rooms.{events_left};
@@ -86,7 +86,7 @@ impl<'a> Core<'a> {
     /// Returns the next event of a processor, or `None` if there is none. There is none if and only if the processor
     /// waits for the release, has halted for good, has flown all frames, or does not exist.
     pub fn next_of(&self, p: ProcId) -> Option<Event>
-        ensures { result ≡ next_of (flown self.now) (core_places self.now) (core_words self.now) p.0 }
+        ensures { result ≡ next_of (core_flight self.now) (core_places self.now) (core_words self.now) p.0 }
     {
         next_of(self.spec, self.script, &self.places, &self.stored, p)
     }
@@ -94,7 +94,7 @@ impl<'a> Core<'a> {
     /// Returns the next event of the kernel, or `None` if there is none. There is none if and only if the processor
     /// that the kernel would note may not be noted yet, or all frames are noted.
     pub fn next_kernel(&self) -> Option<Event>
-        ensures { result ≡ next_kernel (flown self.now) (core_places self.now) (core_words self.now) }
+        ensures { result ≡ next_kernel (core_flight self.now) (core_places self.now) (core_words self.now) }
     {
         next_kernel(self.spec, self.script, &self.places, &self.stored)
     }
@@ -117,7 +117,7 @@ impl<'a> Core<'a> {
     /// Returns the events so far. They are a schedule from the opening to the current places and stored words.
     pub fn history(&self) -> &[Event]
         ensures history { result.now ≡ self.now.history }
-        ensures schedule { IsReplay (flown self.now) self.now.history (core_places self.now) (core_words self.now) }
+        ensures schedule { IsReplay (core_flight self.now) self.now.history (core_places self.now) (core_words self.now) }
         ensures few { length result.now < 2 ^ 32 }
     {
         &self.history
@@ -136,7 +136,7 @@ impl<'a> Core<'a> {
     /// snapshot holds the kernel image of that frame and every processor's image before it.
     pub fn snapshot(&self, p: ProcId) -> Snapshot
         requires known { p.0 < length self.now.spec.procs }
-        requires looked { HasLooked (flown self.now) ((core_places self.now).proc p.0) }
+        requires looked { HasLooked (core_flight self.now) ((core_places self.now).proc p.0) }
         ensures { IsSnapshot self.now.spec self.now.script (frame_of ((core_places self.now).proc p.0)) result }
     {
         readers_find();
@@ -149,7 +149,7 @@ impl<'a> Core<'a> {
 
     /// States that some actor has a next event if the flight is not over. The call has no effect.
     pub fn goes_on(&self)
-        ensures { IsOver (flown self.now) (core_places self.now) ⊎ ((event : Event) × IsNextIn self.now event) }
+        ensures { IsOver (core_flight self.now) (core_places self.now) ⊎ ((event : Event) × IsNextIn self.now event) }
     {
         let _places = &self.places;
         machine_goes_on();
@@ -167,7 +167,7 @@ impl<'a> Core<'a> {
     /// Returns whether no further event can come. In that case the flight has no frame, or each processor has flown all
     /// frames or has halted for good and the kernel has made its last note.
     pub fn over(&self) -> bool
-        ensures { IsTrue result ↔ IsOver (flown self.now) (core_places self.now) }
+        ensures { IsTrue result ↔ IsOver (core_flight self.now) (core_places self.now) }
     {
         let spec = self.spec;
         let script = self.script;
@@ -178,7 +178,7 @@ impl<'a> Core<'a> {
 
     /// Returns the rows and reports of a flight that is over. They are the one-thread trace, whatever the schedule was.
     pub fn finish(self) -> Flown
-        requires { IsOver (flown self) (core_places self) }
+        requires { IsOver (core_flight self) (core_places self) }
         ensures rows { result.rows ≡ rows_of self.entry.spec self.entry.script }
         ensures reports { result.reports ≡ reports_of self.entry.spec self.entry.script }
     {
@@ -211,7 +211,7 @@ impl<'a> Core<'a> {
         ensures script { self.new.script ≡ self.old.script }
         ensures next { IfOk result (λ _. IsNextIn self.old event) }
         ensures happens { IfOk result (λ _. HappensIn self.old event self.new) }
-        ensures fewer { IfOk result (λ _. events_left (flown self.new) (core_places self.new) < events_left (flown self.old) (core_places self.old)) }
+        ensures fewer { IfOk result (λ _. events_left (core_flight self.new) (core_places self.new) < events_left (core_flight self.old) (core_places self.old)) }
         ensures history { IfOk result (λ _. self.new.history ≡ self.old.history ++ event ∷ []) }
         ensures illegal { IfErr result (RefusesEvent self.old event) }
         ensures same { IfErr result (λ _. self.new ≡ self.old) }
@@ -241,8 +241,8 @@ impl<'a> Core<'a> {
 pub fn finish_both<'a>(one: Core<'a>, other: Core<'a>) -> (Flown, Flown)
     requires spec { other.spec ≡ one.spec }
     requires script { other.script ≡ one.script }
-    requires one_over { IsOver (flown one) (core_places one) }
-    requires other_over { IsOver (flown other) (core_places other) }
+    requires one_over { IsOver (core_flight one) (core_places one) }
+    requires other_over { IsOver (core_flight other) (core_places other) }
     ensures equal_rows { result.1.rows ≡ result.0.rows }
     ensures equal_reports { result.1.reports ≡ result.0.reports }
     ensures rows { result.0.rows ≡ rows_of one.entry.spec one.entry.script }
@@ -255,7 +255,7 @@ ghost use Rattle.std.specs.Prelude.{◌≡◌, ◌==◌, ◌*◌, ◌+◌, ◌<�
 ghost use Rattle.scram_types.specs.Specification.{IsSpec};
 ghost use Rattle.fail_stop.specs.Ends.{IsOver};
 ghost use Rattle.frame_model.specs.Flights.{reports_of, rows_of};
-ghost use Rattle.event_core.specs.Cores.{core_places, ends_frame, flown};
+ghost use Rattle.event_core.specs.Cores.{core_places, ends_frame, core_flight};
 ghost use Rattle.event_core.specs.Places.{kept_opening};
 ghost use Rattle.event_core.specs.declared.cores.Illegal.{Illegal};
 

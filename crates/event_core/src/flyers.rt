@@ -1,7 +1,7 @@
 //! Processors that fly with a core. The fields are public so that clauses can name them.
 
 ghost use Rattle.std.specs.Prelude.{◌≡◌, ◌<◌, IfOk, IfSome, Some, length, map, ℕ};
-ghost use Rattle.event_core.specs.Cores.{IsNextIn, IsWordIn, core_places, flown};
+ghost use Rattle.event_core.specs.Cores.{IsNextIn, IsWordIn, core_places, core_flight};
 ghost use Rattle.event_core.specs.Flyers.{FlyBy, FlyersFit, IsLastDraft};
 ghost use Rattle.event_core.specs.Places.{HasLooked};
 ghost use Rattle.bank_words.specs.declared.events.Event.TheVariants.{Halt as HaltEvent, Start as StartEvent};
@@ -54,7 +54,7 @@ impl Flyers {
         requires next { IsNextIn core.now event }
         requires fits { FlyBy core.now self.old }
         ensures word { IsWordIn core.now event result }
-        ensures fits { FlyersFit core.now.spec core.now.script (proc_after (flown core.now) (core_places core.now) event) self.new }
+        ensures fits { FlyersFit core.now.spec core.now.script (proc_after (core_flight core.now) (core_places core.now) event) self.new }
     {
         let _procs = spec.procs.items().len();
         match event {
@@ -81,7 +81,7 @@ impl Flyers {
         requires few { p.0 < 8 }
         requires next { IsNextIn core.now (StartEvent p) }
         requires fits { FlyBy core.now self.old }
-        ensures fits { FlyersFit core.now.spec core.now.script (proc_after (flown core.now) (core_places core.now) (StartEvent p)) self.new }
+        ensures fits { FlyersFit core.now.spec core.now.script (proc_after (core_flight core.now) (core_places core.now) (StartEvent p)) self.new }
     {
         self.all[usize::from(p.0)].start();
     }
@@ -90,7 +90,7 @@ impl Flyers {
         requires known { p.0 < length core.now.spec.procs }
         requires few { p.0 < 8 }
         requires fits { FlyBy core.now self.old }
-        ensures fits { FlyersFit core.now.spec core.now.script (proc_after (flown core.now) (core_places core.now) (HaltEvent p)) self.new }
+        ensures fits { FlyersFit core.now.spec core.now.script (proc_after (core_flight core.now) (core_places core.now) (HaltEvent p)) self.new }
     {
         self.all[usize::from(p.0)].halt(core.frame_of(p));
     }
@@ -100,7 +100,7 @@ impl Flyers {
         requires spec { core.now.spec ≡ spec.now }
         requires known { p.0 < length spec.now.procs }
         requires few { p.0 < 8 }
-        requires looked { HasLooked (flown core.now) ((core_places core.now).proc p.0) }
+        requires looked { HasLooked (core_flight core.now) ((core_places core.now).proc p.0) }
         requires i { i < 64 }
         requires fits { FlyBy core.now self.old }
         ensures word { result ≡ word_in (draft_words core.now.spec core.now.script p.0 (frame_of ((core_places core.now).proc p.0))) i }
@@ -116,7 +116,7 @@ impl Flyers {
         requires spec { core.now.spec ≡ spec.now }
         requires known { p.0 < length spec.now.procs }
         requires few { p.0 < 8 }
-        requires looked { HasLooked (flown core.now) ((core_places core.now).proc p.0) }
+        requires looked { HasLooked (core_flight core.now) ((core_places core.now).proc p.0) }
         requires fits { FlyBy core.now self.old }
         ensures image { result ≡ draft core.now.spec core.now.script p.0 (frame_of ((core_places core.now).proc p.0)) }
         ensures fits { FlyBy core.now self.new }
@@ -132,7 +132,7 @@ impl Flyers {
         requires spec { core.now.spec ≡ spec.now }
         requires known { p.0 < length spec.now.procs }
         requires few { p.0 < 8 }
-        requires looked { HasLooked (flown core.now) ((core_places core.now).proc p.0) }
+        requires looked { HasLooked (core_flight core.now) ((core_places core.now).proc p.0) }
         requires fits { FlyBy core.now self.old }
         ensures image { result ≡ draft core.now.spec core.now.script p.0 (frame_of ((core_places core.now).proc p.0)) }
         ensures fits { FlyBy core.now self.new }

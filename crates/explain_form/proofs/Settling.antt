@@ -14,48 +14,48 @@ use Rattle.form_base.specs.declared.status.TheConstants.{ANSWERED, NOT_ACCEPTED,
 use Rattle.form_base.specs.Answers.{Gives}
 use Rattle.form_base.specs.Endings.{PreparesWithoutFiles}
 use Rattle.explain_form.specs.declared.explanations.Explanation.{Explanation}
-use Rattle.explain_form.specs.Answers.{TellsExplanation}
+use Rattle.explain_form.specs.Answers.{GivesExplanation}
 use Rattle.explain_form.specs.Texts.{accepted_text, explain_answer, outside_answer, refused_text, script_answer, unassumed_text}
 
 module _ (result : Result Explanation Refusal) where
   -- an accepted specification
-  pub accepted_settles : (spec back : Parts) → back ≡ spec → first_refusal spec ≡ None → PreparesWithoutFiles (Gives (ANSWERED, accepted_text back)) TellsExplanation result
-      → PreparesWithoutFiles (Gives (explain_answer spec (first_refusal spec))) TellsExplanation result
+  pub accepted_settles : (spec back : Parts) → back ≡ spec → first_refusal spec ≡ None → PreparesWithoutFiles (Gives (ANSWERED, accepted_text back)) GivesExplanation result
+      → PreparesWithoutFiles (Gives (explain_answer spec (first_refusal spec))) GivesExplanation result
   accepted_settles spec back same none settles =
-      subst (λ (shown : Option Shown). PreparesWithoutFiles (Gives (explain_answer spec shown)) TellsExplanation result) (sym none)
-      (subst (λ (s : Parts). PreparesWithoutFiles (Gives (ANSWERED, accepted_text s)) TellsExplanation result) same settles)
+      subst (λ (shown : Option Shown). PreparesWithoutFiles (Gives (explain_answer spec shown)) GivesExplanation result) (sym none)
+      (subst (λ (s : Parts). PreparesWithoutFiles (Gives (ANSWERED, accepted_text s)) GivesExplanation result) same settles)
 
   -- a specification that is not accepted
   pub refused_settles : (spec back : Parts) (shown : Shown) → IsRefusal spec (error.NotAccepted back shown)
-      → PreparesWithoutFiles (Gives (NOT_ACCEPTED, refused_text back shown)) TellsExplanation result → PreparesWithoutFiles (Gives (explain_answer spec (first_refusal spec))) TellsExplanation result
+      → PreparesWithoutFiles (Gives (NOT_ACCEPTED, refused_text back shown)) GivesExplanation result → PreparesWithoutFiles (Gives (explain_answer spec (first_refusal spec))) GivesExplanation result
   refused_settles spec back shown is settles =
-      subst (λ (o : Option Shown). PreparesWithoutFiles (Gives (explain_answer spec o)) TellsExplanation result) (sym is.1)
-      (subst (λ (s : Parts). PreparesWithoutFiles (Gives (NOT_ACCEPTED, refused_text s shown)) TellsExplanation result) is.0 settles)
+      subst (λ (o : Option Shown). PreparesWithoutFiles (Gives (explain_answer spec o)) GivesExplanation result) (sym is.1)
+      (subst (λ (s : Parts). PreparesWithoutFiles (Gives (NOT_ACCEPTED, refused_text s shown)) GivesExplanation result) is.0 settles)
 
   -- an accepted specification with a script for it
   pub both_accepted_settles : (spec back : Parts) (script : ScriptParts) → back ≡ spec → first_refusal spec ≡ None
-      → PreparesWithoutFiles (Gives (outside_answer back script (first_outside back script))) TellsExplanation result
-      → PreparesWithoutFiles (Gives (script_answer spec script (first_refusal spec))) TellsExplanation result
+      → PreparesWithoutFiles (Gives (outside_answer back script (first_outside back script))) GivesExplanation result
+      → PreparesWithoutFiles (Gives (script_answer spec script (first_refusal spec))) GivesExplanation result
   both_accepted_settles spec back script same none settles =
-      subst (λ (shown : Option Shown). PreparesWithoutFiles (Gives (script_answer spec script shown)) TellsExplanation result) (sym none)
-      (subst (λ (s : Parts). PreparesWithoutFiles (Gives (outside_answer s script (first_outside s script))) TellsExplanation result) same settles)
+      subst (λ (shown : Option Shown). PreparesWithoutFiles (Gives (script_answer spec script shown)) GivesExplanation result) (sym none)
+      (subst (λ (s : Parts). PreparesWithoutFiles (Gives (outside_answer s script (first_outside s script))) GivesExplanation result) same settles)
 
   pub both_refused_settles : (spec back : Parts) (script : ScriptParts) (shown : Shown) → IsRefusal spec (error.NotAccepted back shown)
-      → PreparesWithoutFiles (Gives (NOT_ACCEPTED, refused_text back shown)) TellsExplanation result
-      → PreparesWithoutFiles (Gives (script_answer spec script (first_refusal spec))) TellsExplanation result
+      → PreparesWithoutFiles (Gives (NOT_ACCEPTED, refused_text back shown)) GivesExplanation result
+      → PreparesWithoutFiles (Gives (script_answer spec script (first_refusal spec))) GivesExplanation result
   both_refused_settles spec back script shown is settles =
-      subst (λ (o : Option Shown). PreparesWithoutFiles (Gives (script_answer spec script o)) TellsExplanation result) (sym is.1)
-      (subst (λ (s : Parts). PreparesWithoutFiles (Gives (NOT_ACCEPTED, refused_text s shown)) TellsExplanation result) is.0 settles)
+      subst (λ (o : Option Shown). PreparesWithoutFiles (Gives (script_answer spec script o)) GivesExplanation result) (sym is.1)
+      (subst (λ (s : Parts). PreparesWithoutFiles (Gives (NOT_ACCEPTED, refused_text s shown)) GivesExplanation result) is.0 settles)
 
   -- a script that keeps to the failure assumption
-  pub assumed_settles : (spec : Parts) (script : ScriptParts) → first_outside spec script ≡ None → PreparesWithoutFiles (Gives (ANSWERED, accepted_text spec)) TellsExplanation result
-      → PreparesWithoutFiles (Gives (outside_answer spec script (first_outside spec script))) TellsExplanation result
+  pub assumed_settles : (spec : Parts) (script : ScriptParts) → first_outside spec script ≡ None → PreparesWithoutFiles (Gives (ANSWERED, accepted_text spec)) GivesExplanation result
+      → PreparesWithoutFiles (Gives (outside_answer spec script (first_outside spec script))) GivesExplanation result
   assumed_settles spec script none settles =
-      subst (λ (o : Option Outside). PreparesWithoutFiles (Gives (outside_answer spec script o)) TellsExplanation result) (sym none) settles
+      subst (λ (o : Option Outside). PreparesWithoutFiles (Gives (outside_answer spec script o)) GivesExplanation result) (sym none) settles
 
   -- a script that leaves the failure assumption
   pub outside_settles : (spec : Parts) (script : ScriptParts) (outside : Outside) → first_outside spec script ≡ Some outside
-      → PreparesWithoutFiles (Gives (UNASSUMED_SCRIPT, unassumed_text spec script outside)) TellsExplanation result
-      → PreparesWithoutFiles (Gives (outside_answer spec script (first_outside spec script))) TellsExplanation result
+      → PreparesWithoutFiles (Gives (UNASSUMED_SCRIPT, unassumed_text spec script outside)) GivesExplanation result
+      → PreparesWithoutFiles (Gives (outside_answer spec script (first_outside spec script))) GivesExplanation result
   outside_settles spec script outside some settles =
-      subst (λ (o : Option Outside). PreparesWithoutFiles (Gives (outside_answer spec script o)) TellsExplanation result) (sym some) settles
+      subst (λ (o : Option Outside). PreparesWithoutFiles (Gives (outside_answer spec script o)) GivesExplanation result) (sym some) settles

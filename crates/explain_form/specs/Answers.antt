@@ -37,8 +37,8 @@ pub record HasNoFault (explanation : Explanation) : Type 0 where
   pub written : explanation.code ≢ UNWRITTEN_OUTPUT
 
 -- The status and the text are those of an explanation.
-abbrev pub TellsExplanation : Explanation → ℕ → List ℕ → Type 0
-TellsExplanation explanation = Gives (explanation.code, explanation.text.items)
+abbrev pub GivesExplanation : Explanation → ℕ → List ℕ → Type 0
+GivesExplanation explanation = Gives (explanation.code, explanation.text.items)
 
 -- If `explain` with a specification ends with status 0, it has read no further file, and the specification is accepted.
 -- The text is the line of the specification, followed by the lines of its idle parts.

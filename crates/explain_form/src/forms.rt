@@ -8,7 +8,7 @@ ghost use Rattle.document_explanations.specs.Scripts.{AsksExplainedScript};
 ghost use Rattle.form_base.specs.Answers.{Gives};
 ghost use Rattle.form_base.specs.Endings.{Ends, IsTaken, Prepares, PreparesWithoutFiles};
 ghost use Rattle.form_base.specs.declared.status.TheConstants.{ANSWERED, NOT_ACCEPTED, UNASSUMED_SCRIPT};
-ghost use Rattle.explain_form.specs.Answers.{ExplainAnswers, ExplainScriptAnswers, HasNoFault, MissionAnswers, TellsExplanation};
+ghost use Rattle.explain_form.specs.Answers.{ExplainAnswers, ExplainScriptAnswers, HasNoFault, MissionAnswers, GivesExplanation};
 ghost use Rattle.explain_form.specs.Texts.{accepted_text, explain_answer, outside_answer, refused_text, script_answer, unassumed_text};
 
 use crate::explanations::{Explanation, make_accepted, make_refused, make_unassumed};
@@ -65,7 +65,7 @@ fn read_specification<F: Files>(
     specification: &str,
     files: &mut F,
 ) -> Result<Explanation, Refusal>
-    ensures reads { Prepares (ExplainAnswers specification.now) TellsExplanation (specification.now ∷ []) (F.state files.old) (F.state files.new) result }
+    ensures reads { Prepares (ExplainAnswers specification.now) GivesExplanation (specification.now ∷ []) (F.state files.old) (F.state files.new) result }
     ensures told { IfOk result HasNoFault }
 {
     match load(alloc, &ExplainedSpecification, specification, files) {
@@ -81,7 +81,7 @@ fn read_both<F: Files>(
     named: MissionFiles<'_>,
     files: &mut F,
 ) -> Result<Explanation, Refusal>
-    ensures reads { Prepares (ExplainScriptAnswers named.entry.specification.now named.entry.script.now) TellsExplanation
+    ensures reads { Prepares (ExplainScriptAnswers named.entry.specification.now named.entry.script.now) GivesExplanation
         (named.entry.specification.now ∷ named.entry.script.now ∷ []) (F.state files.old) (F.state files.new) result }
     ensures told { IfOk result HasNoFault }
 {
@@ -97,7 +97,7 @@ fn read_script<F: Files>(
     script: &str,
     files: &mut F,
 ) -> Result<Explanation, Refusal>
-    ensures reads { Prepares (AsksExplainedScript spec script.now (MissionAnswers spec)) TellsExplanation
+    ensures reads { Prepares (AsksExplainedScript spec script.now (MissionAnswers spec)) GivesExplanation
         (script.now ∷ []) (F.state files.old) (F.state files.new) result }
     ensures told { IfOk result HasNoFault }
 {
@@ -111,7 +111,7 @@ fn read_script<F: Files>(
 }
 
 fn explain_specification(alloc: Global, spec: Spec) -> Result<Explanation, Refusal>
-    ensures prepares { PreparesWithoutFiles (Gives (explain_answer spec (first_refusal spec))) TellsExplanation result }
+    ensures prepares { PreparesWithoutFiles (Gives (explain_answer spec (first_refusal spec))) GivesExplanation result }
     ensures told { IfOk result HasNoFault }
 {
     match accept(alloc, spec) {
@@ -130,7 +130,7 @@ fn explain_specification(alloc: Global, spec: Spec) -> Result<Explanation, Refus
 
 fn explain_both(alloc: Global, spec: Spec, script: Script) -> Result<Explanation, Refusal>
     requires { Fits spec script }
-    ensures prepares { PreparesWithoutFiles (Gives (script_answer spec script (first_refusal spec))) TellsExplanation result }
+    ensures prepares { PreparesWithoutFiles (Gives (script_answer spec script (first_refusal spec))) GivesExplanation result }
     ensures told { IfOk result HasNoFault }
 {
     match accept(alloc, spec) {
@@ -151,7 +151,7 @@ fn explain_both(alloc: Global, spec: Spec, script: Script) -> Result<Explanation
 }
 
 fn explain_refused(alloc: Global, spec: Spec, shown: &Shown) -> Result<Explanation, Refusal>
-    ensures prepares { PreparesWithoutFiles (Gives (NOT_ACCEPTED, refused_text spec shown.now)) TellsExplanation result }
+    ensures prepares { PreparesWithoutFiles (Gives (NOT_ACCEPTED, refused_text spec shown.now)) GivesExplanation result }
     ensures told { IfOk result HasNoFault }
 {
     let text = make_refused(alloc, &spec, shown);
@@ -168,7 +168,7 @@ fn explain_refused(alloc: Global, spec: Spec, shown: &Shown) -> Result<Explanati
 // Returns the explanation of an accepted specification and a script that fits it.
 fn explain_assumed(alloc: Global, spec: &Spec, script: &Script) -> Result<Explanation, Refusal>
     requires { Fits spec.now script.now }
-    ensures prepares { PreparesWithoutFiles (Gives (outside_answer spec.now script.now (first_outside spec.now script.now))) TellsExplanation result }
+    ensures prepares { PreparesWithoutFiles (Gives (outside_answer spec.now script.now (first_outside spec.now script.now))) GivesExplanation result }
     ensures told { IfOk result HasNoFault }
 {
     match within(spec, script) {
@@ -178,7 +178,7 @@ fn explain_assumed(alloc: Global, spec: &Spec, script: &Script) -> Result<Explan
 }
 
 fn explain_accepted(alloc: Global, spec: &Spec) -> Result<Explanation, Refusal>
-    ensures prepares { PreparesWithoutFiles (Gives (ANSWERED, accepted_text spec.now)) TellsExplanation result }
+    ensures prepares { PreparesWithoutFiles (Gives (ANSWERED, accepted_text spec.now)) GivesExplanation result }
     ensures told { IfOk result HasNoFault }
 {
     match make_accepted(alloc, spec) {
@@ -197,7 +197,7 @@ fn explain_outside(
     outside: &Outside,
 ) -> Result<Explanation, Refusal>
     requires { first_outside spec.now script.now ≡ Some outside.now }
-    ensures prepares { PreparesWithoutFiles (Gives (UNASSUMED_SCRIPT, unassumed_text spec.now script.now outside.now)) TellsExplanation result }
+    ensures prepares { PreparesWithoutFiles (Gives (UNASSUMED_SCRIPT, unassumed_text spec.now script.now outside.now)) GivesExplanation result }
     ensures told { IfOk result HasNoFault }
 {
     match make_unassumed(alloc, spec, script, outside) {

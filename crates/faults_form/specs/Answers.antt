@@ -21,8 +21,8 @@ faults_answer spec count (Some shown) = (NOT_ACCEPTED, shown_line spec shown)
 faults_answer spec count None = (ANSWERED, family_text spec (number count))
 
 -- The status is that of an answer, and the text is the lines of the family.
-abbrev pub TellsFamily : Family → ℕ → List ℕ → Type 0
-TellsFamily asked = Gives (ANSWERED, family_text asked.spec (number asked.count))
+abbrev pub GivesFamily : Family → ℕ → List ℕ → Type 0
+GivesFamily asked = Gives (ANSWERED, family_text asked.spec (number asked.count))
 
 -- The answer of `faults` to the name of a specification's file and a number of faults.
 abbrev pub FaultsAnswers : List ℕ → FaultCount → Answer

@@ -7,7 +7,7 @@ ghost use Rattle.form_base.specs.Answers.{Gives};
 ghost use Rattle.form_base.specs.Endings.{Ends, IsTaken, Prepares, PreparesWithoutFiles};
 ghost use Rattle.fault_family.specs.NextFaults.{kinds_of};
 ghost use Rattle.fault_family.specs.Scripts.{last_fault_frame};
-ghost use Rattle.faults_form.specs.Answers.{FaultsAnswers, TellsFamily, faults_answer};
+ghost use Rattle.faults_form.specs.Answers.{FaultsAnswers, GivesFamily, faults_answer};
 ghost use Rattle.faults_form.specs.Counts.{number};
 ghost use Rattle.faults_form.specs.Families.{extended_text, family_text, within_text};
 
@@ -69,7 +69,7 @@ fn read_family<F: Files>(
     question: FaultsQuestion<'_>,
     files: &mut F,
 ) -> Result<Family, Refusal>
-    ensures { Prepares (FaultsAnswers question.entry.specification.now question.entry.count) TellsFamily
+    ensures { Prepares (FaultsAnswers question.entry.specification.now question.entry.count) GivesFamily
         (question.entry.specification.now ∷ []) (F.state files.old) (F.state files.new) result }
 {
     match load(alloc, &Specification, question.specification, files) {
@@ -79,7 +79,7 @@ fn read_family<F: Files>(
 }
 
 fn find_family(alloc: Global, spec: Spec, count: FaultCount) -> Result<Family, Refusal>
-    ensures { PreparesWithoutFiles (Gives (faults_answer spec count (first_refusal spec))) TellsFamily result }
+    ensures { PreparesWithoutFiles (Gives (faults_answer spec count (first_refusal spec))) GivesFamily result }
 {
     match accept(alloc, spec) {
         Ok(spec) => Ok(Family { spec, count }),

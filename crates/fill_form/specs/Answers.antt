@@ -17,8 +17,8 @@ fill_answer spec (Some shown) = (NOT_ACCEPTED, shown_line spec shown)
 fill_answer spec None = (ANSWERED, filled_text spec)
 
 -- The answer has status 0 and the text `printed`.
-abbrev pub TellsText : {A : Type 0} → Vec ℕ A → ℕ → List ℕ → Type 0
-TellsText printed = Gives (ANSWERED, printed.items)
+abbrev pub GivesText : {A : Type 0} → Vec ℕ A → ℕ → List ℕ → Type 0
+GivesText printed = Gives (ANSWERED, printed.items)
 
 -- The answer to `fill` about the specification in the file of this name.
 abbrev pub FillAnswers : List ℕ → Answer

@@ -3,7 +3,7 @@
 ghost use Rattle.std.specs.Prelude.{◌≡◌, ◌<◌, ◌≤◌, ◌++◌, IfOk, OnOk, length, map};
 ghost use Rattle.std.specs.Option.{option_or};
 ghost use Rattle.coverage_check.specs.Timing.{asked_bounds, greatest_bound};
-ghost use Rattle.spec_forms.specs.Bounds.{HasAskedBounds};
+ghost use Rattle.spec_forms.specs.Bounds.{AreAskedBounds};
 ghost use Rattle.fill_form.specs.Filling.{filled_bounds, is_bound_missing, missing_bound, missing_bounds, missing_from, raised};
 ghost use Rattle.fill_form.specs.Refusing.{IsFilling, long_refusal, wide_refusal};
 
@@ -43,7 +43,7 @@ pub fn find_filling(alloc: Global, spec: &Spec) -> Result<Filling, NoMemory>
 }
 
 fn refuse_length(spec: &Spec, sets: &[u16; 12], greatest: u32) -> Option<Shown>
-    requires { HasAskedBounds spec.now sets.now }
+    requires { AreAskedBounds spec.now sets.now }
     ensures { result ≡ option_or (long_refusal spec.now) (wide_refusal greatest) }
 {
     match refuse_long(spec, sets) {
@@ -63,7 +63,7 @@ fn greatest_of(bounds: &[Bound]) -> u32
 }
 
 fn fill_bounds(alloc: Global, spec: &Spec, sets: &[u16; 12]) -> Result<Vec<Bound>, NoMemory>
-    requires { HasAskedBounds spec.now sets.now }
+    requires { AreAskedBounds spec.now sets.now }
     ensures { IfOk result (λ bounds. bounds.items ≡ filled_bounds spec.now) }
 {
     let mut bounds = raise_bounds(alloc, spec, sets)?;
@@ -72,7 +72,7 @@ fn fill_bounds(alloc: Global, spec: &Spec, sets: &[u16; 12]) -> Result<Vec<Bound
 }
 
 fn raise_bounds(alloc: Global, spec: &Spec, sets: &[u16; 12]) -> Result<Vec<Bound>, NoMemory>
-    requires { HasAskedBounds spec.now sets.now }
+    requires { AreAskedBounds spec.now sets.now }
     ensures { IfOk result (λ bounds. bounds.items ≡ map (raised spec.now) spec.now.bounds) }
 {
     let mut bounds = Vec::new(alloc);
@@ -101,7 +101,7 @@ fn raised(spec: &Spec, set: u16, bound: &Bound) -> Bound
 
 // Appends the smallest sufficient bounds that are required and not given.
 fn add_missing(bounds: &mut Vec<Bound>, spec: &Spec, sets: &[u16; 12]) -> Result<(), AllocError>
-    requires { HasAskedBounds spec.now sets.now }
+    requires { AreAskedBounds spec.now sets.now }
     ensures { OnOk result (bounds.new.items ≡ bounds.old.items ++ missing_bounds spec.now) }
 {
     for i in 0..count_confs(spec) {

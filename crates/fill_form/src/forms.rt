@@ -10,7 +10,7 @@ ghost use Rattle.form_base.specs.Endings.{Ends, IsTaken, Prepares, PreparesWitho
 ghost use Rattle.form_base.specs.Lines.{shown_line};
 ghost use Rattle.form_base.specs.Refusals.{told};
 ghost use Rattle.form_base.specs.declared.status.TheConstants.{ANSWERED, NOT_ACCEPTED};
-ghost use Rattle.fill_form.specs.Answers.{FillAnswers, TellsText, fill_answer};
+ghost use Rattle.fill_form.specs.Answers.{FillAnswers, GivesText, fill_answer};
 ghost use Rattle.fill_form.specs.Filling.{with_times};
 ghost use Rattle.fill_form.specs.Refusing.{IsFilling, fill_refusal};
 
@@ -50,7 +50,7 @@ fn read_filled<F: Files>(
     specification: &str,
     files: &mut F,
 ) -> Result<Vec<u8>, Refusal>
-    ensures { Prepares (FillAnswers specification.now) TellsText (specification.now ∷ []) (F.state files.old) (F.state files.new) result }
+    ensures { Prepares (FillAnswers specification.now) GivesText (specification.now ∷ []) (F.state files.old) (F.state files.new) result }
 {
     match load(alloc, &Specification, specification, files) {
         Ok(spec) => fill_in(alloc, spec),
@@ -60,7 +60,7 @@ fn read_filled<F: Files>(
 
 fn fill_in(alloc: Global, spec: Spec) -> Result<Vec<u8>, Refusal>
     requires { IsWritable spec }
-    ensures { PreparesWithoutFiles (Gives (fill_answer spec (fill_refusal spec))) TellsText result }
+    ensures { PreparesWithoutFiles (Gives (fill_answer spec (fill_refusal spec))) GivesText result }
 {
     if let Some(shown) = refuse_states(&spec) {
         return Err(refuse(spec, &shown));
@@ -89,7 +89,7 @@ fn write_filled(alloc: Global, spec: Spec, filling: Filling) -> Result<Vec<u8>, 
     requires writable { IsWritable spec }
     requires few { state_refusal spec ≡ None }
     requires filling { IsFilling spec filling }
-    ensures { PreparesWithoutFiles (Gives (fill_answer spec (fill_refusal spec))) TellsText result }
+    ensures { PreparesWithoutFiles (Gives (fill_answer spec (fill_refusal spec))) GivesText result }
 {
     match filling.refusal {
         Some(shown) => {
@@ -129,7 +129,7 @@ fn with_times(spec: Spec, bounds: Vec<Bound>, window: u32) -> Spec
 
 // Returns the line that holds the canonical text of a specification.
 fn write_line(alloc: Global, spec: Spec) -> Result<Vec<u8>, Refusal>
-    ensures { PreparesWithoutFiles (Gives (ANSWERED, spec_text spec ++ codes "\n")) TellsText result }
+    ensures { PreparesWithoutFiles (Gives (ANSWERED, spec_text spec ++ codes "\n")) GivesText result }
 {
     let text = make_line(alloc, &spec);
     drop(spec);

@@ -3,7 +3,7 @@
 ghost use Rattle.std.specs.Prelude.{◌≡◌};
 ghost use Rattle.coverage_check.specs.Timing.{asked_bounds};
 ghost use Rattle.scram_types.specs.Lookups.{conf_id};
-ghost use Rattle.spec_forms.specs.Bounds.{HasAskedBounds};
+ghost use Rattle.spec_forms.specs.Bounds.{AreAskedBounds};
 ghost use Rattle.fill_form.specs.Refusing.{long_refusal, long_refusal_of, wide_refusal};
 
 use crate::filling::count_confs;
@@ -14,7 +14,7 @@ use spec_forms::is_asked;
 
 /// Returns the refusal of A9 for the first required bound that would be too long, or `None` if there is none.
 pub(crate) fn refuse_long(spec: &Spec, sets: &[u16; 12]) -> Option<Shown>
-    requires { HasAskedBounds spec.now sets.now }
+    requires { AreAskedBounds spec.now sets.now }
     ensures { result ≡ long_refusal spec.now }
 {
     for i in 0..count_confs(spec) {

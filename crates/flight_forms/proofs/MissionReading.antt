@@ -18,7 +18,7 @@ use Rattle.form_base.proofs.Reading.{memory_refusal}
 use Rattle.flight_forms.specs.declared.replays.Replay.{Replay}
 use Rattle.flight_forms.specs.Answers.{IsReplayAnswer, replay_refusal}
 use Rattle.flight_forms.specs.Missions.{MakesMission, UnlessRefused, mission_refusal}
-use Rattle.flight_forms.specs.Replays.{MakesReplay, TellsReplay}
+use Rattle.flight_forms.specs.Replays.{MakesReplay, GivesReplay}
 use Rattle.bank_words.specs.declared.events.Event.{Event}
 
 -- if there is no refusal, the answer is the rest
@@ -42,14 +42,14 @@ mission_settles spec script A (Err refusal) makes =
     (refused_settles (mission_refusal spec script) (A (mission_of spec script)) (told refusal) makes.0, makes.1)
 
 replay_told : (spec : Parts) (script : ScriptParts) (list : List Event) (replay : Replay) (status : ℕ) (text : List ℕ) → replay.mission ≡ mission_of spec script → replay.list ≡ list
-    → TellsReplay replay status text → IsReplayAnswer spec script list status text
+    → GivesReplay replay status text → IsReplayAnswer spec script list status text
 replay_told spec script list replay status text mission_is list_is is =
     subst (λ (m : MissionParts). IsReplayAnswer m.spec m.script list status text) mission_is
     (subst (λ (l : List Event). IsReplayAnswer replay.mission.spec replay.mission.script l status text) list_is is)
 
 -- a mission that is flown by a list was made, or refused
 pub replay_settles : (spec : Parts) (script : ScriptParts) (list : List Event) (result : Result Replay Refusal) → MakesReplay spec script list result
-    → PreparesWithoutFiles (UnlessRefused (mission_refusal spec script) (IsReplayAnswer spec script list)) TellsReplay result
+    → PreparesWithoutFiles (UnlessRefused (mission_refusal spec script) (IsReplayAnswer spec script list)) GivesReplay result
 replay_settles spec script list (Ok replay) makes = λ status text is.
     unless_none (mission_refusal spec script) (IsReplayAnswer spec script list) status text makes.2 (replay_told spec script list replay status text makes.0 makes.1 is)
 replay_settles spec script list (Err refusal) makes =

@@ -23,12 +23,12 @@ use Rattle.flight_forms.specs.Texts.{flight_text, watch_text}
 use Rattle.bank_words.specs.declared.events.Event.{Event}
 
 -- The status is that of an answer, and the text is the mission's text.
-abbrev pub TellsFlight : (MissionParts → List ℕ) → MissionParts → ℕ → List ℕ → Type 0
-TellsFlight text mission = Gives (ANSWERED, text mission)
+abbrev pub GivesFlight : (MissionParts → List ℕ) → MissionParts → ℕ → List ℕ → Type 0
+GivesFlight text mission = Gives (ANSWERED, text mission)
 
 -- The answer after a specification and a script have been read, where `text` gives the text of their mission.
 abbrev pub ScriptAnswers : (MissionParts → List ℕ) → Parts → ScriptParts → Answer
-ScriptAnswers text spec script = WithoutFiles (UnlessRefused (mission_refusal spec script) (TellsFlight text (mission_of spec script)))
+ScriptAnswers text spec script = WithoutFiles (UnlessRefused (mission_refusal spec script) (GivesFlight text (mission_of spec script)))
 
 -- The answer to the names of the files of a specification and a script, where `text` gives the text of their mission.
 abbrev pub FlightAnswers : (MissionParts → List ℕ) → List ℕ → List ℕ → Answer
@@ -93,7 +93,7 @@ pub record GenAnswers (number : ℕ) (status : ℕ) (text : List ℕ) : Type 0 w
 
 -- The answer after the mission generated from a number was flown, which is its summary line or a refusal.
 abbrev pub SummaryAnswers : ℕ → Parts → ScriptParts → ℕ → List ℕ → Type 0
-SummaryAnswers number spec script = UnlessRefused (mission_refusal spec script) (TellsFlight (flight_text (Summary number)) (mission_of spec script))
+SummaryAnswers number spec script = UnlessRefused (mission_refusal spec script) (GivesFlight (flight_text (Summary number)) (mission_of spec script))
 
 -- The answer of `fly` to a number.
 pub record FlyAnswers (number : ℕ) (status : ℕ) (text : List ℕ) : Type 0 where

@@ -13,8 +13,8 @@ use Rattle.flight_forms.specs.Answers.{IsReplayAnswer}
 use Rattle.flight_forms.specs.Missions.{mission_refusal}
 
 -- The status and the text are those of a replay.
-abbrev pub TellsReplay : Replay → ℕ → List ℕ → Type 0
-TellsReplay replay = IsReplayAnswer replay.mission.spec replay.mission.script replay.list
+abbrev pub GivesReplay : Replay → ℕ → List ℕ → Type 0
+GivesReplay replay = IsReplayAnswer replay.mission.spec replay.mission.script replay.list
 
 -- The result is a mission with the list by which it is flown, or the mission's refusal, or out of memory.
 abbrev pub MakesReplay : Parts → ScriptParts → List Event → Result Replay Refusal → Type 0

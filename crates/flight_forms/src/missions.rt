@@ -4,7 +4,7 @@ ghost use Rattle.std.specs.Prelude.{ℕ, List, ◌∷◌, []};
 ghost use Rattle.coverage_check.specs.Missions.{MissionParts};
 ghost use Rattle.fault_script.specs.Fits.{Fits};
 ghost use Rattle.form_base.specs.Endings.{Prepares};
-ghost use Rattle.flight_forms.specs.Answers.{FlightAnswers, ScriptAnswers, TellsFlight};
+ghost use Rattle.flight_forms.specs.Answers.{FlightAnswers, ScriptAnswers, GivesFlight};
 ghost use Rattle.flight_forms.specs.Documents.{AsksScript};
 ghost use Rattle.flight_forms.specs.Missions.{JoinsMission, MakesMission};
 
@@ -32,7 +32,7 @@ pub fn read_mission<F: Files>(
     named: MissionFiles<'_>,
     files: &mut F,
 ) -> Result<Mission, Refusal>
-    ensures { (text : MissionParts → List ℕ) → Prepares (FlightAnswers text named.entry.specification.now named.entry.script.now) (TellsFlight text)
+    ensures { (text : MissionParts → List ℕ) → Prepares (FlightAnswers text named.entry.specification.now named.entry.script.now) (GivesFlight text)
         (named.entry.specification.now ∷ named.entry.script.now ∷ []) (F.state files.old) (F.state files.new) result }
 {
     match load(alloc, &Specification, named.specification, files) {
@@ -47,7 +47,7 @@ fn read_script<F: Files>(
     script: &str,
     files: &mut F,
 ) -> Result<Mission, Refusal>
-    ensures { (text : MissionParts → List ℕ) → Prepares (AsksScript spec script.now (ScriptAnswers text spec)) (TellsFlight text)
+    ensures { (text : MissionParts → List ℕ) → Prepares (AsksScript spec script.now (ScriptAnswers text spec)) (GivesFlight text)
         (script.now ∷ []) (F.state files.old) (F.state files.new) result }
 {
     match load(alloc, &ScriptDocument { spec: &spec }, script, files) {

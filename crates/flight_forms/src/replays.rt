@@ -6,7 +6,7 @@ ghost use Rattle.form_base.specs.Endings.{Ends, IsTaken, Prepares, Tells};
 ghost use Rattle.form_base.specs.Refusals.{told};
 ghost use Rattle.flight_forms.specs.Answers.{IsReplayAnswer, ListAnswers, ReplayAnswers, ScheduleAnswers, replay_refusal};
 ghost use Rattle.flight_forms.specs.Documents.{AsksSchedule, AsksScript};
-ghost use Rattle.flight_forms.specs.Replays.{MakesReplay, TellsReplay};
+ghost use Rattle.flight_forms.specs.Replays.{MakesReplay, GivesReplay};
 
 use crate::documents::{ScheduleDocument, ScriptDocument};
 use crate::missions::make_mission;
@@ -70,7 +70,7 @@ fn read_replay<F: Files>(
     named: ReplayFiles<'_>,
     files: &mut F,
 ) -> Result<Replay, Refusal>
-    ensures { Prepares (ReplayAnswers named.entry.specification.now named.entry.script.now named.entry.schedule.now) TellsReplay
+    ensures { Prepares (ReplayAnswers named.entry.specification.now named.entry.script.now named.entry.schedule.now) GivesReplay
         (named.entry.specification.now ∷ named.entry.script.now ∷ named.entry.schedule.now ∷ []) (F.state files.old) (F.state files.new) result }
 {
     match load(alloc, &Specification, named.specification, files) {
@@ -85,7 +85,7 @@ fn read_scheduled<F: Files>(
     named: ReplayFiles<'_>,
     files: &mut F,
 ) -> Result<Replay, Refusal>
-    ensures { Prepares (AsksScript spec named.entry.script.now (ScheduleAnswers named.entry.schedule.now spec)) TellsReplay
+    ensures { Prepares (AsksScript spec named.entry.script.now (ScheduleAnswers named.entry.schedule.now spec)) GivesReplay
         (named.entry.script.now ∷ named.entry.schedule.now ∷ []) (F.state files.old) (F.state files.new) result }
 {
     match load(alloc, &ScriptDocument { spec: &spec }, named.script, files) {
@@ -104,7 +104,7 @@ fn read_list<F: Files>(
     files: &mut F,
 ) -> Result<Replay, Refusal>
     requires { Fits parts.0 parts.1 }
-    ensures { Prepares (AsksSchedule parts.0 schedule.now (ListAnswers parts.0 parts.1)) TellsReplay (schedule.now ∷ [])
+    ensures { Prepares (AsksSchedule parts.0 schedule.now (ListAnswers parts.0 parts.1)) GivesReplay (schedule.now ∷ [])
         (F.state files.old) (F.state files.new) result }
 {
     let (spec, script) = parts;
@@ -136,7 +136,7 @@ fn make_replay(
 }
 
 fn fly_replay<K: Sink>(alloc: Global, replayed: &Replay, out: &mut K, boxes: Boxes) -> Status
-    ensures { Tells (TellsReplay replayed.now) (K.state out.old) (K.state out.new) result.code }
+    ensures { Tells (GivesReplay replayed.now) (K.state out.old) (K.state out.new) result.code }
 {
     let mission = &replayed.mission;
     mission.holds();

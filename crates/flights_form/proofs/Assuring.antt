@@ -28,7 +28,7 @@ use Rattle.flights_form.specs.declared.facts.FlightFacts.{FlightFacts}
 use Rattle.flights_form.specs.declared.limits.TheConstants.{MAX_SCRIPTS_BYTES}
 use Rattle.flights_form.specs.declared.outcomes.Outcome.{Outcome}
 use Rattle.flights_form.specs.declared.outcomes.Outcome.TheVariants.{Flown}
-use Rattle.flights_form.specs.Answers.{FlightsAnswers, ScriptsAnswers, TellsFlights, acceptance_refusal}
+use Rattle.flights_form.specs.Answers.{FlightsAnswers, ScriptsAnswers, GivesFlights, acceptance_refusal}
 use Rattle.flights_form.specs.Assurance.{AreAssuredFlights, AssuresFlights, IsAssuredFlight, KeepsMargin}
 use Rattle.flights_form.specs.Facts.{facts_of, least_margin, margin_in, margin_to}
 use Rattle.flights_form.proofs.Kept.{gap_kept, gap_total_kept, margin_kept, margin_total_kept}
@@ -90,8 +90,8 @@ outcome_assured law spec sound accepts line facts (inr same) = absurd (let e = s
 
 -- all lines
 
-accepted_zero : (spec : Parts) (scripts : List ℕ) (shown : Option Shown) (text : List ℕ) → UnlessRefused (acceptance_refusal spec shown) (TellsFlights spec scripts) ANSWERED text
-    → (shown ≡ None) × TellsFlights spec scripts ANSWERED text
+accepted_zero : (spec : Parts) (scripts : List ℕ) (shown : Option Shown) (text : List ℕ) → UnlessRefused (acceptance_refusal spec shown) (GivesFlights spec scripts) ANSWERED text
+    → (shown ≡ None) × GivesFlights spec scripts ANSWERED text
 accepted_zero spec scripts (Some shown) text gives = not_zero 5 _ text gives
 accepted_zero spec scripts None text told = (refl, told)
 

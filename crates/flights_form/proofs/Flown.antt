@@ -11,7 +11,7 @@ use Rattle.scram_io.specs.declared.sink.SinkFault.{SinkFault}
 use Rattle.scram_io.proofs.Puts.{cut_in, printed_more}
 use Rattle.flights_form.specs.declared.outcomes.Outcome.{Outcome}
 use Rattle.flights_form.specs.declared.totals.Totals.{Totals}
-use Rattle.flights_form.specs.Answers.{TellsFlights, flights_text, outcome_line, outcome_lines}
+use Rattle.flights_form.specs.Answers.{GivesFlights, flights_text, outcome_line, outcome_lines}
 use Rattle.flights_form.specs.Outcomes.{AreOutcomes, IsOutcome, outcome_of}
 use Rattle.flights_form.specs.Printing.{IsFlownTo, PrintsFlights, PrintsLines}
 use Rattle.flights_form.specs.Scripts.{lines_of}
@@ -94,7 +94,7 @@ flown_all spec bytes rest totals old new flown none = record {
 
 -- the text of the outcomes of all lines was printed
 pub series_tells : {A E : Type 0} (spec : Parts) (scripts : List ℕ) (result : Result A E) (old new : SinkState) (code : ℕ) → code ≡ status_after result ANSWERED
-    → PrintsFlights spec scripts result old new → Tells (TellsFlights spec scripts) old new code
+    → PrintsFlights spec scripts result old new → Tells (GivesFlights spec scripts) old new code
 series_tells {A} {E} spec scripts result old new code same prints = rw same (record {
   status = ANSWERED;
   text = flights_text spec prints.outcomes;

@@ -13,7 +13,7 @@ use Rattle.coverage_check.specs.Acceptance.{first_refusal}
 use Rattle.coverage_check.specs.Missions.{mission_of}
 use Rattle.form_base.specs.Answers.{AnswersDocument}
 use Rattle.flight_forms.specs.declared.runs.FlightText.TheVariants.{Trace}
-use Rattle.flight_forms.specs.Answers.{ScriptAnswers, TellsFlight}
+use Rattle.flight_forms.specs.Answers.{ScriptAnswers, GivesFlight}
 use Rattle.flight_forms.specs.Documents.{BreaksScript, SaysScript, long_script}
 use Rattle.flight_forms.specs.Missions.{UnlessRefused, mission_refusal, script_refusal}
 use Rattle.flight_forms.specs.Texts.{flight_text}
@@ -22,13 +22,13 @@ use Rattle.flights_form.specs.Laws.{IsSummed, LinesAreRuns}
 use Rattle.flights_form.specs.Outcomes.{outcome_of, outcome_within}
 
 within_summed : (spec : Parts) (script : ScriptParts) (outside : Option Outside) (status : ℕ) (text : List ℕ)
-    → UnlessRefused (script_refusal outside) (TellsFlight (flight_text Trace) (mission_of spec script)) status text → IsSummed spec status text (outcome_within spec script outside)
+    → UnlessRefused (script_refusal outside) (GivesFlight (flight_text Trace) (mission_of spec script)) status text → IsSummed spec status text (outcome_within spec script outside)
 within_summed spec script (Some outside) status text gives = (inr (sym (ap (λ (a : ℕ × List ℕ). a.0) gives)), sym (ap (λ (a : ℕ × List ℕ). a.1) gives))
 within_summed spec script None status text gives =
     (sym (ap (λ (a : ℕ × List ℕ). a.0) gives), record { rows = rows_of spec script; reports = reports_of spec script; trace = sym (ap (λ (a : ℕ × List ℕ). a.1) gives); facts_are = refl })
 
 script_summed : (spec : Parts) (script : ScriptParts) → first_refusal spec ≡ None → (status : ℕ) (text : List ℕ)
-    → UnlessRefused (mission_refusal spec script) (TellsFlight (flight_text Trace) (mission_of spec script)) status text
+    → UnlessRefused (mission_refusal spec script) (GivesFlight (flight_text Trace) (mission_of spec script)) status text
     → IsSummed spec status text (outcome_within spec script (first_outside spec script))
 script_summed spec script accepted status text answers = within_summed spec script (first_outside spec script) status text (rw accepted at answers)
 

@@ -36,8 +36,8 @@ pub record IsFlightsText (spec : Parts) (scripts text : List ℕ) : Type 0 where
   pub whole : text ≡ flights_text spec outcomes
 
 -- The status is 0, and the text is that of the outcomes of the lines of these bytes.
-abbrev pub TellsFlights : Parts → List ℕ → ℕ → List ℕ → Type 0
-TellsFlights spec scripts status text = (status ≡ ANSWERED) × IsFlightsText spec scripts text
+abbrev pub GivesFlights : Parts → List ℕ → ℕ → List ℕ → Type 0
+GivesFlights spec scripts status text = (status ≡ ANSWERED) × IsFlightsText spec scripts text
 
 -- The refusal of a specification, or `None` if the specification is accepted.
 abbrev pub acceptance_refusal : Parts → Option Shown → Option (ℕ × List ℕ)
@@ -46,7 +46,7 @@ acceptance_refusal spec (Some shown) = Some (NOT_ACCEPTED, shown_line spec shown
 
 -- The answer after a specification and a file of scripts have been read.
 abbrev pub ScriptsAnswers : Parts → List ℕ → ℕ → List ℕ → Type 0
-ScriptsAnswers spec scripts = UnlessRefused (acceptance_refusal spec (first_refusal spec)) (TellsFlights spec scripts)
+ScriptsAnswers spec scripts = UnlessRefused (acceptance_refusal spec (first_refusal spec)) (GivesFlights spec scripts)
 
 -- The answer of `flights` to the names of the files of a specification and of scripts.
 abbrev pub FlightsAnswers : List ℕ → List ℕ → Answer

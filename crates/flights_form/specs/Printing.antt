@@ -6,14 +6,14 @@ use Rattle.scram_io.specs.declared.sink.SinkFault.{SinkFault}
 use Rattle.flights_form.specs.declared.outcomes.Outcome.{Outcome}
 use Rattle.flights_form.specs.declared.series.Series.{Series}
 use Rattle.flights_form.specs.declared.totals.Totals.{Totals}
-use Rattle.flights_form.specs.Answers.{TellsFlights, flights_text, outcome_line, outcome_lines}
+use Rattle.flights_form.specs.Answers.{GivesFlights, flights_text, outcome_line, outcome_lines}
 use Rattle.flights_form.specs.Outcomes.{AreOutcomes, IsOutcome}
 use Rattle.flights_form.specs.Scripts.{lines_of}
 use Rattle.flights_form.specs.Totals.{totals_of, with_outcome}
 
 -- The status and the text are the answer to an accepted specification and a file of scripts.
-abbrev pub TellsSeries : Series → ℕ → List ℕ → Type 0
-TellsSeries series = TellsFlights series.accepted series.scripts
+abbrev pub GivesSeries : Series → ℕ → List ℕ → Type 0
+GivesSeries series = GivesFlights series.accepted series.scripts
 
 -- The line for an outcome was printed, and the result is the totals with this outcome. If the sink failed, only a
 -- prefix of the line may have been printed.

@@ -5,7 +5,7 @@ ghost use Rattle.scram_io.specs.Outside.{Prints};
 ghost use Rattle.form_base.specs.Endings.{Ends, IsTaken, Tells};
 ghost use Rattle.flights_form.specs.Answers.{FlightsAnswers, outcome_line};
 ghost use Rattle.flights_form.specs.Lines.{refused_start};
-ghost use Rattle.flights_form.specs.Printing.{PrintsFlights, PrintsLine, PrintsLines, PrintsOutcome, TellsSeries};
+ghost use Rattle.flights_form.specs.Printing.{PrintsFlights, PrintsLine, PrintsLines, PrintsOutcome, GivesSeries};
 ghost use Rattle.flights_form.specs.declared.limits.TheConstants.{MAX_SCRIPTS_BYTES};
 
 use crate::lines::{make_flown_line, make_refused_start, make_totals_line};
@@ -43,7 +43,7 @@ pub fn flights<F: Files, K: Sink>(
 
 fn fly_series<K: Sink>(alloc: Global, series: &Series, out: &mut K) -> Status
     requires { length series.now.scripts ≤ MAX_SCRIPTS_BYTES }
-    ensures { Tells (TellsSeries series.now) (K.state out.old) (K.state out.new) result.code }
+    ensures { Tells (GivesSeries series.now) (K.state out.old) (K.state out.new) result.code }
 {
     let put = put_flights(alloc, out, series.accepted.spec(), series.scripts.items());
     status_after(put, ANSWERED)

@@ -4,7 +4,7 @@ ghost use Rattle.std.specs.Prelude.{◌≤◌, ◌∷◌, [], IfOk, ℕ, List, l
 ghost use Rattle.form_base.specs.Answers.{WithoutFiles};
 ghost use Rattle.form_base.specs.Endings.{Prepares, PreparesWithoutFiles};
 ghost use Rattle.flights_form.specs.Answers.{FlightsAnswers, ScriptsAnswers};
-ghost use Rattle.flights_form.specs.Printing.{TellsSeries};
+ghost use Rattle.flights_form.specs.Printing.{GivesSeries};
 ghost use Rattle.flights_form.specs.Scripts.{AsksScripts};
 ghost use Rattle.flights_form.specs.declared.limits.TheConstants.{MAX_SCRIPTS_BYTES};
 
@@ -38,7 +38,7 @@ pub fn read_series<F: Files>(
     named: ScriptsFiles<'_>,
     files: &mut F,
 ) -> Result<Series, Refusal>
-    ensures reads { Prepares (FlightsAnswers named.entry.specification.now named.entry.scripts.now) TellsSeries
+    ensures reads { Prepares (FlightsAnswers named.entry.specification.now named.entry.scripts.now) GivesSeries
         (named.entry.specification.now ∷ named.entry.scripts.now ∷ []) (F.state files.old) (F.state files.new) result }
     ensures few { IfOk result (λ series. length series.scripts ≤ MAX_SCRIPTS_BYTES) }
 {
@@ -54,7 +54,7 @@ fn read_scripts<F: Files>(
     scripts: &str,
     files: &mut F,
 ) -> Result<Series, Refusal>
-    ensures reads { Prepares (AsksScripts scripts.now (λ (bytes : List ℕ). WithoutFiles (ScriptsAnswers spec bytes))) TellsSeries (scripts.now ∷ [])
+    ensures reads { Prepares (AsksScripts scripts.now (λ (bytes : List ℕ). WithoutFiles (ScriptsAnswers spec bytes))) GivesSeries (scripts.now ∷ [])
         (F.state files.old) (F.state files.new) result }
     ensures few { IfOk result (λ series. length series.scripts ≤ MAX_SCRIPTS_BYTES) }
 {
@@ -69,7 +69,7 @@ fn read_scripts<F: Files>(
 
 fn make_series(alloc: Global, spec: Spec, scripts: List<u8>) -> Result<Series, Refusal>
     requires { length scripts ≤ MAX_SCRIPTS_BYTES }
-    ensures prepares { PreparesWithoutFiles (ScriptsAnswers spec scripts) TellsSeries result }
+    ensures prepares { PreparesWithoutFiles (ScriptsAnswers spec scripts) GivesSeries result }
     ensures few { IfOk result (λ series. length series.scripts ≤ MAX_SCRIPTS_BYTES) }
 {
     match accept(alloc, spec) {

@@ -6,7 +6,7 @@ ghost use Rattle.scram_types.specs.Searches.{any_below};
 ghost use Rattle.choice_forms.specs.Tables.{HasShares};
 ghost use Rattle.coverage_check.specs.Timing.{asked_bounds};
 ghost use Rattle.cube_cover.specs.Shares.{AreShares, IsShare, is_ruled_by};
-ghost use Rattle.spec_forms.specs.Bounds.{HasAskedBounds};
+ghost use Rattle.spec_forms.specs.Bounds.{AreAskedBounds};
 ghost use Rattle.idle_parts.specs.Chosen.{IsChosenBy};
 ghost use Rattle.idle_parts.specs.Choices.{is_bound_idle, is_conf_idle, is_first_from, is_rule_idle, is_target_of_other};
 
@@ -85,7 +85,7 @@ fn count_confs(spec: &Spec) -> u8
 
 // Returns whether configuration `c` is neither the start nor a possible target of another configuration.
 pub(crate) fn is_conf_idle(spec: &Spec, sets: &[u16; 12], c: u8) -> bool
-    requires sets { HasAskedBounds spec.now sets.now }
+    requires sets { AreAskedBounds spec.now sets.now }
     requires conf { c < length spec.now.confs }
     ensures { result ≡ is_conf_idle spec.now c }
 {
@@ -93,7 +93,7 @@ pub(crate) fn is_conf_idle(spec: &Spec, sets: &[u16; 12], c: u8) -> bool
 }
 
 fn is_target_of_others(spec: &Spec, sets: &[u16; 12], c: u8) -> bool
-    requires sets { HasAskedBounds spec.now sets.now }
+    requires sets { AreAskedBounds spec.now sets.now }
     requires conf { c < length spec.now.confs }
     ensures { result ≡ any_below (is_target_of_other spec.now c) (length spec.now.confs) }
 {

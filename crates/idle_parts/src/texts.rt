@@ -4,7 +4,7 @@ ghost use Rattle.std.specs.Prelude.{◌≡◌, ◌<◌, ◌≤◌, ◌++◌, IfO
 ghost use Rattle.choice_forms.specs.Tables.{HasShares};
 ghost use Rattle.coverage_check.specs.Timing.{asked_bounds};
 ghost use Rattle.scram_types.specs.Specification.{IsDemand};
-ghost use Rattle.spec_forms.specs.Bounds.{HasAskedBounds};
+ghost use Rattle.spec_forms.specs.Bounds.{AreAskedBounds};
 ghost use Rattle.idle_parts.specs.Chosen.{IsChosenBy};
 ghost use Rattle.idle_parts.specs.Lines.{pair_text};
 ghost use Rattle.idle_parts.specs.Texts.{idle_app_text, idle_bound_text, idle_bound_text_at, idle_conf_text, idle_demand_text, idle_demand_text_at, idle_factor_text, idle_text, kind_lines, line_if, mode_line, idle_modes_text, idle_modes_text_of, part_count, idle_part_text, idle_proc_text, idle_rule_text};
@@ -126,7 +126,7 @@ fn add_rule(
 }
 
 fn add_conf(text: &mut Vec<u8>, spec: &Spec, sets: &[u16; 12], c: u8) -> Result<(), AllocError>
-    requires sets { HasAskedBounds spec.now sets.now }
+    requires sets { AreAskedBounds spec.now sets.now }
     requires conf { c < length spec.now.confs }
     ensures { OnOk result (text.new.items ≡ text.old.items ++ idle_conf_text spec.now c) }
 {
@@ -142,7 +142,7 @@ fn add_factor(text: &mut Vec<u8>, spec: &Spec, factor: FactorId) -> Result<(), A
 }
 
 fn add_bound_at(text: &mut Vec<u8>, spec: &Spec, sets: &[u16; 12], k: u8) -> Result<(), AllocError>
-    requires { HasAskedBounds spec.now sets.now }
+    requires { AreAskedBounds spec.now sets.now }
     ensures { OnOk result (text.new.items ≡ text.old.items ++ idle_bound_text_at spec.now k) }
 {
     match spec.bounds.items().get(usize::from(k)) {

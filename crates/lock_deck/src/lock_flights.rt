@@ -2,7 +2,7 @@
 
 ghost use Rattle.std.specs.Prelude.{◌≡◌, ◌≤◌, ◌<◌, ◌+◌, [], All, IfOk, IfSome, OnOk, Some, length, vec_capacity, vec_len};
 ghost use Rattle.coverage_check.specs.Missions.{MissionParts, mission_of};
-ghost use Rattle.event_core.specs.Cores.{core_places, flown};
+ghost use Rattle.event_core.specs.Cores.{core_places, core_flight};
 ghost use Rattle.fail_stop.specs.Ends.{IsOver};
 ghost use Rattle.frame_model.specs.Flights.{reports_of, rows_of};
 ghost use Rattle.lock_deck.specs.Members.{MemberFits};
@@ -32,10 +32,10 @@ pub struct LockFlight<'a> {
     pub mission: &'a Mission,
     pub members: Vec<CachePadded<Member>>,
     core: Core<'a>,
-    back: Vec<Member>,
+    kept: Vec<Member>,
     ghost own: { mission_of core.spec core.script ≡ mission.now },
-    ghost none_back: { back.items ≡ [] },
-    ghost room: { vec_len members ≤ vec_capacity back },
+    ghost none_kept: { kept.items ≡ [] },
+    ghost room: { vec_len members ≤ vec_capacity kept },
 }
 
 impl<'a> LockFlight<'a> {
@@ -52,12 +52,12 @@ impl<'a> LockFlight<'a> {
         mission.holds();
         let core = Core::open(alloc, mission.spec(), mission.script())?;
         let members = make_members(alloc, mission, boxes)?;
-        let back = Vec::with_capacity(alloc, members.len())?;
+        let kept = Vec::with_capacity(alloc, members.len())?;
         Ok(LockFlight {
             mission,
             members,
             core,
-            back,
+            kept,
         })
     }
 
@@ -67,7 +67,7 @@ impl<'a> LockFlight<'a> {
         requires fits { All (λ member. MemberFits self.mission.now member.value) self.members.items }
         ensures spec { result.spec ≡ self.entry.mission.now.spec }
         ensures script { result.script ≡ self.entry.mission.now.script }
-        ensures over { IsOver (flown result) (core_places result) }
+        ensures over { IsOver (core_flight result) (core_places result) }
         ensures assured { let m = self.entry.mission.now in HoldsAll m.spec (rows_of m.spec m.script) (reports_of m.spec m.script) }
     {
         self.run_on(rt, [true; 8])
@@ -79,14 +79,14 @@ impl<'a> LockFlight<'a> {
         requires fits { All (λ member. MemberFits self.mission.now member.value) self.members.items }
         ensures spec { result.spec ≡ self.entry.mission.now.spec }
         ensures script { result.script ≡ self.entry.mission.now.script }
-        ensures over { IsOver (flown result) (core_places result) }
+        ensures over { IsOver (core_flight result) (core_places result) }
         ensures assured { let m = self.entry.mission.now in HoldsAll m.spec (rows_of m.spec m.script) (reports_of m.spec m.script) }
     {
         self.mission.holds();
         reconfigurations_are_assured();
         let roster = Roster {
             members: self.members,
-            back: self.back,
+            kept: self.kept,
             asked,
         };
         fly::<Brand, R>(rt, self.mission, self.core, roster)
@@ -98,7 +98,7 @@ impl<'a> LockFlight<'a> {
 #[derive(Drop)]
 struct Roster {
     members: Vec<CachePadded<Member>>,
-    back: Vec<Member>,
+    kept: Vec<Member>,
     asked: [bool; 8],
 }
 
@@ -182,9 +182,9 @@ fn fly<'a, J: FlightOf + Send + Sync, R: Threads + Wait + Sync>(
     requires own { J.mission ≡ Some mission.now }
     requires core { mission_of core.spec core.script ≡ mission.now }
     requires fits { All (λ member. MemberFits mission.now member.value) roster.members.items }
-    requires back { (roster.back.items ≡ []) × (vec_len roster.members ≤ vec_capacity roster.back) }
+    requires kept { (roster.kept.items ≡ []) × (vec_len roster.members ≤ vec_capacity roster.kept) }
     ensures core { mission_of result.spec result.script ≡ mission.now }
-    ensures over { IsOver (flown result) (core_places result) }
+    ensures over { IsOver (core_flight result) (core_places result) }
 {
     let shared: Mutex<SharedCore<'a, J>> = Mutex::new(SharedCore::new(core));
     let moved = Condvar::new();
@@ -196,7 +196,7 @@ fn fly<'a, J: FlightOf + Send + Sync, R: Threads + Wait + Sync>(
 fn finish<'a, R: Wait>(rt: &R, core: Core<'a>) -> Core<'a>
     ensures spec { result.spec ≡ core.entry.spec }
     ensures script { result.script ≡ core.entry.script }
-    ensures over { IsOver (flown result) (core_places result) }
+    ensures over { IsOver (core_flight result) (core_places result) }
 {
     let mut core = core;
     for _ in rt.forever() {
@@ -217,7 +217,7 @@ fn fly_shared<'a, J: FlightOf + Send + Sync, R: Threads + Wait + Sync>(
 )
     requires own { J.mission ≡ Some mission.now }
     requires fits { All (λ member. MemberFits mission.now member.value) roster.members.items }
-    requires back { (roster.back.items ≡ []) × (vec_len roster.members ≤ vec_capacity roster.back) }
+    requires kept { (roster.kept.items ≡ []) × (vec_len roster.members ≤ vec_capacity roster.kept) }
 {
     let flags = flown_by_caller(roster.asked);
     let by_caller = &flags;
@@ -227,15 +227,15 @@ fn fly_shared<'a, J: FlightOf + Send + Sync, R: Threads + Wait + Sync>(
         |scope|
             requires own { J.mission ≡ Some mission.now }
             requires fits { All (λ member. MemberFits mission.now member.value) roster.members.items }
-            requires back { (roster.back.items ≡ []) × (vec_len roster.members ≤ vec_capacity roster.back) }
+            requires kept { (roster.kept.items ≡ []) × (vec_len roster.members ≤ vec_capacity roster.kept) }
         {
             let flight = SharedFlight {
                 mission,
                 core: shared,
                 moved,
             };
-            let back = start_all(scope, rt, flight, by_caller, roster);
-            fly_kernel(rt, mission, shared, moved, back);
+            let kept = start_all(scope, rt, flight, by_caller, roster);
+            fly_kernel(rt, mission, shared, moved, kept);
         },
     );
 }
@@ -259,7 +259,7 @@ fn start_all<'s, 'a, E, J: FlightOf + Send + Sync, R: Threads + Wait + Sync>(
 ) -> Vec<Member>
     requires own { J.mission ≡ Some flight.mission.now }
     requires fits { All (λ member. MemberFits flight.mission.now member.value) roster.members.items }
-    requires back { (roster.back.items ≡ []) × (vec_len roster.members ≤ vec_capacity roster.back) }
+    requires kept { (roster.kept.items ≡ []) × (vec_len roster.members ≤ vec_capacity roster.kept) }
     ensures { All (MemberFits flight.entry.mission.now) result.items }
 {
     let SharedFlight {
@@ -268,7 +268,7 @@ fn start_all<'s, 'a, E, J: FlightOf + Send + Sync, R: Threads + Wait + Sync>(
         moved,
     } = flight;
     let mut members = roster.members;
-    let mut back = roster.back;
+    let mut kept = roster.kept;
     while let Some(member) = take_member(&mut members) {
         let own = &by_caller[usize::from(member.proc().0 % 8)];
         let fly = move |member: Member|
@@ -276,9 +276,9 @@ fn start_all<'s, 'a, E, J: FlightOf + Send + Sync, R: Threads + Wait + Sync>(
         {
             fly_processor(rt, mission, shared, moved, member);
         };
-        keep_member(&mut back, start(scope, own, fly, member));
+        keep_member(&mut kept, start(scope, own, fly, member));
     }
-    back
+    kept
 }
 
 // Starts a thread that flies a processor, unless the caller flies it. If no thread can be started, marks the processor
@@ -330,15 +330,15 @@ fn take_member(members: &mut Vec<CachePadded<Member>>) -> Option<Member>
 }
 
 // Adds a processor, if there is one, to the processors that the caller flies.
-fn keep_member(back: &mut Vec<Member>, member: Option<Member>)
-    requires room { vec_len back.old < vec_capacity back.old }
-    ensures fits { (mission : MissionParts) → IfSome member (MemberFits mission) → All (MemberFits mission) back.old.items
-        → All (MemberFits mission) back.new.items }
-    ensures more { vec_len back.new ≤ vec_len back.old + 1 }
-    ensures room { vec_capacity back.new ≡ vec_capacity back.old }
+fn keep_member(kept: &mut Vec<Member>, member: Option<Member>)
+    requires room { vec_len kept.old < vec_capacity kept.old }
+    ensures fits { (mission : MissionParts) → IfSome member (MemberFits mission) → All (MemberFits mission) kept.old.items
+        → All (MemberFits mission) kept.new.items }
+    ensures more { vec_len kept.new ≤ vec_len kept.old + 1 }
+    ensures room { vec_capacity kept.new ≡ vec_capacity kept.old }
 {
     match member {
-        Some(member) => back.push_reserved(member),
+        Some(member) => kept.push_reserved(member),
         None => {}
     }
 }

@@ -3,7 +3,7 @@
 ghost use Rattle.std.specs.Prelude.{◌≡◌, ◌<◌, IfSome, IsTrue, Some, length, ℕ};
 ghost use Rattle.bank_words.specs.declared.events.Event.TheVariants.{KStore};
 ghost use Rattle.coverage_check.specs.Missions.{MissionParts, mission_of};
-ghost use Rattle.event_core.specs.Cores.{IsNextIn, IsWordIn, core_places, flown};
+ghost use Rattle.event_core.specs.Cores.{IsNextIn, IsWordIn, core_places, core_flight};
 ghost use Rattle.event_core.specs.Places.{HasLooked};
 ghost use Rattle.event_core.specs.Stores.{IsEventWord};
 ghost use Rattle.fail_stop.specs.Events.{Places, next_kernel};
@@ -102,7 +102,7 @@ pub(crate) fn make_step(core: &mut Core, p: ProcId, drafted: Option<&Draft>) -> 
 
 fn make_store(core: &mut Core, p: ProcId, i: u8, drafted: Option<&Draft>) -> Made
     requires known { p.0 < length core.old.spec.procs }
-    requires looked { HasLooked (flown core.old) ((core_places core.old).proc p.0) }
+    requires looked { HasLooked (core_flight core.old) ((core_places core.old).proc p.0) }
     requires drafted { IfSome drafted (λ draft. IsDraftOf (mission_of core.old.spec core.old.script) p.0 draft.now) }
     ensures saw { IfSaw result (IsSnapshotOf (mission_of core.old.spec core.old.script)) }
     ensures spec { core.new.spec ≡ core.old.spec }

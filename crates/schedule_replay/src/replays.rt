@@ -1,7 +1,7 @@
 //! The flight of a schedule on one thread.
 
 ghost use Rattle.std.specs.Prelude.{◌≡◌, ◌++◌, ◌∷◌, [], List, Err, IfErr, IfOk, IfSome, None, Some, length, slice_get, take};
-ghost use Rattle.event_core.specs.Cores.{IsNextIn, IsWordIn, core_places, core_words, flown};
+ghost use Rattle.event_core.specs.Cores.{IsNextIn, IsWordIn, core_places, core_words, core_flight};
 ghost use Rattle.event_core.specs.Flyers.{FlyBy, FlyersFit};
 ghost use Rattle.event_core.specs.Replays.{IsReplay};
 ghost use Rattle.fail_stop.specs.Ends.{IsOver};
@@ -123,7 +123,7 @@ fn make(core: &mut Core, spec: &Spec, flyers: &mut Flyers, event: Event) -> Resu
 // Returns the number of events that were made. These events are a schedule.
 fn events_made(core: &Core) -> u32
     ensures count { result ≡ length core.now.history }
-    ensures schedule { IsReplay (flown core.now) core.now.history (core_places core.now) (core_words core.now) }
+    ensures schedule { IsReplay (core_flight core.now) core.now.history (core_places core.now) (core_words core.now) }
 {
     core.history().len() as u32
 }
@@ -133,7 +133,7 @@ fn word_where_next(core: &Core, spec: &Spec, flyers: &mut Flyers, event: Event) 
     requires spec { core.now.spec ≡ spec.now }
     requires fits { FlyBy core.now flyers.old }
     ensures word { IsNextIn core.now event → IsWordIn core.now event result }
-    ensures fits { IsNextIn core.now event → FlyersFit core.now.spec core.now.script (proc_after (flown core.now) (core_places core.now) event) flyers.new }
+    ensures fits { IsNextIn core.now event → FlyersFit core.now.spec core.now.script (proc_after (core_flight core.now) (core_places core.now) event) flyers.new }
 {
     if core.next_of_actor(event) == Some(event) {
         flyers.word(core, spec, event)
@@ -161,9 +161,9 @@ fn land(core: Core, spec: &Spec, events: &[Event]) -> Result<Flown, ReplayError>
 // if the flight is over.
 fn pending(core: &Core, spec: &Spec) -> Option<Event>
     requires spec { core.now.spec ≡ spec.now }
-    ensures over { result ≡ None → IsOver (flown core.now) (core_places core.now) }
-    ensures going { IfSome result (λ _. IsOver (flown core.now) (core_places core.now) → ⊥) }
-    ensures next { IfSome result (λ next. first_next (flown core.now) (core_places core.now) (core_words core.now) ≡ Some next) }
+    ensures over { result ≡ None → IsOver (core_flight core.now) (core_places core.now) }
+    ensures going { IfSome result (λ _. IsOver (core_flight core.now) (core_places core.now) → ⊥) }
+    ensures next { IfSome result (λ next. first_next (core_flight core.now) (core_places core.now) (core_words core.now) ≡ Some next) }
 {
     if core.over() {
         return None;
@@ -176,7 +176,7 @@ fn pending(core: &Core, spec: &Spec) -> Option<Event>
 }
 
 fn next_below(core: &Core, procs: u8) -> Option<Event>
-    ensures { result ≡ next_below (flown core.now) (core_places core.now) (core_words core.now) procs }
+    ensures { result ≡ next_below (core_flight core.now) (core_places core.now) (core_words core.now) procs }
 {
     for p in 0..procs {
         if let Some(next) = core.next_of(ProcId(p)) {

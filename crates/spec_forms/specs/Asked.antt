@@ -3,12 +3,12 @@ use Rattle.std.specs.Prelude.{ℕ, List}
 use Rattle.form_base.specs.declared.status.TheConstants.{ANSWERED}
 use Rattle.form_base.specs.Answers.{Gives}
 use Rattle.spec_forms.specs.declared.bound_pairs.Asked.{Asked}
-use Rattle.spec_forms.specs.Bounds.{HasAskedBounds, bounds_text}
+use Rattle.spec_forms.specs.Bounds.{AreAskedBounds, bounds_text}
 
 -- The sets are those of the bounds that the specification must give.
 abbrev pub AreAsked : Asked → Type 0
-AreAsked asked = HasAskedBounds asked.spec asked.sets
+AreAsked asked = AreAskedBounds asked.spec asked.sets
 
 -- The answer lists the bounds that the specification must give.
-abbrev pub TellsBounds : Asked → ℕ → List ℕ → Type 0
-TellsBounds asked = Gives (ANSWERED, bounds_text asked.spec)
+abbrev pub GivesBounds : Asked → ℕ → List ℕ → Type 0
+GivesBounds asked = Gives (ANSWERED, bounds_text asked.spec)

@@ -19,5 +19,5 @@ abbrev pub bounds_text : Parts → List ℕ
 bounds_text spec = texts_below (bounds_text_from spec) (length spec.confs)
 
 -- Set `i` holds, as bits, the configurations to which a bound from configuration `i` is required.
-abbrev pub HasAskedBounds : Parts → List ℕ → Type 0
-HasAskedBounds spec sets = (i set : ℕ) → i < length spec.confs → slice_get sets i ≡ Some set → set ≡ asked_bounds spec (conf_id i)
+abbrev pub AreAskedBounds : Parts → List ℕ → Type 0
+AreAskedBounds spec sets = (i set : ℕ) → i < length spec.confs → slice_get sets i ≡ Some set → set ≡ asked_bounds spec (conf_id i)

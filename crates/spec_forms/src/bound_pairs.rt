@@ -9,8 +9,8 @@ ghost use Rattle.form_base.specs.Answers.{Gives};
 ghost use Rattle.form_base.specs.Endings.{Ends, IsTaken, Prepares, PreparesWithoutFiles};
 ghost use Rattle.form_base.specs.declared.status.TheConstants.{ANSWERED};
 ghost use Rattle.spec_forms.specs.Answers.{BoundsAnswers, bounds_answer};
-ghost use Rattle.spec_forms.specs.Asked.{AreAsked, TellsBounds};
-ghost use Rattle.spec_forms.specs.Bounds.{HasAskedBounds, bound_text_of, bounds_text, bounds_text_from};
+ghost use Rattle.spec_forms.specs.Asked.{AreAsked, GivesBounds};
+ghost use Rattle.spec_forms.specs.Bounds.{AreAskedBounds, bound_text_of, bounds_text, bounds_text_from};
 
 use crate::lines::make_bound_line;
 use coverage_check::{asked_bounds, refuse_states};
@@ -55,7 +55,7 @@ pub fn bounds<F: Files, K: Sink>(
 
 /// Reads the specification and finds the bounds that it must give.
 fn read_asked<F: Files>(alloc: Global, specification: &str, files: &mut F) -> Result<Asked, Refusal>
-    ensures reads { Prepares (BoundsAnswers specification.now) TellsBounds (specification.now ∷ []) (F.state files.old) (F.state files.new) result }
+    ensures reads { Prepares (BoundsAnswers specification.now) GivesBounds (specification.now ∷ []) (F.state files.old) (F.state files.new) result }
     ensures asked { IfOk result AreAsked }
 {
     match load(alloc, &Specification, specification, files) {
@@ -65,7 +65,7 @@ fn read_asked<F: Files>(alloc: Global, specification: &str, files: &mut F) -> Re
 }
 
 fn find_bounds(alloc: Global, spec: Spec) -> Result<Asked, Refusal>
-    ensures prepares { PreparesWithoutFiles (Gives (bounds_answer spec (state_refusal spec))) TellsBounds result }
+    ensures prepares { PreparesWithoutFiles (Gives (bounds_answer spec (state_refusal spec))) GivesBounds result }
     ensures asked { IfOk result AreAsked }
 {
     if let Some(shown) = refuse_states(&spec) {
@@ -88,7 +88,7 @@ fn find_bounds(alloc: Global, spec: Spec) -> Result<Asked, Refusal>
 ///
 /// Out of memory.
 pub fn find_asked(alloc: Global, spec: &Spec) -> Result<[u16; 12], NoMemory>
-    ensures { IfOk result (λ sets. HasAskedBounds spec.now sets) }
+    ensures { IfOk result (λ sets. AreAskedBounds spec.now sets) }
 {
     let mut sets = [0; 12];
     for i in 0..count_confs(spec) {
@@ -105,7 +105,7 @@ fn count_confs(spec: &Spec) -> u8
 }
 
 fn put_bounds<K: Sink>(out: &mut K, spec: &Spec, sets: &[u16; 12]) -> Result<(), SinkFault>
-    requires { HasAskedBounds spec.now sets.now }
+    requires { AreAskedBounds spec.now sets.now }
     ensures { Prints result (K.state out.old) (K.state out.new) (bounds_text spec.now) }
 {
     for i in 0..count_confs(spec) {

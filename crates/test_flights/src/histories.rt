@@ -1,7 +1,7 @@
 //! Flights over a lock, flown again by their histories.
 
 ghost use Rattle.std.specs.Prelude.{◌≡◌};
-ghost use Rattle.event_core.specs.Cores.{core_places, flown};
+ghost use Rattle.event_core.specs.Cores.{core_places, core_flight};
 ghost use Rattle.fail_stop.specs.Ends.{IsOver};
 
 use crate::decks::fly_over_lock;
@@ -33,7 +33,7 @@ pub fn fly_and_write<R: AllocGlobal + Threads + Wait + Sync>(
 /// Returns what came of a flight that is over, and its history as a text.
 fn finish(alloc: Global, mission: &Mission, core: Core) -> io::Result<(Flown, Vec<u8>)>
     requires spec { core.spec ≡ mission.now.spec }
-    requires over { IsOver (flown core) (core_places core) }
+    requires over { IsOver (core_flight core) (core_places core) }
 {
     match write_history(alloc, mission, &core) {
         Ok(text) => Ok((core.finish(), text)),

@@ -9,7 +9,7 @@ use Rattle.fail_stop.specs.Events.{Happens, IsNext, IsStored, Places, Word, next
 use Rattle.fail_stop.specs.Flights.{Flight}
 use Rattle.fail_stop.specs.Schedules.{IsSchedule, Machine, happened, opening}
 use Rattle.fail_stop.specs.ScriptFlights.{flight_of}
-use Rattle.event_core.specs.Cores.{CoreParts, core_places, core_words, flown}
+use Rattle.event_core.specs.Cores.{CoreParts, core_places, core_words, core_flight}
 use Rattle.event_core.specs.Replays.{IsReplay}
 use Rattle.event_core.proofs.Replays.{kernel_same, next_same, replay_on}
 use Rattle.test_schedules.specs.Choices.{begin_of, chooser_after, chosen, first_chooser, first_from, is_backwards, next_in_order}
@@ -82,16 +82,16 @@ ruled_by m rule chooser later events events2 at at2 words words2 e ruled is afte
     subst (λ (c : Chooser). IsRuledTo m rule c events2 at2 words2) (sym who.2)
     (subst (λ (l : List Event). IsRuledTo m rule (chooser_after chooser who.0) l at2 words2) (sym longer) (ruled_more m rule chooser events at at2 words words2 e who.0 ruled who.1 next happens))
 
-flown_same : (core core2 : CoreParts) → core2.spec ≡ core.spec → core2.script ≡ core.script → flown core ≡ flown core2
+flown_same : (core core2 : CoreParts) → core2.spec ≡ core.spec → core2.script ≡ core.script → core_flight core ≡ core_flight core2
 flown_same core core2 spec script = ap (λ (spec : Parts). flight_of spec core.script) (sym spec) ∙ ap (λ (script : ScriptParts). flight_of core2.spec script) (sym script)
 
 -- the same over cores
-pub ruled_on : (core core2 : CoreParts) (rule : Rule) (chooser later : Chooser) (e : Event) → IsRuledTo (flown core) rule chooser core.history (core_places core) (core_words core)
+pub ruled_on : (core core2 : CoreParts) (rule : Rule) (chooser later : Chooser) (e : Event) → IsRuledTo (core_flight core) rule chooser core.history (core_places core) (core_words core)
     → core2.spec ≡ core.spec → core2.script ≡ core.script
-    → Some e ≡ option_map (λ found. found.1) (chosen (flown core) (core_places core) (core_words core) chooser)
-    → IfSome (chosen (flown core) (core_places core) (core_words core) chooser) (λ found. later ≡ chooser_after chooser found.0)
-    → IsNext (flown core) (core_places core) (core_words core) e → Happens (flown core) (core_places core) (core_words core) e (core_places core2) (core_words core2)
-    → core2.history ≡ core.history ++ e ∷ [] → IsRuledTo (flown core2) rule later core2.history (core_places core2) (core_words core2)
+    → Some e ≡ option_map (λ found. found.1) (chosen (core_flight core) (core_places core) (core_words core) chooser)
+    → IfSome (chosen (core_flight core) (core_places core) (core_words core) chooser) (λ found. later ≡ chooser_after chooser found.0)
+    → IsNext (core_flight core) (core_places core) (core_words core) e → Happens (core_flight core) (core_places core) (core_words core) e (core_places core2) (core_words core2)
+    → core2.history ≡ core.history ++ e ∷ [] → IsRuledTo (core_flight core2) rule later core2.history (core_places core2) (core_words core2)
 ruled_on core core2 rule chooser later e ruled spec script is after next happens longer =
     subst (λ (m : Flight). IsRuledTo m rule later core2.history (core_places core2) (core_words core2)) (flown_same core core2 spec script)
-    (ruled_by (flown core) rule chooser later core.history core2.history (core_places core) (core_places core2) (core_words core) (core_words core2) e ruled is after next happens longer)
+    (ruled_by (core_flight core) rule chooser later core.history core2.history (core_places core) (core_places core2) (core_words core) (core_words core2) e ruled is after next happens longer)

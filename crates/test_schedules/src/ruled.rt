@@ -2,7 +2,7 @@
 //! resulting core is that of the specification and the script, and is over.
 
 ghost use Rattle.std.specs.Prelude.{◌≡◌, ◌<◌, ◌≤◌, ◌⊎◌, ◌++◌, [], ◌∷◌, IfOk, length};
-ghost use Rattle.event_core.specs.Cores.{HappensIn, IsNextIn, IsWordIn, core_places, core_words, flown};
+ghost use Rattle.event_core.specs.Cores.{HappensIn, IsNextIn, IsWordIn, core_places, core_words, core_flight};
 ghost use Rattle.event_core.specs.Flyers.{FlyBy};
 ghost use Rattle.event_core.specs.Rooms.{events_left};
 ghost use Rattle.fail_stop.specs.Ends.{IsOver};
@@ -32,8 +32,8 @@ pub fn fly<'a>(
     requires script { Fits spec.now script.now }
     ensures spec { IfOk result (λ core. core.spec ≡ spec.now) }
     ensures script { IfOk result (λ core. core.script ≡ script.now) }
-    ensures rule { IfOk result (λ core. IsByRule (flown core) rule core.history (core_places core) (core_words core)) }
-    ensures over { IfOk result (λ core. IsOver (flown core) (core_places core)) }
+    ensures rule { IfOk result (λ core. IsByRule (core_flight core) rule core.history (core_places core) (core_words core)) }
+    ensures over { IfOk result (λ core. IsOver (core_flight core) (core_places core)) }
 {
     let boxes = empty_boxes(alloc)?;
     let core = Core::open(alloc, spec, script)?;
@@ -56,8 +56,8 @@ pub fn fly_some<'a>(
     requires script { Fits spec.now script.now }
     ensures spec { IfOk result (λ core. core.spec ≡ spec.now) }
     ensures script { IfOk result (λ core. core.script ≡ script.now) }
-    ensures rule { IfOk result (λ core. IsByRule (flown core) rule core.history (core_places core) (core_words core)) }
-    ensures count { IfOk result (λ core. (length core.history ≡ events) ⊎ (IsOver (flown core) (core_places core) × (length core.history < events))) }
+    ensures rule { IfOk result (λ core. IsByRule (core_flight core) rule core.history (core_places core) (core_words core)) }
+    ensures count { IfOk result (λ core. (length core.history ≡ events) ⊎ (IsOver (core_flight core) (core_places core) × (length core.history < events))) }
 {
     let boxes = empty_boxes(alloc)?;
     let core = Core::open(alloc, spec, script)?;
@@ -72,8 +72,8 @@ fn fly_on<'a>(core: Core<'a>, spec: &Spec, flyers: &mut Flyers, rule: Rule) -> C
     requires fits { FlyBy core flyers.old }
     ensures spec { result.spec ≡ core.entry.spec }
     ensures script { result.script ≡ core.entry.script }
-    ensures rule { IsByRule (flown result) rule result.history (core_places result) (core_words result) }
-    ensures over { IsOver (flown result) (core_places result) }
+    ensures rule { IsByRule (core_flight result) rule result.history (core_places result) (core_words result) }
+    ensures over { IsOver (core_flight result) (core_places result) }
 {
     let mut core = core;
     let _opened = core.history();
@@ -98,8 +98,8 @@ fn fly_events<'a>(
     requires fits { FlyBy core flyers.old }
     ensures spec { result.spec ≡ core.entry.spec }
     ensures script { result.script ≡ core.entry.script }
-    ensures rule { IsByRule (flown result) rule result.history (core_places result) (core_words result) }
-    ensures count { (length result.history ≡ events) ⊎ (IsOver (flown result) (core_places result) × (length result.history < events)) }
+    ensures rule { IsByRule (core_flight result) rule result.history (core_places result) (core_words result) }
+    ensures count { (length result.history ≡ events) ⊎ (IsOver (core_flight result) (core_places result) × (length result.history < events)) }
 {
     let mut core = core;
     let _opened = core.history();
@@ -123,7 +123,7 @@ fn make(core: &mut Core, spec: &Spec, flyers: &mut Flyers, event: Event)
     ensures script { core.new.script ≡ core.old.script }
     ensures happens { HappensIn core.old event core.new }
     ensures history { core.new.history ≡ core.old.history ++ event ∷ [] }
-    ensures fewer { events_left (flown core.new) (core_places core.new) < events_left (flown core.old) (core_places core.old) }
+    ensures fewer { events_left (core_flight core.new) (core_places core.new) < events_left (core_flight core.old) (core_places core.old) }
     ensures fits { FlyBy core.new flyers.new }
 {
     let word = flyers.word(core, spec, event);
@@ -138,7 +138,7 @@ fn step(core: &mut Core, event: Event, word: u64)
     ensures script { core.new.script ≡ core.old.script }
     ensures happens { HappensIn core.old event core.new }
     ensures history { core.new.history ≡ core.old.history ++ event ∷ [] }
-    ensures fewer { events_left (flown core.new) (core_places core.new) < events_left (flown core.old) (core_places core.old) }
+    ensures fewer { events_left (core_flight core.new) (core_places core.new) < events_left (core_flight core.old) (core_places core.old) }
 {
     match core.step(event, word) {
         Ok(()) => {}

@@ -3,7 +3,7 @@ use Rattle.std.specs.Prelude.{◌≡◌, length}
 use Rattle.coverage_check.specs.Missions.{MissionParts}
 use Rattle.word_table.specs.declared.tables.WordTable.{WordTable}
 use Rattle.word_table.specs.Tables.{IsKernelSeatOf, mission_in, proc_of}
-use Rattle.word_deck.specs.Crews.{CrewFits}
+use Rattle.word_deck.specs.Crews.{IsCrewOf}
 use Rattle.test_words.specs.declared.crews.Actors.{Actors}
 use Rattle.test_words.specs.declared.crews.Pair.{Pair}
 
@@ -12,8 +12,8 @@ pub record PairFits {X : Type 0} {Y : X → Type 0} (words : WordTable) (pair : 
   pub two : length (mission_in words).spec.procs ≡ 2
   pub first_is : proc_of pair.first.seat ≡ 0
   pub second_is : proc_of pair.second.seat ≡ 1
-  pub first_fits : CrewFits words pair.first
-  pub second_fits : CrewFits words pair.second
+  pub first_fits : IsCrewOf words pair.first
+  pub second_fits : IsCrewOf words pair.second
 
 -- The processors and the kernel belong to a table of this mission, between two turns.
 pub record ActorsFit {X : Type 0} {Y : X → Type 0} (words : WordTable) (mission : MissionParts) (actors : Actors X Y) : Type 0 where

@@ -3,7 +3,7 @@
 ghost use Rattle.std.specs.Prelude.{◌≡◌, IfOk, IfSome, Some};
 ghost use Rattle.fail_stop.specs.Events.{At};
 ghost use Rattle.word_table.specs.Tables.{AreOpening, AreSeatsOf, IsSeatOf, seat_place};
-ghost use Rattle.word_deck.specs.Crews.{CrewFits};
+ghost use Rattle.word_deck.specs.Crews.{IsCrewOf};
 ghost use Rattle.test_words.specs.Actors.{PairFits};
 
 use app_model::{Boxes, Rack};
@@ -53,7 +53,7 @@ fn crew_of(
     requires seat { IfSome seat (IsSeatOf words.now) }
     requires opening { IfSome seat (λ seat. seat_place seat ≡ At 0 0) }
     ensures seat { IfOk result (λ crew. Some crew.seat ≡ seat) }
-    ensures fits { IfOk result (λ crew. CrewFits words.now crew) }
+    ensures fits { IfOk result (λ crew. IsCrewOf words.now crew) }
 {
     match (seat, rack, spare) {
         (Some(seat), Some(rack), Some(spare)) => Ok(Crew::processor(seat, rack, spare)),

@@ -11,7 +11,7 @@ use Rattle.word_table.specs.declared.seats.Seat.{Seat}
 use Rattle.word_table.specs.declared.tables.WordTable.{WordTable}
 use Rattle.word_table.specs.Tables.{IsSeatOf, proc_of, seat_place}
 use Rattle.word_deck.specs.declared.crews.Crew.{Crew}
-use Rattle.word_deck.specs.Crews.{CrewFits}
+use Rattle.word_deck.specs.Crews.{IsCrewOf}
 use Rattle.word_deck.specs.Flights.{AllCrewsFit, AreLanded, AreOpen, numbers_in}
 use Rattle.word_deck.specs.Landing.{IsLanded}
 
@@ -69,14 +69,14 @@ module _ {X : Type 0} {Y : X → Type 0} (words : WordTable) where
   pub crews_none : (own : List (Crew X Y)) → length own ≡ 0 → AllCrewsFit words own
   crews_none own none = λ k d low. absurd (omega (arith, none, low))
 
-  pub crews_more : (own all : List (Crew X Y)) (crew : Crew X Y) → AllCrewsFit words own → CrewFits words crew → all ≡ own ++ crew ∷ [] → AllCrewsFit words all
+  pub crews_more : (own all : List (Crew X Y)) (crew : Crew X Y) → AllCrewsFit words own → IsCrewOf words crew → all ≡ own ++ crew ∷ [] → AllCrewsFit words all
   crews_more own all crew are fits same =
-      subst (AllCrewsFit words) (sym same) (All-append (λ (c : Crew X Y). CrewFits words c) own (crew ∷ []) are (all_one (λ (c : Crew X Y). CrewFits words c) crew fits))
+      subst (AllCrewsFit words) (sym same) (All-append (λ (c : Crew X Y). IsCrewOf words c) own (crew ∷ []) are (all_one (λ (c : Crew X Y). IsCrewOf words c) crew fits))
 
   pub crews_less : (xs ys : List (Crew X Y)) (o : Option (Crew X Y)) (crew : Crew X Y) → xs ≡ ys ++ option_to_list o → o ≡ Some crew → AllCrewsFit words xs
-      → AllCrewsFit words ys × CrewFits words crew
+      → AllCrewsFit words ys × IsCrewOf words crew
   crews_less xs ys o crew all is are =
-      let both = All-pop (λ (c : Crew X Y). CrewFits words c) xs ys (Some crew) (popped xs ys o crew all is) are in (both.0, both.1)
+      let both = All-pop (λ (c : Crew X Y). IsCrewOf words c) xs ys (Some crew) (popped xs ys o crew all is) are in (both.0, both.1)
 
 -- seats of processors that have not started, after the last one is removed
 pub open_front : (words : WordTable) (xs ys : List Seat) (o : Option Seat) (seat : Seat) → xs ≡ ys ++ option_to_list o → o ≡ Some seat → AreOpen words xs → AreOpen words ys

@@ -38,7 +38,7 @@ tries_after Worked tries = tries
 tries_after Finished tries = tries
 
 -- A crew belongs to the table and is between two turns.
-pub record CrewFits {X : Type 0} {Y : X → Type 0} (words : WordTable) (crew : Crew X Y) : Type 0 where
+pub record IsCrewOf {X : Type 0} {Y : X → Type 0} (words : WordTable) (crew : Crew X Y) : Type 0 where
   pub seated : IsSeatOf words crew.seat
   pub begin : steps_of (seat_place crew.seat) ≡ 0
   pub spare_left : HasSpare (flight_in words) (proc_of crew.seat) (frame_of (seat_place crew.seat)) crew.flyer.spare

@@ -8,7 +8,7 @@ use Rattle.word_table.specs.Tables.{IsSeatOf, mission_in, seat_place, proc_of}
 use Rattle.word_deck.specs.declared.crews.Crew.{Crew}
 use Rattle.word_deck.specs.declared.scopes.Boarding.{Boarding}
 use Rattle.word_deck.specs.declared.scopes.Boarding.TheVariants.{Threaded, Own, Landed}
-use Rattle.word_deck.specs.Crews.{CrewFits}
+use Rattle.word_deck.specs.Crews.{IsCrewOf}
 use Rattle.word_deck.specs.Landing.{IsLanded}
 
 -- Each of these seats belongs to the table, to the processor whose number is its index, and is at its opening place.
@@ -24,7 +24,7 @@ AreAtTable words seats = (p : ℕ) (seat : Seat) → slice_get seats p ≡ Some 
 
 -- Each crew belongs to the table and is between two turns.
 abbrev pub AllCrewsFit : {X : Type 0} {Y : X → Type 0} → WordTable → List (Crew X Y) → Type 0
-AllCrewsFit {X = X} {Y = Y} words crews = All (λ (crew : Crew X Y). CrewFits words crew) crews
+AllCrewsFit {X = X} {Y = Y} words crews = All (λ (crew : Crew X Y). IsCrewOf words crew) crews
 
 -- The numbers of the processors of these crews.
 abbrev pub numbers_in : {X : Type 0} {Y : X → Type 0} → List (Crew X Y) → List ℕ

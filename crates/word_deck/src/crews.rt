@@ -37,7 +37,7 @@ impl Crew {
     ghost use Rattle.fail_stop.specs.Events.{At, frame_of, is_halted};
     ghost use Rattle.word_table.specs.Actors.{Waits, mission_flight};
     ghost use Rattle.word_table.specs.Tables.{IsSeatOf, flight_in, mission_in, tries_of};
-    ghost use Rattle.word_deck.specs.Crews.{CrewFits, CrewFlies, is_done, place_after, tries_after};
+    ghost use Rattle.word_deck.specs.Crews.{IsCrewOf, CrewFlies, is_done, place_after, tries_after};
     ghost use Rattle.word_table.specs.declared.tables.WordTable as word_tables;
     ghost use Rattle.word_deck.specs.declared.turns.Turn.TheVariants.{Finished, Worked};
 
@@ -48,7 +48,7 @@ impl Crew {
         ensures seat { result.seat ≡ seat }
         ensures unit { result.flyer.unit ≡ Up (record { proc = proc_id (proc_of seat); rack = rack }) }
         ensures spare { result.flyer.spare ≡ Some spare }
-        ensures fits { (words : word_tables.WordTable) → IsSeatOf words seat → CrewFits words result }
+        ensures fits { (words : word_tables.WordTable) → IsSeatOf words seat → IsCrewOf words result }
     {
         let flyer = Flyer::new(seat.proc(), rack, spare);
         let snap = Snapshot {
@@ -70,8 +70,8 @@ impl Crew {
     #[tactic(auto, using(crate::proofs::Places::waits, crate::proofs::Places::done_by, crate::proofs::Places::flown_after, crate::proofs::Places::finished_by, crate::proofs::Places::tried_by))]
     pub fn turn(&mut self, mission: &Mission, words: &WordTable) -> Turn
         requires mission { mission_in words.now ≡ mission.now }
-        requires fits { CrewFits words.now self.old }
-        ensures fits { CrewFits words.now self.new }
+        requires fits { IsCrewOf words.now self.old }
+        ensures fits { IsCrewOf words.now self.new }
         ensures proc { proc_of self.new.seat ≡ proc_of self.old.seat }
         ensures place { seat_place self.new.seat ≡ place_after result (flight_in words.now) (proc_of self.old.seat) (seat_place self.old.seat) }
         ensures finished { (result ≡ Finished) ↔ IsDone (flight_in words.now) (proc_of self.old.seat) (seat_place self.new.seat) }
@@ -118,10 +118,10 @@ impl Crew {
     // released. A processor that had halted restarts.
     #[tactic(auto, using(crate::proofs::Places::spare_there, crate::proofs::Places::spare_begun, crate::proofs::Units::few))]
     fn begin(&mut self, words: &WordTable) -> Option<KernelImage>
-        requires fits { CrewFits words.now self.old }
+        requires fits { IsCrewOf words.now self.old }
         requires waits { Waits (flight_in words.now) (proc_of self.old.seat) (seat_place self.old.seat) }
         ensures proc { proc_of self.new.seat ≡ proc_of self.old.seat }
-        ensures fits { MatchOption result (CrewFits words.now self.new) (λ image. CrewFlies words.now 1 self.new) }
+        ensures fits { MatchOption result (IsCrewOf words.now self.new) (λ image. CrewFlies words.now 1 self.new) }
         ensures place { MatchOption result (seat_place self.new.seat ≡ seat_place self.old.seat)
             (λ image. seat_place self.new.seat ≡ started_place words.now self.old.seat) }
         ensures tries { MatchOption result (tries_of self.new.seat ≡ tries_of self.old.seat + 1) (λ image. tries_of self.new.seat ≡ tries_of self.old.seat) }
@@ -138,7 +138,7 @@ impl Crew {
         requires mission { mission_in words.now ≡ mission.now }
         requires flies { CrewFlies words.now 1 self.old }
         requires kernel { kernel ≡ kernel_image mission.now.spec mission.now.script (frame_of (seat_place self.old.seat)) }
-        ensures fits { CrewFits words.now self.new }
+        ensures fits { IsCrewOf words.now self.new }
         ensures proc { proc_of self.new.seat ≡ proc_of self.old.seat }
         ensures place { seat_place self.new.seat ≡ frame_end words.now self.old.seat }
         ensures tries { tries_of self.new.seat ≡ tries_of self.old.seat }
@@ -172,7 +172,7 @@ impl Crew {
         requires mission { mission_in words.now ≡ mission.now }
         requires flies { CrewFlies words.now (length mission.now.spec.procs + 1) self.old }
         requires image { self.old.image ≡ draft mission.now.spec mission.now.script (proc_of self.old.seat) (frame_of (seat_place self.old.seat)) }
-        ensures fits { CrewFits words.now self.new }
+        ensures fits { IsCrewOf words.now self.new }
         ensures proc { proc_of self.new.seat ≡ proc_of self.old.seat }
         ensures place { seat_place self.new.seat ≡ frame_end words.now self.old.seat }
         ensures tries { tries_of self.new.seat ≡ tries_of self.old.seat }

@@ -5,7 +5,7 @@
 ghost use Rattle.std.specs.Prelude.{◌≡◌, IfErr, IfOk};
 ghost use Rattle.fail_stop.specs.Events.{At};
 ghost use Rattle.word_table.specs.Tables.{IsSeatOf, mission_in, seat_place, proc_of};
-ghost use Rattle.word_deck.specs.Crews.{CrewFits};
+ghost use Rattle.word_deck.specs.Crews.{IsCrewOf};
 ghost use Rattle.word_deck.specs.Landing.{IsLanded, Lands};
 
 use crate::crews::Crew;
@@ -102,7 +102,7 @@ pub(crate) fn fly_crew<R: Wait>(
     mut crew: Crew,
 ) -> Seat
     requires mission { mission_in words.now ≡ mission.now }
-    requires fits { CrewFits words.now crew }
+    requires fits { IsCrewOf words.now crew }
     ensures { IsLanded words.now (proc_of crew.seat) result }
 {
     for _ in rt.forever() {
@@ -198,7 +198,7 @@ fn fly_seat<R: Wait>(
 pub(crate) fn crew_from<R: Wait>(rt: &R, words: &WordTable, cell: &RackCell, seat: Seat) -> Crew
     requires seat { IsSeatOf words.now seat }
     requires opening { seat_place seat ≡ At 0 0 }
-    ensures fits { CrewFits words.now result }
+    ensures fits { IsCrewOf words.now result }
     ensures proc { proc_of result.seat ≡ proc_of seat }
 {
     match cell.take(rt) {

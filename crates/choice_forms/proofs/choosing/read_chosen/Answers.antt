@@ -3,15 +3,15 @@ use Rattle.scram_types.specs.Specification.{Parts}
 use Rattle.form_base.specs.Answers.{Gives, WithoutFiles}
 use Rattle.form_base.proofs.Reading.{settled}
 use Rattle.form_base.proofs.SpecReading.{specification_reads, specification_unread}
-use Rattle.choice_forms.specs.Chosen.{TellsChosen}
+use Rattle.choice_forms.specs.Chosen.{GivesChosen}
 use Rattle.choice_forms.specs.Choosing.{choose_answer}
 use Rattle.choice_forms.proofs.choosing.read_chosen.Goals as goal
 
 pub returns-in-Ok : goal.returns-in-Ok
 returns-in-Ok g c =
-    specification_reads c.args.question.specification.now [] (λ (spec : Parts). WithoutFiles (Gives (choose_answer spec c.args.question.conf.now c.args.question.state.now))) TellsChosen
+    specification_reads c.args.question.specification.now [] (λ (spec : Parts). WithoutFiles (Gives (choose_answer spec c.args.question.conf.now c.args.question.state.now))) GivesChosen
     c.in-Ok.spec _ _ _ c.chosen_of.result c.in-Ok.ensures.loads c.load.ensures.steady
-    (settled (Gives (choose_answer c.in-Ok.spec c.args.question.conf.now c.args.question.state.now)) TellsChosen _ c.chosen_of.result (g.met.F.Files.steady_below _) c.chosen_of.ensures)
+    (settled (Gives (choose_answer c.in-Ok.spec c.args.question.conf.now c.args.question.state.now)) GivesChosen _ c.chosen_of.result (g.met.F.Files.steady_below _) c.chosen_of.ensures)
 
 pub returns-in-Err : goal.returns-in-Err
 returns-in-Err g c =

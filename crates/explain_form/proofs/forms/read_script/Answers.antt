@@ -2,7 +2,7 @@ use Rattle.std.proofs.Common.{[]}
 use Rattle.coverage_check.specs.Acceptance.{first_refusal}
 use Rattle.form_base.specs.Answers.{Gives}
 use Rattle.form_base.proofs.Reading.{settled}
-use Rattle.explain_form.specs.Answers.{MissionAnswers, TellsExplanation}
+use Rattle.explain_form.specs.Answers.{MissionAnswers, GivesExplanation}
 use Rattle.explain_form.specs.Texts.{script_answer}
 use Rattle.document_explanations.proofs.ExplainedReading.{explained_script_reads, explained_script_unread}
 use Rattle.explain_form.proofs.forms.read_script.Goals as goal
@@ -11,8 +11,8 @@ pub returns-in-Ok-clause-reads : goal.returns-in-Ok-clause-reads
 returns-in-Ok-clause-reads g c =
     let spec = c.args.spec in
     let script = c.in-Ok.script in
-    explained_script_reads spec c.args.script.now [] (MissionAnswers spec) TellsExplanation script _ _ _ c.explain_both.result c.in-Ok.ensures.loads c.load.ensures.steady
-    (settled (Gives (script_answer spec script (first_refusal spec))) TellsExplanation _ c.explain_both.result (g.met.F.Files.steady_below _) c.explain_both.ensures.prepares)
+    explained_script_reads spec c.args.script.now [] (MissionAnswers spec) GivesExplanation script _ _ _ c.explain_both.result c.in-Ok.ensures.loads c.load.ensures.steady
+    (settled (Gives (script_answer spec script (first_refusal spec))) GivesExplanation _ c.explain_both.result (g.met.F.Files.steady_below _) c.explain_both.ensures.prepares)
 
 pub returns-in-Err-clause-reads : goal.returns-in-Err-clause-reads
 returns-in-Err-clause-reads g c =

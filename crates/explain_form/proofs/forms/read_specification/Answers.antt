@@ -2,16 +2,16 @@ use Rattle.std.proofs.Common.{[]}
 use Rattle.coverage_check.specs.Acceptance.{first_refusal}
 use Rattle.form_base.specs.Answers.{Gives}
 use Rattle.form_base.proofs.Reading.{settled}
-use Rattle.explain_form.specs.Answers.{SpecificationAnswers, TellsExplanation}
+use Rattle.explain_form.specs.Answers.{SpecificationAnswers, GivesExplanation}
 use Rattle.explain_form.specs.Texts.{explain_answer}
 use Rattle.document_explanations.proofs.ExplainedReading.{explained_specification_reads, explained_specification_unread}
 use Rattle.explain_form.proofs.forms.read_specification.Goals as goal
 
 pub returns-in-Ok-clause-reads : goal.returns-in-Ok-clause-reads
 returns-in-Ok-clause-reads g c =
-    explained_specification_reads c.args.specification.now [] SpecificationAnswers TellsExplanation
+    explained_specification_reads c.args.specification.now [] SpecificationAnswers GivesExplanation
     c.in-Ok.spec _ _ _ c.explain_specification.result c.in-Ok.ensures.loads c.load.ensures.steady
-    (settled (Gives (explain_answer c.in-Ok.spec (first_refusal c.in-Ok.spec))) TellsExplanation _ c.explain_specification.result (g.met.F.Files.steady_below _) c.explain_specification.ensures.prepares)
+    (settled (Gives (explain_answer c.in-Ok.spec (first_refusal c.in-Ok.spec))) GivesExplanation _ c.explain_specification.result (g.met.F.Files.steady_below _) c.explain_specification.ensures.prepares)
 
 pub returns-in-Err-clause-reads : goal.returns-in-Err-clause-reads
 returns-in-Err-clause-reads g c =

@@ -1,14 +1,14 @@
 use Rattle.std.proofs.Common.{[], ◌∷◌}
 use Rattle.scram_types.specs.Specification.{Parts}
 use Rattle.form_base.proofs.SpecReading.{specification_reads, specification_unread}
-use Rattle.flight_forms.specs.Answers.{ScriptAnswers, TellsFlight}
+use Rattle.flight_forms.specs.Answers.{ScriptAnswers, GivesFlight}
 use Rattle.flight_forms.specs.Documents.{AsksScript}
 use Rattle.flight_forms.proofs.missions.read_mission.Goals as goal
 
 pub returns-in-Ok : goal.returns-in-Ok
 returns-in-Ok g c = λ text.
     let script = c.args.named.script.now in
-    specification_reads c.args.named.specification.now (script ∷ []) (λ (spec : Parts). AsksScript spec script (ScriptAnswers text spec)) (TellsFlight text)
+    specification_reads c.args.named.specification.now (script ∷ []) (λ (spec : Parts). AsksScript spec script (ScriptAnswers text spec)) (GivesFlight text)
     c.in-Ok.spec _ _ _ c.read_script.result c.in-Ok.ensures.loads c.load.ensures.steady (c.read_script.ensures text)
 
 pub returns-in-Err : goal.returns-in-Err

@@ -1,7 +1,7 @@
 use Rattle.std.proofs.Common.{[]}
 use Rattle.form_base.proofs.Reading.{settled}
 use Rattle.coverage_check.specs.Missions.{mission_of}
-use Rattle.flight_forms.specs.Answers.{ScriptAnswers, TellsFlight}
+use Rattle.flight_forms.specs.Answers.{ScriptAnswers, GivesFlight}
 use Rattle.flight_forms.specs.Missions.{UnlessRefused, mission_refusal}
 use Rattle.flight_forms.proofs.FileReading.{script_reads, script_unread}
 use Rattle.flight_forms.proofs.MissionReading.{mission_settles}
@@ -11,9 +11,9 @@ pub returns-in-Ok : goal.returns-in-Ok
 returns-in-Ok g c = λ text.
     let spec = c.args.spec in
     let script = c.in-Ok.script in
-    script_reads spec c.args.script.now [] (ScriptAnswers text spec) (TellsFlight text) script _ _ _ c.make_mission.result c.in-Ok.ensures.loads c.load.ensures.steady
-    (settled (UnlessRefused (mission_refusal spec script) (TellsFlight text (mission_of spec script))) (TellsFlight text) _ c.make_mission.result (g.met.F.Files.steady_below _)
-    (mission_settles spec script (TellsFlight text) c.make_mission.result c.make_mission.ensures))
+    script_reads spec c.args.script.now [] (ScriptAnswers text spec) (GivesFlight text) script _ _ _ c.make_mission.result c.in-Ok.ensures.loads c.load.ensures.steady
+    (settled (UnlessRefused (mission_refusal spec script) (GivesFlight text (mission_of spec script))) (GivesFlight text) _ c.make_mission.result (g.met.F.Files.steady_below _)
+    (mission_settles spec script (GivesFlight text) c.make_mission.result c.make_mission.ensures))
 
 pub returns-in-Err : goal.returns-in-Err
 returns-in-Err g c = λ text.

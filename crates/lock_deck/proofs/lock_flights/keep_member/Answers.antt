@@ -7,4 +7,4 @@ use Rattle.lock_deck.proofs.lock_flights.keep_member.Goals as goal
 pub returns-in-Some-clause-fits : goal.returns-in-Some-clause-fits
 returns-in-Some-clause-fits g c = λ mission one all.
     let some : c.args.member ≡ Some c.in-Some.member = search rules in
-    rw c.push_reserved.ensures.items (kept (MemberFits mission) c.args.back.now.items c.args.member c.in-Some.member some one all)
+    rw c.push_reserved.ensures.items (kept (MemberFits mission) c.args.kept.now.items c.args.member c.in-Some.member some one all)

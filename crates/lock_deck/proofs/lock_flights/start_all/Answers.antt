@@ -11,6 +11,6 @@ loop-member-preserved g c =
     let fits = c.in-Some.ensures.fits c.args.flight.mission.now c.loop-member.invariant.waiting in
     record {
       waiting = c.in-Some.ensures.rest c.args.flight.mission.now c.loop-member.invariant.waiting;
-      back = c.keep_member.ensures.fits c.args.flight.mission.now (kept_same (MemberFits c.args.flight.mission.now) c.start.result c.in-Some.member c.start.ensures fits) c.loop-member.invariant.back;
+      kept = c.keep_member.ensures.fits c.args.flight.mission.now (kept_same (MemberFits c.args.flight.mission.now) c.start.result c.in-Some.member c.start.ensures fits) c.loop-member.invariant.kept;
       room = omega (arith, c.in-Some.ensures.fewer, c.keep_member.ensures.more, c.keep_member.ensures.room, c.loop-member.invariant.room);
     }

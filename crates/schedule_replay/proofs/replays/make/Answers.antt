@@ -1,7 +1,7 @@
 use Rattle.std.proofs.Common.{◌++◌, ◌∷◌, ◌∙◌, [], ℕ, List, Some, ap, subst, sym, take}
 use Rattle.std.specs.Prelude.{slice_get}
 use Rattle.bank_words.specs.declared.events.Event.{Event}
-use Rattle.event_core.specs.Cores.{core_places, core_words, flown}
+use Rattle.event_core.specs.Cores.{core_places, core_words, core_flight}
 use Rattle.event_core.specs.Replays.{IsReplay}
 use Rattle.fail_stop.specs.Events.{next_of_actor}
 use Rattle.event_core.proofs.Following.{fly_on}
@@ -15,9 +15,9 @@ returns-in-Err-clause-refused g c = λ list before there.
     record {
       at = core_places core;
       words = core_words core;
-      before = subst (λ (events : List Event). IsReplay (flown core) events (core_places core) (core_words core)) (sym (ap (λ (n : ℕ). take n list) count ∙ before)) c.events_made-index.ensures.schedule;
+      before = subst (λ (events : List Event). IsReplay (core_flight core) events (core_places core) (core_words core)) (sym (ap (λ (n : ℕ). take n list) count ∙ before)) c.events_made-index.ensures.schedule;
       there = ap (λ (n : ℕ). slice_get list n) count ∙ there ∙ ap (λ (e : Event). Some e) (sym refused.1);
-      next_is = refused.2 ∙ ap (λ (e : Event). next_of_actor (flown core) (core_places core) (core_words core) e) (sym refused.1);
+      next_is = refused.2 ∙ ap (λ (e : Event). next_of_actor (core_flight core) (core_places core) (core_words core) e) (sym refused.1);
       not_next = λ same. refused.0 (sym refused.2 ∙ same ∙ ap (λ (e : Event). Some e) refused.1);
     }
 

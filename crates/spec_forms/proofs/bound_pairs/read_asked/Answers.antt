@@ -5,14 +5,14 @@ use Rattle.form_base.specs.Answers.{Gives, WithoutFiles}
 use Rattle.form_base.proofs.Reading.{settled}
 use Rattle.form_base.proofs.SpecReading.{specification_reads, specification_unread}
 use Rattle.spec_forms.specs.Answers.{bounds_answer}
-use Rattle.spec_forms.specs.Asked.{TellsBounds}
+use Rattle.spec_forms.specs.Asked.{GivesBounds}
 use Rattle.spec_forms.proofs.bound_pairs.read_asked.Goals as goal
 
 pub returns-in-Ok-clause-reads : goal.returns-in-Ok-clause-reads
 returns-in-Ok-clause-reads g c =
-    specification_reads c.args.specification.now [] (λ (spec : Parts). WithoutFiles (Gives (bounds_answer spec (state_refusal spec)))) TellsBounds
+    specification_reads c.args.specification.now [] (λ (spec : Parts). WithoutFiles (Gives (bounds_answer spec (state_refusal spec)))) GivesBounds
     c.in-Ok.spec _ _ _ c.find_bounds.result c.in-Ok.ensures.loads c.load.ensures.steady
-    (settled (Gives (bounds_answer c.in-Ok.spec (state_refusal c.in-Ok.spec))) TellsBounds _ c.find_bounds.result (g.met.F.Files.steady_below _) c.find_bounds.ensures.prepares)
+    (settled (Gives (bounds_answer c.in-Ok.spec (state_refusal c.in-Ok.spec))) GivesBounds _ c.find_bounds.result (g.met.F.Files.steady_below _) c.find_bounds.ensures.prepares)
 
 pub returns-in-Err-clause-reads : goal.returns-in-Err-clause-reads
 returns-in-Err-clause-reads g c =

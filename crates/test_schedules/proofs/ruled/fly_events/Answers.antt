@@ -1,6 +1,6 @@
 use Rattle.std.proofs.Common.{rules, ◌+◌, ◌∙◌, ap, length, refl, sym}
 use Rattle.std.proofs.lemmas.List.{length-append}
-use Rattle.event_core.specs.Cores.{core_places, core_words, flown}
+use Rattle.event_core.specs.Cores.{core_places, core_words, core_flight}
 use Rattle.test_schedules.proofs.Ruling.{ruled_on, ruled_opening}
 use Rattle.test_schedules.proofs.ruled.fly_events.Goals as goal
 
@@ -11,7 +11,7 @@ pub loop-event-init : goal.loop-event-init
 loop-event-init g c = record {
   spec = refl;
   script = refl;
-  ruled = ruled_opening (flown c.args.core) c.args.rule c.args.core.history (core_places c.args.core) (core_words c.args.core) _ c.requires.opened (search rules) (search rules);
+  ruled = ruled_opening (core_flight c.args.core) c.args.rule c.args.core.history (core_places c.args.core) (core_words c.args.core) _ c.requires.opened (search rules) (search rules);
   count = ap length c.requires.opened;
   fits = c.requires.fits;
 }

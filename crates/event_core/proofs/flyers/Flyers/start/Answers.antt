@@ -1,13 +1,13 @@
 use Rattle.std.proofs.Common.{rules, ◌≡◌, refl}
 use Rattle.bank_words.specs.declared.events.Event.TheVariants.{Start}
-use Rattle.event_core.specs.Cores.{core_places, core_words, flown}
+use Rattle.event_core.specs.Cores.{core_places, core_words, core_flight}
 use Rattle.event_core.proofs.Following.{flyer_begun, flyers_turn}
 use Rattle.event_core.proofs.flyers.Flyers.start.Goals as goal
 
 pub returns : goal.returns
 returns g c =
     let place : c.from.result ≡ c.args.p.0 = search rules in
-    let m = flown c.args.core.now in
+    let m = core_flight c.args.core.now in
     let few = c.requires.few in
     record {
       fits = record {
