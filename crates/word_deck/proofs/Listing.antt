@@ -12,7 +12,7 @@ use Rattle.word_table.specs.declared.tables.WordTable.{WordTable}
 use Rattle.word_table.specs.Tables.{IsSeatOf, proc_of, seat_place}
 use Rattle.word_deck.specs.declared.crews.Crew.{Crew}
 use Rattle.word_deck.specs.Crews.{IsCrewOf}
-use Rattle.word_deck.specs.Flights.{AllCrewsFit, AreLanded, AreOpen, numbers_in}
+use Rattle.word_deck.specs.Flights.{AreCrewsOf, AreLanded, AreOpen, numbers_in}
 use Rattle.word_deck.specs.Landing.{IsLanded}
 
 -- each item has this fact at its index
@@ -66,15 +66,15 @@ module _ {X : Type 0} {Y : X → Type 0} where
 -- crews that fly in the caller's turns
 
 module _ {X : Type 0} {Y : X → Type 0} (words : WordTable) where
-  pub crews_none : (own : List (Crew X Y)) → length own ≡ 0 → AllCrewsFit words own
+  pub crews_none : (own : List (Crew X Y)) → length own ≡ 0 → AreCrewsOf words own
   crews_none own none = λ k d low. absurd (omega (arith, none, low))
 
-  pub crews_more : (own all : List (Crew X Y)) (crew : Crew X Y) → AllCrewsFit words own → IsCrewOf words crew → all ≡ own ++ crew ∷ [] → AllCrewsFit words all
+  pub crews_more : (own all : List (Crew X Y)) (crew : Crew X Y) → AreCrewsOf words own → IsCrewOf words crew → all ≡ own ++ crew ∷ [] → AreCrewsOf words all
   crews_more own all crew are fits same =
-      subst (AllCrewsFit words) (sym same) (All-append (λ (c : Crew X Y). IsCrewOf words c) own (crew ∷ []) are (all_one (λ (c : Crew X Y). IsCrewOf words c) crew fits))
+      subst (AreCrewsOf words) (sym same) (All-append (λ (c : Crew X Y). IsCrewOf words c) own (crew ∷ []) are (all_one (λ (c : Crew X Y). IsCrewOf words c) crew fits))
 
-  pub crews_less : (xs ys : List (Crew X Y)) (o : Option (Crew X Y)) (crew : Crew X Y) → xs ≡ ys ++ option_to_list o → o ≡ Some crew → AllCrewsFit words xs
-      → AllCrewsFit words ys × IsCrewOf words crew
+  pub crews_less : (xs ys : List (Crew X Y)) (o : Option (Crew X Y)) (crew : Crew X Y) → xs ≡ ys ++ option_to_list o → o ≡ Some crew → AreCrewsOf words xs
+      → AreCrewsOf words ys × IsCrewOf words crew
   crews_less xs ys o crew all is are =
       let both = All-pop (λ (c : Crew X Y). IsCrewOf words c) xs ys (Some crew) (popped xs ys o crew all is) are in (both.0, both.1)
 

@@ -23,8 +23,8 @@ AreAtTable words seats = (p : ℕ) (seat : Seat) → slice_get seats p ≡ Some 
     × (proc_of seat ≡ p) × (seat_place seat ≡ At 0 0)
 
 -- Each crew belongs to the table and is between two turns.
-abbrev pub AllCrewsFit : {X : Type 0} {Y : X → Type 0} → WordTable → List (Crew X Y) → Type 0
-AllCrewsFit {X = X} {Y = Y} words crews = All (λ (crew : Crew X Y). IsCrewOf words crew) crews
+abbrev pub AreCrewsOf : {X : Type 0} {Y : X → Type 0} → WordTable → List (Crew X Y) → Type 0
+AreCrewsOf {X = X} {Y = Y} words crews = All (λ (crew : Crew X Y). IsCrewOf words crew) crews
 
 -- The numbers of the processors of these crews.
 abbrev pub numbers_in : {X : Type 0} {Y : X → Type 0} → List (Crew X Y) → List ℕ

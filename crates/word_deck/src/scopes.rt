@@ -4,7 +4,7 @@ ghost use Rattle.std.specs.Prelude.{ℕ, List, ◌≡◌, ◌≤◌, ◌<◌, �
 ghost use Rattle.fail_stop.specs.Events.{At};
 ghost use Rattle.word_table.specs.Tables.{IsSeatOf, mission_in, proc_of, seat_place};
 ghost use Rattle.word_deck.specs.Landing.{IsLanded};
-ghost use Rattle.word_deck.specs.Flights.{AllCrewsFit, AreLanded, AreOpen, IsBoarded, IsBoardedLast, numbers_boarded, numbers_in};
+ghost use Rattle.word_deck.specs.Flights.{AreCrewsOf, AreLanded, AreOpen, IsBoarded, IsBoardedLast, numbers_boarded, numbers_in};
 
 use crate::crews::Crew;
 use crate::kernel_actors::KernelActor;
@@ -105,7 +105,7 @@ fn fly_rest<'s, E, K: KernelActor, R: Threads + Wait + Sync>(
     requires kernel { K.mission_of kernel ≡ shared.now.mission.now }
     requires seated { K.seated shared.now.resources.now.words kernel }
     requires waiting { AreOpen shared.now.resources.now.words roster.old.waiting.items }
-    requires own { AllCrewsFit shared.now.resources.now.words roster.old.own.items }
+    requires own { AreCrewsOf shared.now.resources.now.words roster.old.own.items }
     requires landed { vec_len roster.old.landed ≡ 0 }
     requires own_room { vec_len roster.old.own + vec_len roster.old.waiting ≤ vec_capacity roster.old.own }
     requires room { vec_len roster.old.waiting ≤ vec_capacity roster.old.landed }
@@ -113,7 +113,7 @@ fn fly_rest<'s, E, K: KernelActor, R: Threads + Wait + Sync>(
     ensures seated { K.seated shared.now.resources.now.words result }
     ensures done { K.done shared.now.resources.now.words result }
     ensures lent { K.lent result ≡ K.lent kernel }
-    ensures own { AllCrewsFit shared.now.resources.now.words roster.new.own.items }
+    ensures own { AreCrewsOf shared.now.resources.now.words roster.new.own.items }
     ensures numbers { numbers_in roster.new.own.items ≡ numbers_in roster.old.own.items }
     ensures seats { AreLanded shared.now.resources.now.words roster.new.landed.items }
     ensures count { vec_len roster.new.landed ≡ vec_len roster.old.waiting }
@@ -152,10 +152,10 @@ fn land_boarded<R: Threads + Wait>(
     requires seat { IsSeatOf site.now.words.now was.value }
     requires opening { seat_place was.value ≡ At 0 0 }
     requires boarded { IsBoarded site.now.words.now was.value boarding }
-    requires own { AllCrewsFit site.now.words.now own.old.items }
+    requires own { AreCrewsOf site.now.words.now own.old.items }
     requires last { IsBoardedLast boarding (proc_of was.value) (numbers_in own.old.items) }
     ensures landed { IsLanded site.now.words.now (proc_of was.value) result }
-    ensures own { AllCrewsFit site.now.words.now own.new.items }
+    ensures own { AreCrewsOf site.now.words.now own.new.items }
     ensures numbers { (front : List ℕ) → numbers_in own.old.items ≡ numbers_boarded boarding (proc_of was.value) front → numbers_in own.new.items ≡ front }
 {
     match boarding {
@@ -182,12 +182,12 @@ fn fly_kernel<K: KernelActor, R: Wait>(
     requires mission { mission_in shared.now.resources.now.words ≡ shared.now.mission.now }
     requires kernel { K.mission_of kernel ≡ shared.now.mission.now }
     requires seated { K.seated shared.now.resources.now.words kernel }
-    requires own { AllCrewsFit shared.now.resources.now.words own.old.items }
+    requires own { AreCrewsOf shared.now.resources.now.words own.old.items }
     ensures mission { K.mission_of result ≡ shared.now.mission.now }
     ensures seated { K.seated shared.now.resources.now.words result }
     ensures done { K.done shared.now.resources.now.words result }
     ensures lent { K.lent result ≡ K.lent kernel }
-    ensures own { AllCrewsFit shared.now.resources.now.words own.new.items }
+    ensures own { AreCrewsOf shared.now.resources.now.words own.new.items }
     ensures numbers { numbers_in own.new.items ≡ numbers_in own.old.items }
 {
     let words = &shared.resources.words;
@@ -209,8 +209,8 @@ fn fly_kernel<K: KernelActor, R: Wait>(
 // Makes one turn of each of these processors.
 fn turn_all(mission: &Mission, words: &WordTable, own: &mut Vec<Crew>)
     requires mission { mission_in words.now ≡ mission.now }
-    requires own { AllCrewsFit words.now own.old.items }
-    ensures own { AllCrewsFit words.now own.new.items }
+    requires own { AreCrewsOf words.now own.old.items }
+    ensures own { AreCrewsOf words.now own.new.items }
     ensures numbers { numbers_in own.new.items ≡ numbers_in own.old.items }
 {
     for i in 0..own.len() {
@@ -230,10 +230,10 @@ fn board<'s, E, R: Threads + Wait + Sync>(
     requires mission { mission_in site.now.words.now ≡ site.now.mission.now }
     requires seat { IsSeatOf site.now.words.now seat }
     requires opening { seat_place seat ≡ At 0 0 }
-    requires own { AllCrewsFit site.now.words.now own.old.items }
+    requires own { AreCrewsOf site.now.words.now own.old.items }
     requires room { vec_len own.old < vec_capacity own.old }
     ensures boarded { IsBoarded site.now.words.now seat result }
-    ensures own { AllCrewsFit site.now.words.now own.new.items }
+    ensures own { AreCrewsOf site.now.words.now own.new.items }
     ensures numbers { numbers_in own.new.items ≡ numbers_boarded result (proc_of seat) (numbers_in own.old.items) }
     ensures capacity { vec_capacity own.new ≡ vec_capacity own.old }
     ensures len { vec_len own.new ≤ vec_len own.old + 1 }
