@@ -9,7 +9,7 @@ use scram_types::World;
 use scram_types::numbers::{gap, sum};
 use scram_types::ranges::{clamped_in, make_range};
 
-/// A world and the surfaces that act on it, in tenths of a degree.
+/// A world and the positions of the surfaces that act on it, in tenths of a degree.
 #[derive(Clone, Copy)]
 struct Motion {
     world: World,
@@ -127,9 +127,10 @@ fn fly(motion: &Motion) -> World
     next_world(motion)
 }
 
-/// Returns the world of the next frame, whose numbers lie in their ranges. The surfaces are in tenths of a degree and
-/// are clamped to -300 to 300. Altitude (feet, 0 to 40,000), climb (tenths of a foot per frame, -300 to 300), heading
-/// (tenths of a degree, 0 to 3,599) and bank (tenths of a degree, -300 to 300) are clamped to their ranges.
+/// Returns the world of the next frame, in which every number lies in its range. The surfaces are in tenths of a
+/// degree and are clamped to -300 to 300. Altitude (feet, 0 to 40,000), climb (tenths of a foot per frame, -300 to
+/// 300), heading (tenths of a degree, 0 to 3,599) and bank (tenths of a degree, -300 to 300) are clamped to their
+/// ranges.
 ///
 /// The climb goes a quarter of the way to the elevator, and the bank half of the way to the aileron. The altitude gains
 /// a tenth of the new climb, and the heading turns by a tenth of the new bank, around the circle.

@@ -1,4 +1,4 @@
--- The areas of the laws lie in the tables' ranges.
+-- The areas that the laws give lie in the ranges of the tables.
 use Rattle.std.proofs.Common.{◌≡◌, refl, sym, subst, ℕ, zero, suc, ℤ, pos, ◌<◌, ◌+◌, ◌-◌, ◌==◌, eq-eqb, Bool, true, false, if◌then◌else◌, arith}
 use Rattle.std.specs.Prelude.{List}
 use Rattle.std.proofs.lemmas.Int.{ints}
@@ -20,7 +20,7 @@ use Rattle.app_model.proofs.Within.{Within, each, each_kind, in_choice, in_eithe
 use Rattle.app_model.proofs.Tables.{wider, init_narrows, during_is, after_init_is, status_stays}
 use Rattle.app_model.proofs.Runs.{ran_within, ran_status}
 
--- the orders but `Run`
+-- Lemmas on the orders other than `Run`.
 kept_within : (kind : ℕ) (status : ℤ) (seen : Seen) → Within (mode_range kind seen.mode.0) (kept_area kind status seen)
 unfolding kept_area word
 kept_within kind status seen = let at = in_own kind seen in
@@ -35,7 +35,7 @@ unfolding halted word
 halted_within kind left seen = let at = in_halted kind left seen in
     each (λ i. IsInRange (mode_range kind seen.mode.0 i) (word (halted kind left seen) i)) (at 1) (at 2) (at 3) (at 4) (at 5) (at 6) (at 7)
 
--- the ranges after a halt
+-- The range of word `i` after the last frame of a halt phase.
 abbrev rest : ℕ → ℕ → ℕ → Range
 rest kind mode i = if is_moving kind i then limit 0 0 else mode_range kind mode i
 
@@ -53,7 +53,7 @@ unfolding initialised word initialised_word initialised_range altitude heading k
 autopilot_begins seen = each (λ i. IsInRange (initialised_range 0 seen.mode.0 i) (word (initialised 0 seen) i))
     (in_clamp _ _) (in_clamp _ _) (in_clamp _ _) (in_clamp _ _) (in_clamp _ _) (in_clamp _ _) (in_clamp _ _)
 
--- at every kind but the autopilot each word is clamped
+-- For every kind other than the autopilot, each word is clamped at the end of an init phase.
 in_initialised : (kind : ℕ) (seen : Seen) (i : ℕ) → (kind == 0) ≡ false → IsInRange (initialised_range kind seen.mode.0 i) (initialised_word kind seen i)
 unfolding initialised_word
 in_initialised kind seen i e = rw e (in_clamp _ _)
@@ -76,7 +76,7 @@ unfolding word initialised kept_area
 initialising_status kind true seen = refl
 initialising_status kind false seen = refl
 
--- an area whose status and whose other words lie in ranges
+-- Lemmas on areas whose status and whose other words lie in ranges.
 between : (r : Range) (x : ℤ) → IsInRange r x → Between (ends r) x
 between r x p = record { least = p.least; greatest = p.greatest }
 
@@ -136,7 +136,7 @@ pub law_lies_after_init : LawLiesAfterInit
 unfolding initialised word
 law_lies_after_init kind j n seen k e = rw (eq-eqb (j + 1) n e) (lies_after_init kind seen.mode.0 (initialised kind seen) refl (initialised_within kind k seen))
 
--- the areas that applications begin with
+-- Lemmas on the areas that applications begin with.
 start_within : (kind : ℕ) → kind < 6 → (mode : ℕ) → Within (initialised_range kind mode) (start_of kind)
 unfolding word initialised_range mode_range kind_variable
 start_within = each_kind (λ kind. (mode : ℕ) → Within (initialised_range kind mode) (start_of kind))

@@ -13,7 +13,7 @@ use Rattle.app_model.specs.Orders.{halted, initialised, kept_area}
 use Rattle.app_model.specs.PowerMonitor.{power_monitor_ran}
 use Rattle.app_model.specs.Tasks.{task_ran}
 
--- of two lists of eight words one is chosen
+-- If two lists have eight words, the list that a test chooses has eight words.
 pub either_eight : (x y : List ℤ) (b : Bool) → length x ≡ 8 → length y ≡ 8 → length (if b then x else y) ≡ 8
 either_eight x y true is_x is_y = is_x
 either_eight x y false is_x is_y = is_y

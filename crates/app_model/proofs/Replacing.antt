@@ -1,4 +1,4 @@
--- If one element of a list is replaced, the others stay as they were.
+-- If one element of a list is replaced, the other elements do not change.
 use Rattle.std.proofs.Common.{◌≡◌, ◌∙◌, refl, ap, ℕ, zero, suc, List, [], ◌∷◌, slice_set}
 use Rattle.std.specs.Prelude.{slice_get}
 use Rattle.app_model.specs.Racks.{OthersStay}

@@ -1,4 +1,4 @@
--- The area after a run of each kind lies in the ranges of its mode.
+-- The area after a run of an application of any kind lies in the ranges of its mode.
 use Rattle.std.proofs.Common.{◌≡◌, refl, ℕ, ℤ, pos, ◌+ℤ◌, ◌-ℤ◌, ◌≤ℤ◌, ◌<◌, ◌==◌, if◌then◌else◌, arith}
 use Rattle.std.proofs.lemmas.Int.{ints, clamps}
 use Rattle.app_model.specs.declared.seen.Seen.{Seen}
@@ -128,7 +128,7 @@ task_within seen = each (λ i. IsInRange (mode_range 5 seen.mode.0 i) (word (tas
 pub ran_within : (kind : ℕ) → kind < 6 → (seen : Seen) → Within (mode_range kind seen.mode.0) (ran kind seen)
 ran_within = each_kind (λ kind. (seen : Seen) → Within (mode_range kind seen.mode.0) (ran kind seen)) autopilot_within flight_control_within power_monitor_within navigator_within data_link_within task_within
 
--- an application that ran has status 1
+-- An application that ran has status 1.
 pub ran_status : (kind : ℕ) → kind < 6 → (seen : Seen) → word (ran kind seen) 0 ≡ pos 1
 unfolding word autopilot_ran flight_control_ran power_monitor_ran navigator_ran data_link_ran task_ran
 ran_status = each_kind (λ kind. (seen : Seen) → word (ran kind seen) 0 ≡ pos 1) (λ seen. refl) (λ seen. refl) (λ seen. refl) (λ seen. refl) (λ seen. refl) (λ seen. refl)

@@ -1,4 +1,4 @@
--- Names and numbers agree in a table in which no name occurs twice.
+-- In a table in which no name occurs twice, the look-ups of names and numbers agree.
 use Rattle.std.proofs.Common.{◌≡◌, ◌∙◌, refl, ap, subst, ℕ, zero, suc, ◌+◌, ◌<◌, ◌≤◌, length, Bool, true, false, ◌&&◌, ◌||◌, not, if◌then◌else◌, List, [], ◌∷◌, Option, Some, None, IsSome, arith}
 use Rattle.std.specs.Prelude.{codes}
 use Rattle.std.specs.Str.{bytes_eq}
@@ -10,7 +10,7 @@ use Rattle.scram_types.proofs.Booleans.{and_right}
 use Rattle.scram_types.proofs.Equality.{same_text}
 use Rattle.app_model.proofs.Within.{each_kind}
 
--- a text occurs in a table
+-- The text is a name of the table.
 abbrev stands : List (Option (List ℕ)) → List ℕ → Bool
 stands [] text = false
 stands (name ∷ names) text = is_spelled name text || stands names text
@@ -19,7 +19,7 @@ abbrev is_new : Option (List ℕ) → List (Option (List ℕ)) → Bool
 is_new None names = true
 is_new (Some name) names = not (stands names name)
 
--- no name occurs twice
+-- No name of the table occurs twice.
 abbrev differ : List (Option (List ℕ)) → Bool
 differ [] = true
 differ (name ∷ names) = is_new name names && differ names
@@ -97,7 +97,7 @@ agree names d = record {
       subst (λ (i : ℕ). name_in names i ≡ Some text) same found.there;
 }
 
--- a number that is found is one of the table's places
+-- The number `m` is that of an entry of the table, whose first entry has number `n`.
 pub record Counted (n m : ℕ) (names : List (Option (List ℕ))) : Type 0 where
   pub first : n ≤ m
   pub last : m < n + length names

@@ -1,4 +1,4 @@
--- One table of ranges within another.
+-- The ranges of one table lie within the ranges of another.
 use Rattle.std.proofs.Common.{◌≡◌, ◌≤◌, ℕ, zero, suc, ℤ, pos, ◌<◌, ◌==◌, Bool, true, false, if◌then◌else◌, arith, refl}
 use Rattle.std.proofs.lemmas.Int.{ints}
 use Rattle.scram_types.specs.declared.ranges.Range.{Range}
@@ -38,7 +38,7 @@ zeros r = record { below = omega arith; above = omega arith }
 pub wider : (r s : Range) (x : ℤ) → Narrower r s → IsInRange r x → IsInRange s x
 wider r s x n p = record { least = omega (arith, ints, p.least, n.below); greatest = omega (arith, ints, p.greatest, n.above) }
 
--- the ranges after an init phase
+-- The ranges of a kind after an init phase lie in its ranges in the same mode.
 abbrev pub InitNarrows : ℕ → Type 0
 InitNarrows kind = (mode i : ℕ) → 0 < i → i < 8 → Narrower (initialised_range kind mode i) (mode_range kind mode i)
 
@@ -77,7 +77,7 @@ task_init mode = each (λ i. Narrower (initialised_range 5 mode i) (mode_range 5
 pub init_narrows : (kind : ℕ) → kind < 6 → InitNarrows kind
 init_narrows = each_kind InitNarrows autopilot_init flight_control_init power_monitor_init navigator_init data_link_init task_init
 
--- the widest of the modes' ranges
+-- The range of each word in any mode lies in its range in the widest mode of the kind.
 abbrev WidestHolds : ℕ → Type 0
 WidestHolds kind = (mode i : ℕ) → 0 < i → i < 8 → Narrower (mode_range kind mode i) (mode_range kind (widest_mode kind) i)
 
@@ -124,7 +124,7 @@ task_widest mode = each (λ i. Narrower (mode_range 5 mode i) (mode_range 5 (wid
 widest_holds : (kind : ℕ) → kind < 6 → WidestHolds kind
 widest_holds = each_kind WidestHolds autopilot_widest flight_control_widest power_monitor_widest navigator_widest data_link_widest task_widest
 
--- the same for minima and maxima
+-- If one range is narrower than another, the minimum and the maximum of the one lie within those of the other.
 inside : (r s : Range) → Narrower r s → Inside (ends r) (ends s)
 inside r s n = record { least = omega (arith, ints, n.below); greatest = omega (arith, ints, n.above) }
 
@@ -147,7 +147,7 @@ sane_is : (kind i : ℕ) → 0 < i → i < 8 → sane kind i ≡ ends (mode_rang
 unfolding sane sane_range
 sane_is kind = each (λ i. sane kind i ≡ ends (mode_range kind (widest_mode kind) i)) refl refl refl refl refl refl refl
 
--- the status does not move
+-- A halt does not move the status.
 pub status_stays : (kind : ℕ) → kind < 6 → is_moving kind 0 ≡ false
 unfolding is_moving kind_variable
 status_stays = each_kind (λ kind. is_moving kind 0 ≡ false) refl refl refl refl refl refl

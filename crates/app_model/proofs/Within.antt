@@ -1,4 +1,4 @@
--- Numbers and areas within ranges.
+-- Lemmas on numbers and areas within ranges.
 use Rattle.std.proofs.Common.{◌≡◌, ◌≤◌, ℕ, zero, suc, ℤ, pos, negsuc, ◌+ℤ◌, ◌*ℤ◌, ◌<◌, ◌+◌, ◌*◌, Bool, true, false, if◌then◌else◌, arith}
 use Rattle.std.specs.Prelude.{List}
 use Rattle.std.proofs.lemmas.Int.{ints, clamps}
@@ -12,7 +12,7 @@ use Rattle.app_model.specs.Ranges.{mode_range}
 use Rattle.app_model.specs.Reads.{own_word, ticks_after}
 use Rattle.app_model.specs.Orders.{faded}
 
--- each word but the status lies in its range
+-- Each word of the area except the status lies in its range.
 abbrev pub Within : (ℕ → Range) → List ℤ → Type 0
 Within range area = (i : ℕ) → 0 < i → i < 8 → IsInRange (range i) (word area i)
 

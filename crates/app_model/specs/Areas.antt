@@ -1,4 +1,4 @@
--- The ranges of the words in the areas that the laws give.
+-- The ranges in which the words of the areas given by the laws lie.
 use Rattle.std.specs.Prelude.{ℕ, ℤ, ◌≤ℤ◌, ◌<◌, ◌≤◌, ◌+◌, ◌≡◌, List, Option, Some, None}
 use Rattle.scram_types.specs.declared.orders.Order.{Order}
 use Rattle.scram_types.specs.declared.orders.Order.TheVariants.{Run, Hold, Halt, Prepare, Init, Off}
@@ -8,16 +8,16 @@ use Rattle.app_model.specs.Bounds.{during, after_halt, after_init, sane}
 use Rattle.app_model.specs.Law.{law}
 use Rattle.app_model.specs.Starts.{start_of}
 
--- Number `x` lies in a range, both ends included.
+-- The number `x` lies in the range, both ends included.
 pub record Between (range : ℤ × ℤ) (x : ℤ) : Type 0 where
   pub least : range.0 ≤ℤ x
   pub greatest : x ≤ℤ range.1
 
--- Each word of an area lies in its range.
+-- Each word of the area lies in its range.
 abbrev pub AreaLies : (ℕ → ℤ × ℤ) → List ℤ → Type 0
 AreaLies range area = (i : ℕ) → i < 8 → Between (range i) (word area i)
 
--- The status that an order leaves, or `None` if the area stays as it was or becomes zeros.
+-- The status that an order leaves in an area, or `None` if the order leaves the area unchanged or sets it to zeros.
 abbrev pub status_of : Order → Option ℕ
 status_of Run = Some 1
 status_of (Halt k n) = Some 2
@@ -26,33 +26,33 @@ status_of (Prepare k n) = Some 3
 status_of (Init k n) = Some 4
 status_of Off = None
 
--- For every kind, order and mode, and whatever is seen, the area that the law gives lies in the ranges of the status
--- that the order leaves.
+-- For every kind, order and mode, and whatever the application sees, the area that the law gives lies in the ranges
+-- of the status that the order leaves.
 abbrev pub LawLiesDuring : Type 0
 LawLiesDuring = (kind status : ℕ) (order : Order) (seen : Seen) → kind < 6 → status_of order ≡ Some status
     → AreaLies (during kind status seen.mode.0) (law kind order seen)
 
--- The last frame of a halt phase leaves an area that lies in the ranges after a halt.
+-- After the last frame of a halt phase the area lies in the ranges after a halt.
 abbrev pub LawLiesAfterHalt : Type 0
 LawLiesAfterHalt = (kind k n : ℕ) (seen : Seen) → kind < 6 → k + 1 ≡ n
     → AreaLies (after_halt kind seen.mode.0) (law kind (Halt k n) seen)
 
--- The last frame of an init phase leaves an area that lies in the ranges after an init phase.
+-- After the last frame of an init phase the area lies in the ranges after an init phase.
 abbrev pub LawLiesAfterInit : Type 0
 LawLiesAfterInit = (kind k n : ℕ) (seen : Seen) → kind < 6 → k + 1 ≡ n
     → AreaLies (after_init kind seen.mode.0) (law kind (Init k n) seen)
 
--- The area that an application begins with lies in the ranges after an init phase, in every mode.
+-- In every mode the area that an application begins with lies in the ranges after an init phase.
 abbrev pub StartLiesAfterInit : Type 0
 StartLiesAfterInit = (kind mode : ℕ) → kind < 6 → AreaLies (after_init kind mode) (start_of kind)
 
--- One range lies in another.
+-- The range `inner` lies in the range `outer`.
 pub record Inside (inner outer : ℤ × ℤ) : Type 0 where
   pub least : outer.0 ≤ℤ inner.0
   pub greatest : inner.1 ≤ℤ outer.1
 
--- The ranges after a halt and after an init phase lie in those of the phase, and the sane range contains those of every
--- status in every mode.
+-- The ranges of word `i` after a halt and after an init phase lie in the range during that phase, and the sane range
+-- contains the range of every status.
 pub record TablesNarrow (kind mode i : ℕ) : Type 0 where
   pub halt : Inside (after_halt kind mode i) (during kind 2 mode i)
   pub init : Inside (after_init kind mode i) (during kind 4 mode i)

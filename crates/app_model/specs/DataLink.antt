@@ -1,4 +1,4 @@
--- The data link's area after a run.
+-- The data link's area after a frame in which it ran.
 use Rattle.std.specs.Prelude.{ℕ, ℤ, pos, ◌-ℤ◌, ◌+ℤ◌, ◌==◌, List, [], ◌∷◌, if◌then◌else◌}
 use Rattle.std.specs.Int.{int_min}
 use Rattle.std.specs.Ordering.{int_eq}
@@ -11,7 +11,8 @@ use Rattle.app_model.specs.declared.kinds.navigator.TheConstants as navigator
 use Rattle.app_model.specs.declared.kinds.power_monitor.TheConstants as power_monitor
 use Rattle.app_model.specs.Reads.{own_word, lead_word, ticks_after}
 
--- The number of new messages of a kind: 1 if its status is 1, else 0.
+-- The number of new messages of kind `kind`: 1 if the status of its lowest-numbered application is 1, and 0
+-- otherwise.
 unfoldable pub fresh_of : ℕ → Seen → ℤ
 fresh_of kind seen = if int_eq (lead_word kind seen STATUS) (pos 1) then pos 1 else pos 0
 
@@ -19,11 +20,11 @@ fresh_of kind seen = if int_eq (lead_word kind seen STATUS) (pos 1) then pos 1 e
 unfoldable pub fresh : Seen → ℤ
 fresh seen = ((fresh_of autopilot.KIND seen +ℤ fresh_of flight_control.KIND seen) +ℤ fresh_of power_monitor.KIND seen) +ℤ fresh_of navigator.KIND seen
 
--- The maximum number of messages sent in a frame: 4 in `fast`, 1 in `slow`.
+-- The maximum number of messages sent in a frame: 4 in `fast`, and 1 in every other mode.
 unfoldable pub rate_after : Seen → ℤ
 rate_after seen = if seen.mode.0 == FAST then pos 4 else pos 1
 
--- The number of messages that wait before any is sent.
+-- The number of messages that wait before any message is sent.
 unfoldable pub waiting : Seen → ℤ
 waiting seen = own_word KIND seen QUEUED +ℤ fresh seen
 
@@ -35,15 +36,15 @@ going seen = int_min (rate_after seen) (waiting seen)
 unfoldable pub queued_after : Seen → ℤ
 queued_after seen = int_min (waiting seen -ℤ going seen) (pos 64)
 
--- The number of messages sent so far, counted up to a million.
+-- The number of messages sent so far, counted up to 1,000,000.
 unfoldable pub sent_after : Seen → ℤ
 sent_after seen = int_min (own_word KIND seen SENT +ℤ going seen) (pos 1000000)
 
--- The number of messages that are neither sent nor find room in the queue.
+-- The number of messages that are dropped in this frame: they are not sent and find no room in the queue.
 unfoldable pub left_over : Seen → ℤ
 left_over seen = (waiting seen -ℤ going seen) -ℤ queued_after seen
 
--- The number of messages dropped so far, counted up to a million.
+-- The number of messages dropped so far, counted up to 1,000,000.
 unfoldable pub dropped_after : Seen → ℤ
 dropped_after seen = int_min (own_word KIND seen DROPPED +ℤ left_over seen) (pos 1000000)
 

@@ -1,4 +1,4 @@
--- The flight control's area after a run.
+-- The flight control's area after a frame in which it ran.
 use Rattle.std.specs.Prelude.{ℕ, ℤ, pos, ◌-ℤ◌, ◌+ℤ◌, ◌*ℤ◌, ◌==◌, List, [], ◌∷◌, if◌then◌else◌}
 use Rattle.std.specs.Ordering.{int_eq}
 use Rattle.app_model.specs.declared.seen.Seen.{Seen}
@@ -8,21 +8,23 @@ use Rattle.app_model.specs.declared.kinds.flight_control.TheConstants.{AILERON, 
 use Rattle.scram_types.specs.Ranges.{clamp_in, limit}
 use Rattle.app_model.specs.Reads.{own_word, lead_word, ticks_after}
 
--- The autopilot's command, its pitch or its roll, or 0 if the autopilot does not run.
+-- The autopilot's command in word `i` of its area, the pitch or the roll, or 0 if the autopilot does not run.
 unfoldable pub command : Seen → ℕ → ℤ
 command seen i = if int_eq (lead_word autopilot.KIND seen STATUS) (pos 1) then lead_word autopilot.KIND seen i else pos 0
 
--- The number `x`, moved toward the target by at most `step`.
+-- The number `x`, moved toward `target` by at most `step`.
 unfoldable pub closer : ℤ → ℤ → ℕ → ℤ
 closer x target step = x +ℤ clamp_in (limit step step) (target -ℤ x)
 
--- The elevator: moved toward the pitch command in `augmented`, else twice that command.
+-- The elevator, in tenths of a degree: moved toward the pitch command in `augmented`, and twice that command in every
+-- other mode.
 unfoldable pub elevator_after : Seen → ℤ
 elevator_after seen =
     if seen.mode.0 == AUGMENTED then clamp_in (limit 100 100) (closer (own_word KIND seen ELEVATOR) (command seen autopilot.PITCH) 40)
     else pos 2 *ℤ command seen autopilot.PITCH
 
--- The aileron: moved toward the roll command in `augmented`, else twice that command.
+-- The aileron, in tenths of a degree: moved toward the roll command in `augmented`, and twice that command in every
+-- other mode.
 unfoldable pub aileron_after : Seen → ℤ
 aileron_after seen =
     if seen.mode.0 == AUGMENTED then clamp_in (limit 150 150) (closer (own_word KIND seen AILERON) (command seen autopilot.ROLL) 60)

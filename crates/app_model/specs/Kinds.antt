@@ -11,8 +11,8 @@ use Rattle.app_model.specs.declared.kinds.navigator.TheConstants.{ROUTE}
 use Rattle.app_model.specs.declared.kinds.data_link.TheConstants.{FAST}
 use Rattle.app_model.specs.declared.kinds.task.TheConstants.{FULL}
 
--- A word of a kind's area: its name, or `None` if unused, its ranges by mode, its ranges after an init phase, whether a
--- halt brings it to 0, and its start value.
+-- A word of a kind's area: its name, or `None` if the kind does not use the word, its ranges by mode, its ranges
+-- after an init phase, whether a halt brings it to 0, and the value that an application begins with.
 pub record Variable : Type 0 where
   pub name : Option (List ℕ)
   pub ranges : List Range
@@ -28,35 +28,35 @@ pub record Kind : Type 0 where
   pub widest : ℕ
   pub variables : List Variable
 
--- A variable that has a name.
+-- The variable with this name, these ranges and this start value. `moves` is `true` if a halt brings it to 0.
 abbrev pub variable : List ℕ → List Range → List Range → Bool → ℕ → Variable
 variable name ranges initialised moves start = record { name = Some name; ranges = ranges; initialised = initialised; moves = moves; start = pos start }
 
--- A variable that a halt brings to 0 and that begins with 0.
+-- The variable with this name and these ranges that a halt brings to 0 and that begins with 0.
 abbrev pub moving : List ℕ → List Range → List Range → Variable
 moving name ranges initialised = variable name ranges initialised true 0
 
--- A variable that a halt and an init phase do not change.
+-- The variable with this name, these ranges and this start value that a halt and an init phase do not change.
 abbrev pub lasting : List ℕ → List Range → ℕ → Variable
 lasting name ranges start = variable name ranges ranges false start
 
--- One range for all modes.
+-- The range from `-below` to `above` for all modes.
 abbrev pub always : ℕ → ℕ → List Range
 always below above = limit below above ∷ []
 
--- The range of 0 alone for all modes.
+-- The range that contains only 0, for all modes.
 abbrev pub at_zero : List Range
 at_zero = always 0 0
 
--- One range for mode 1 and one for mode 2.
+-- The range `first` for mode 1 and the range `second` for mode 2.
 abbrev pub by_mode : Range → Range → List Range
 by_mode first second = first ∷ second ∷ []
 
--- The names of two modes.
+-- The names by number of a kind with two modes, which are `first` for mode 1 and `second` for mode 2.
 abbrev pub two_modes : List ℕ → List ℕ → List (Option (List ℕ))
 two_modes first second = None ∷ Some first ∷ Some second ∷ []
 
--- The first variable of every kind, the application's status.
+-- The first variable of every kind: the application's status.
 abbrev pub status : Variable
 status = lasting (codes "status") (always 0 4) 4
 
@@ -64,7 +64,7 @@ status = lasting (codes "status") (always 0 4) 4
 abbrev pub ticks : Variable
 ticks = lasting (codes "ticks") (always 0 1000000) 0
 
--- A word of an area that no variable uses.
+-- The word of an area that a kind does not use.
 abbrev pub unused : Variable
 unused = record { name = None; ranges = at_zero; initialised = at_zero; moves = false; start = pos 0 }
 
@@ -86,7 +86,7 @@ autopilot = record {
       [];
 }
 
--- The kind that moves elevator and aileron as the autopilot commands.
+-- The kind that moves the elevator and the aileron as the autopilot commands.
 abbrev pub flight_control : Kind
 flight_control = record {
   name = codes "flight_control";
@@ -104,7 +104,7 @@ flight_control = record {
       [];
 }
 
--- The kind that keeps account of alternators and battery.
+-- The kind that keeps account of the alternators and the battery.
 abbrev pub power_monitor : Kind
 power_monitor = record {
   name = codes "power_monitor";
@@ -122,7 +122,7 @@ power_monitor = record {
       [];
 }
 
--- The kind that measures how far the aircraft is off its goal.
+-- The kind that measures how far the aircraft is from its goal.
 abbrev pub navigator : Kind
 navigator = record {
   name = codes "navigator";
@@ -140,7 +140,7 @@ navigator = record {
       [];
 }
 
--- The kind that sends the messages of the others.
+-- The kind that sends the messages of the other kinds.
 abbrev pub data_link : Kind
 data_link = record {
   name = codes "datalink";
@@ -158,7 +158,7 @@ data_link = record {
       [];
 }
 
--- The kind that has only a status and a count of frames.
+-- The kind that uses only a status and a count of frames.
 abbrev pub task : Kind
 task = record {
   name = codes "task";
@@ -167,33 +167,34 @@ task = record {
   variables = status ∷ unused ∷ unused ∷ unused ∷ unused ∷ unused ∷ ticks ∷ unused ∷ [];
 }
 
--- The kinds by number.
+-- The list of kinds, in the order of their numbers.
 abbrev pub kinds : List Kind
 kinds = autopilot ∷ flight_control ∷ power_monitor ∷ navigator ∷ data_link ∷ task ∷ []
 
--- The kind of this number, or `None` if there is no such kind.
+-- The kind with this number, or `None` if there is no such kind.
 abbrev pub find_kind : ℕ → Option Kind
 find_kind kind = slice_get kinds kind
 
--- The kind of this number, or the task if the number is past the last kind.
+-- The kind with this number, or the task if there is no such kind.
 abbrev pub kind_or_last : ℕ → Kind
 kind_or_last kind = slice_index_or kinds kind task
 
--- Word i of a kind's area.
+-- Word `i` of the area of a kind, or an unused word if `i` is 8 or more.
 unfoldable pub kind_variable : ℕ → ℕ → Variable
 kind_variable kind i = slice_index_or (kind_or_last kind).variables i unused
 
--- The range in a mode. Mode 0 and modes past the last one listed have the last range.
+-- The range of mode `mode` in a list of up to three ranges for modes 1, 2 and 3. Every other mode has the last range
+-- of the list.
 abbrev pub range_in : List Range → ℕ → Range
 range_in [] mode = limit 0 0
 range_in (only ∷ []) mode = only
 range_in (first ∷ (second ∷ [])) mode = if mode == 1 then first else second
 range_in (first ∷ (second ∷ (third ∷ more))) mode = if mode == 1 then first else (if mode == 2 then second else third)
 
--- A word of the code's table as plain data.
+-- A word of the table in the code, as plain data.
 abbrev pub variable_read : TableVariable → Variable
 variable_read v = record { name = option_map (λ s. s.now) v.name; ranges = v.ranges.now; initialised = v.initialised.now; moves = v.moves; start = v.start }
 
--- A kind of the code's table as plain data.
+-- A kind of the table in the code, as plain data.
 abbrev pub kind_read : TableKind → Kind
 kind_read k = record { name = k.name.now; modes = map (option_map (λ s. s.now)) k.modes.now; widest = k.widest; variables = map variable_read k.variables.now }

@@ -1,4 +1,4 @@
--- The law of each kind: the area after a frame, from the order and what the application sees.
+-- The law of each kind: the area after a frame, given the order and the view of the application.
 use Rattle.std.specs.Prelude.{ℕ, ℤ, pos, ◌-◌, ◌+◌, ◌==◌, List, [], ◌∷◌, replicate, slice_index_or}
 use Rattle.scram_types.specs.declared.orders.Order.{Order}
 use Rattle.scram_types.specs.declared.orders.Order.TheVariants.{Run, Hold, Halt, Prepare, Init, Off}
@@ -11,16 +11,17 @@ use Rattle.app_model.specs.Navigator.{navigator_ran}
 use Rattle.app_model.specs.DataLink.{data_link_ran}
 use Rattle.app_model.specs.Tasks.{task_ran}
 
--- The areas after a run, by kind.
+-- The functions that give the area after a run, in the order of the kinds' numbers.
 abbrev pub runs_of_kinds : List (Seen → List ℤ)
 runs_of_kinds = autopilot_ran ∷ flight_control_ran ∷ power_monitor_ran ∷ navigator_ran ∷ data_link_ran ∷ task_ran ∷ []
 
--- The area after a run of the kind, or of the task if the number is past the last kind.
+-- The area after a run of an application of kind `kind`, or of the task if there is no such kind.
 abbrev pub ran : ℕ → Seen → List ℤ
 ran kind seen = slice_index_or runs_of_kinds kind task_ran seen
 
--- The area of an application of the kind after a frame with an order. In frame `k` of the `n` frames of a halt, `n - k`
--- frames are left; the init phase ends if `k + 1` is `n`.
+-- The area of an application of kind `kind` after a frame with order `order`, given its view `seen`. In frame `k` of
+-- the `n` frames of a halt phase, `n - k` frames are left, including this one. Frame `k` is the last frame of an init
+-- phase if `k + 1` is `n`.
 abbrev pub law : ℕ → Order → Seen → List ℤ
 law kind Run seen = ran kind seen
 law kind (Halt k n) seen = halted kind (n - k) seen

@@ -6,20 +6,20 @@ use Rattle.std.specs.Str.{bytes_eq}
 use Rattle.scram_types.specs.Specification.{modes_of_kind}
 use Rattle.app_model.specs.Kinds.{Kind, Variable, find_kind, kinds}
 
--- The names of the kinds, by number.
+-- The table of the names of kinds.
 abbrev pub kind_names : List (Option (List ℕ))
 kind_names = map (λ (kind : Kind). Some kind.name) kinds
 
--- The names of a kind's modes, by number. Mode 0, off, has no name, and a number past the last kind has no modes.
+-- The table of the names of a kind's modes, which is empty if there is no such kind. Mode 0, off, has no name.
 abbrev pub mode_names : ℕ → List (Option (List ℕ))
 mode_names kind = option_map_or (λ (found : Kind). found.modes) (find_kind kind) []
 
--- The names of the eight words of a kind's area. An unused word has no name, and a number past the last kind has no
--- words.
+-- The table of the names of the eight words of a kind's area, which is empty if there is no such kind. An unused word
+-- has no name.
 abbrev pub variable_names : ℕ → List (Option (List ℕ))
 variable_names kind = option_map_or (λ (found : Kind). map (λ (variable : Variable). variable.name) found.variables) (find_kind kind) []
 
--- The name of a number.
+-- The name of `number` in a table, or `None` if it has no name.
 abbrev pub name_in : List (Option (List ℕ)) → ℕ → Option (List ℕ)
 name_in names number = option_and_then (λ (name : Option (List ℕ)). name) (slice_get names number)
 
@@ -27,32 +27,33 @@ name_in names number = option_and_then (λ (name : Option (List ℕ)). name) (sl
 abbrev pub mode_text : ℕ → ℕ → List ℕ
 mode_text kind mode = option_map_or (λ (name : List ℕ). name) (name_in (mode_names kind) mode) []
 
--- Whether an entry of a table is this text.
+-- The entry of a table is a name with this text.
 abbrev pub is_spelled : Option (List ℕ) → List ℕ → Bool
 is_spelled None text = false
 is_spelled (Some name) text = bytes_eq name text
 
--- The number of the first entry that is this text, if the first entry of the list has the given number.
+-- The number of the first entry with this text, or `None` if there is no such entry. The first entry of the list has
+-- number `number`.
 abbrev pub number_in_from : ℕ → List (Option (List ℕ)) → List ℕ → Option ℕ
 number_in_from number [] text = None
 number_in_from number (name ∷ names) text = if is_spelled name text then Some number else number_in_from (number + 1) names text
 
--- The first number that has this name in a table, or `None` if there is none.
+-- The first number with this name in a table, or `None` if there is no such number.
 abbrev pub number_in : List (Option (List ℕ)) → List ℕ → Option ℕ
 number_in names text = number_in_from 0 names text
 
--- Number `mode` is one of the `modes` modes, other than off, of a kind.
+-- The number `mode` is from 1 to `modes`, so it is a mode other than off of a kind with `modes` modes.
 pub record IsModeNumber (mode modes : ℕ) : Type 0 where
   pub first : 1 ≤ mode
   pub last : mode ≤ modes
 
--- The look-ups from number to name and from name to number agree.
+-- The look-ups from number to name and from name to number in the table agree.
 pub record NamesAgree (names : List (Option (List ℕ))) : Type 0 where
   pub named : (number : ℕ) (text : List ℕ) → name_in names number ≡ Some text → number_in names text ≡ Some number
   pub spelled : (number : ℕ) (text : List ℕ) → number_in names text ≡ Some number → name_in names number ≡ Some text
 
--- A kind and all its modes, and no other mode numbers, have names, the look-ups agree, and each named variable is one
--- of the eight words.
+-- The kind has a name. Each of its modes and no other number has a name as a mode, the look-ups agree, and each named
+-- variable is one of the eight words.
 pub record KindIsNamed (kind : ℕ) : Type 0 where
   pub name : IsSome (name_in kind_names kind)
   pub modes : NamesAgree (mode_names kind)
@@ -61,7 +62,7 @@ pub record KindIsNamed (kind : ℕ) : Type 0 where
   pub variables : NamesAgree (variable_names kind)
   pub variable_number : (text : List ℕ) (i : ℕ) → number_in (variable_names kind) text ≡ Some i → i < 8
 
--- The names and numbers of kinds, modes and variables agree.
+-- The look-ups of the names and numbers of all kinds, modes and variables agree, and each kind is named.
 pub record AllNamesAgree : Type 0 where
   pub kinds : NamesAgree kind_names
   pub kind_number : (text : List ℕ) (kind : ℕ) → number_in kind_names text ≡ Some kind → kind < 6

@@ -1,4 +1,4 @@
--- The navigator's area after a run.
+-- The navigator's area after a frame in which it ran.
 use Rattle.std.specs.Prelude.{ℕ, ℤ, pos, ◌-ℤ◌, ◌==◌, ◌&&◌, Bool, int_le, List, [], ◌∷◌, if◌then◌else◌}
 use Rattle.app_model.specs.declared.seen.Seen.{Seen}
 use Rattle.app_model.specs.declared.kinds.navigator.TheConstants.{KIND, ROUTE}
@@ -11,15 +11,17 @@ use Rattle.app_model.specs.Headings.{short_turn}
 unfoldable pub bearing_error_after : Seen → ℤ
 bearing_error_after seen = short_turn (goal_heading seen) (heading seen)
 
--- The remaining climb to the goal's altitude, in feet, in `route`, else 0.
+-- The remaining climb to the goal's altitude, in feet, clamped to the range from -5,000 to 5,000 in `route`, and 0 in
+-- every other mode.
 unfoldable pub climb_left_after : Seen → ℤ
 climb_left_after seen = if seen.mode.0 == ROUTE then clamp_in (limit 5000 5000) (goal_altitude seen -ℤ altitude seen) else pos 0
 
--- Whether `x` lies between `-most` and `most`.
+-- The number `x` lies between `-most` and `most`, inclusive.
 unfoldable pub near : ℤ → ℕ → Bool
 near x most = int_le (minus most) x && int_le x (pos most)
 
--- 1 if the remaining turn and climb are small, else 0.
+-- The number 1 if the remaining turn is at most 5 degrees and the remaining climb at most 100 feet, in either
+-- direction, and 0 otherwise.
 unfoldable pub on_course : Seen → ℤ
 on_course seen = if near (bearing_error_after seen) 50 && near (climb_left_after seen) 100 then pos 1 else pos 0
 

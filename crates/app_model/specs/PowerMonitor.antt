@@ -1,27 +1,28 @@
--- The power monitor's area after a run.
+-- The power monitor's area after a frame in which it ran.
 use Rattle.std.specs.Prelude.{ℕ, ℤ, pos, ◌-ℤ◌, ◌+ℤ◌, ◌==◌, int_lt, List, [], ◌∷◌, slice_index, if◌then◌else◌}
 use Rattle.app_model.specs.declared.seen.Seen.{Seen}
 use Rattle.app_model.specs.declared.kinds.power_monitor.TheConstants.{CHARGE, KIND, NORMAL, SAVER}
 use Rattle.scram_types.specs.Ranges.{clamp_in, limit}
 use Rattle.app_model.specs.Reads.{own_word, ticks_after}
 
--- The charge units that an alternator gives. Its factor has value 0 if the alternator works.
+-- The charge units that an alternator gives in a frame, given the value of its factor: 60 if the value is 0, for
+-- which the alternator works, and 0 otherwise.
 unfoldable pub alternator_gives : ℕ → ℤ
 alternator_gives value = if value == 0 then pos 60 else pos 0
 
--- The charge units that both alternators give.
+-- The charge units that both alternators give in a frame.
 unfoldable pub supply_after : Seen → ℤ
 supply_after seen = alternator_gives (slice_index seen.factors 0) +ℤ alternator_gives (slice_index seen.factors 1)
 
--- The charge units that the mode takes.
+-- The charge units that the mode takes in a frame.
 unfoldable pub demand_after : Seen → ℤ
 demand_after seen = if seen.mode.0 == NORMAL then pos 100 else (if seen.mode.0 == SAVER then pos 60 else pos 20)
 
--- The battery's charge after this frame.
+-- The battery's charge after this frame, clamped to the range from 0 to 10,000 charge units.
 unfoldable pub charge_after : Seen → ℤ
 charge_after seen = clamp_in (limit 0 10000) ((own_word KIND seen CHARGE +ℤ supply_after seen) -ℤ demand_after seen)
 
--- 1 if the charge is low and loads are to be shed, else 0.
+-- The number 1 if the charge is below 2,000 units, so that loads are to be shed, and 0 otherwise.
 unfoldable pub shed_after : Seen → ℤ
 shed_after seen = if int_lt (charge_after seen) (pos 2000) then pos 1 else pos 0
 

@@ -1,18 +1,18 @@
--- The condition on racks. The functions that read a box's kind and a rack's boxes are parameters.
+-- The condition on racks, given the functions that read a box's kind and a rack's boxes.
 use Rattle.std.specs.Prelude.{◌≡◌, ℕ, List, [], ◌∷◌, length, map, All, slice_get}
 
--- There are five boxes, and the box at index `k` is of kind `k`.
+-- The list has five boxes, and the box at index `k` is of kind `k`.
 abbrev pub RackFits : {B : Type 0} → (B → ℕ) → List B → Type 0
 RackFits kind boxes = map kind boxes ≡ 0 ∷ 1 ∷ 2 ∷ 3 ∷ 4 ∷ []
 
--- Each rack has the boxes of kinds 0 to 4, in the order of kinds.
+-- Each rack has five boxes, one for each of the kinds 0 to 4, in the order of kinds.
 abbrev pub AllRacksFit : {B R : Type 0} → (B → ℕ) → (R → List B) → List R → Type 0
 AllRacksFit kind boxes racks = All (λ r. RackFits kind (boxes r)) racks
 
--- There are eight racks, one for each processor, and each rack fits.
+-- There are eight racks, one for each processor, and each rack has a box of each kind, in order.
 abbrev pub RacksFit : {B R : Type 0} → (B → ℕ) → (R → List B) → List R → Type 0
 RacksFit kind boxes racks = (length racks ≡ 8) × AllRacksFit kind boxes racks
 
--- Every element except that at `place` is as it was.
+-- Every element of the list is unchanged, except that at index `place`.
 abbrev pub OthersStay : {A : Type 0} → List A → List A → ℕ → Type 0
 OthersStay old new place = (i : ℕ) → (i ≡ place → ⊥) → slice_get new i ≡ slice_get old i

@@ -1,12 +1,12 @@
--- The area that an application of a kind begins with.
+-- The areas that applications begin with.
 use Rattle.std.specs.Prelude.{ℕ, ℤ, List}
 use Rattle.scram_types.specs.Eights.{eight}
 use Rattle.app_model.specs.Kinds.{kind_variable}
 
--- The value that word `i` begins with.
+-- The value with which word `i` of an area of kind `kind` begins.
 abbrev pub start_at : ℕ → ℕ → ℤ
 start_at kind i = (kind_variable kind i).start
 
--- The area that an application of the kind begins with, as after an init phase.
+-- The area that an application of kind `kind` begins with. Its status is that of an init phase.
 abbrev pub start_of : ℕ → List ℤ
 start_of kind = eight (start_at kind)

@@ -1,4 +1,4 @@
-//! The functions that compute the law of each kind.
+//! The law of every kind.
 
 ghost use Rattle.std.specs.Prelude.{◌≡◌};
 ghost use Rattle.app_model.specs.Law.{law, ran};
@@ -24,7 +24,7 @@ fn run_of(kind: KindId, seen: &Seen) -> Area
     }
 }
 
-/// Returns the area of an application of the kind after a frame with this order, by the kind's law.
+/// Returns the area of an application of kind `kind` after a frame with order `order`, by the law of the kind.
 pub fn law_area(kind: KindId, order: Order, seen: &Seen) -> Area
     ensures { result ≡ law kind.0 order seen.now }
 {

@@ -1,4 +1,4 @@
-//! Applications as objects that the caller passes in.
+//! Applications as objects that a caller passes to the kernel.
 
 ghost use Rattle.std.specs.Prelude.{◌≡◌, ℕ};
 ghost use Rattle.app_model.specs.Law.{law};
@@ -6,8 +6,8 @@ ghost use Rattle.app_model.specs.Law.{law};
 use crate::seen::Seen;
 use scram_types::{Area, KindId, Order};
 
-/// An application of a kind. It may keep any state, but its answer depends only on the order and on what the
-/// application sees.
+/// An application of a kind. It may keep any state, but its answer in a frame depends only on the order and on what
+/// the application sees.
 pub trait App: Drop {
     ghost kind_of: { Self → ℕ };
 
@@ -15,8 +15,9 @@ pub trait App: Drop {
     fn kind(&self) -> KindId
         ensures { result.0 ≡ kind_of self.now };
 
-    /// Returns the application's area after a frame with this order, by the law of its kind, whatever state the object
-    /// keeps. This holds for every order, mode, area, world, factors and goal. The kind does not change.
+    /// Returns the application's area after a frame with this order, by the law of its kind, whatever state the
+    /// object keeps. This holds for every order, mode, area, world, goal and value of a factor. The kind does not
+    /// change.
     fn frame(&mut self, order: Order, seen: &Seen) -> Area
         ensures answer { result ≡ law (kind_of self.old) order seen.now }
         ensures same { kind_of self.new ≡ kind_of self.old };

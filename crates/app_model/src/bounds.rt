@@ -13,8 +13,9 @@ fn ends_of(range: Range) -> (i64, i64)
     (-i64::from(range.below), i64::from(range.above))
 }
 
-/// Returns the minimum and the maximum of a variable while an application of the kind has a status in a mode: 1 run, 2
-/// halt, 3 prepare, 4 init. The units are those of [`crate::kinds`].
+/// Returns the minimum and the maximum of a variable while an application of kind `kind` has status `status` in mode
+/// `mode`. The status is 1 for run, 2 for halt, 3 for prepare and 4 for init. The units are those of
+/// [`crate::kinds`].
 pub fn during(kind: KindId, status: u8, mode: Mode, variable: u8) -> (i64, i64)
     ensures { result ≡ during kind.0 status mode.0 variable }
 {
@@ -25,8 +26,8 @@ pub fn during(kind: KindId, status: u8, mode: Mode, variable: u8) -> (i64, i64)
     }
 }
 
-/// Returns the minimum and the maximum of a variable after the last frame of a halt. Both are 0 for a variable that a
-/// halt brings to 0.
+/// Returns the minimum and the maximum of a variable after the last frame of a halt phase. Both are 0 for a variable
+/// that a halt brings to 0.
 pub fn after_halt(kind: KindId, mode: Mode, variable: u8) -> (i64, i64)
     ensures { result ≡ after_halt kind.0 mode.0 variable }
 {
@@ -48,7 +49,7 @@ pub fn after_init(kind: KindId, mode: Mode, variable: u8) -> (i64, i64)
     }
 }
 
-/// Returns the minimum and the maximum of a variable over all modes of the kind, 0 and 4 for the status.
+/// Returns the minimum and the maximum of a variable over all modes of the kind. For the status they are 0 and 4.
 pub fn sane(kind: KindId, variable: u8) -> (i64, i64)
     ensures { result ≡ sane kind.0 variable }
 {

@@ -1,4 +1,4 @@
-//! The last call of an application, as a box remembers it.
+//! The last call of an application, which a box remembers.
 
 ghost use Rattle.std.specs.Prelude.{◌≡◌, IfSome, IsSome};
 ghost use Rattle.app_model.specs.Law.{law};
@@ -7,7 +7,8 @@ use crate::comparisons::{same_order, same_seen};
 use crate::seen::Seen;
 use scram_types::{Area, Order};
 
-/// The last call of an application: its order, what the application saw, and the answer, which is the law of the kind.
+/// The last call of an application: the kind, the order, the view of the application, and the answer, which is the
+/// law of the kind.
 #[derive(Clone, Copy)]
 pub struct LastCall {
     kind: u8,
@@ -18,7 +19,7 @@ pub struct LastCall {
 }
 
 impl LastCall {
-    /// Returns the call of an application of the kind with this answer.
+    /// Returns the call of an application of kind `kind` with this order, view and answer.
     pub fn of(kind: u8, order: Order, seen: &Seen, answer: &Area) -> LastCall
         requires { answer.now ≡ law kind order seen.now }
         ensures kind { result.kind ≡ kind }
@@ -34,7 +35,7 @@ impl LastCall {
         }
     }
 
-    /// Returns the remembered answer, or `None` if this call differs from the remembered call.
+    /// Returns the remembered answer if this call is the same as the remembered call, or `None` if it differs.
     pub fn answer_to(&self, kind: u8, order: Order, seen: &Seen) -> Option<Area>
         ensures law { IfSome result (λ area. area ≡ law kind order seen.now) }
         ensures again { self.now.kind ≡ kind → self.now.order ≡ order → self.now.seen ≡ seen.now → IsSome result }

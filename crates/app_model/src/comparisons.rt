@@ -6,7 +6,7 @@ ghost use Rattle.std.specs.Prelude.{◌≡◌, ◌↔◌, IsTrue};
 use crate::seen::Seen;
 use scram_types::{Area, Goal, Order, World};
 
-/// Returns whether the two orders are equal.
+/// Returns `true` if the two orders are equal.
 pub fn same_order(a: Order, b: Order) -> bool
     ensures { IsTrue result ↔ (a ≡ b) }
 {
@@ -49,7 +49,7 @@ fn same_goal(a: &Goal, b: &Goal) -> bool
     a.altitude == b.altitude && a.heading == b.heading
 }
 
-/// Returns whether the two views of a frame are equal.
+/// Returns `true` if the two views of an application are equal.
 pub fn same_seen(a: &Seen, b: &Seen) -> bool
     ensures { IsTrue result ↔ (a.now ≡ b.now) }
 {

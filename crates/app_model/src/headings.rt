@@ -30,8 +30,8 @@ fn centred(x: i64) -> i64
     x - 1_800
 }
 
-/// Returns the shorter turn from one heading to another, -1,800 to 1,799 tenths of a degree. A negative turn is to the
-/// left.
+/// Returns the shorter turn from heading `from` to heading `target`, -1,800 to 1,799 tenths of a degree. A negative
+/// turn is to the left.
 pub fn short_turn(target: i64, from: i64) -> i64
     requires target { FitsSums target }
     requires from { FitsSums from }

@@ -72,7 +72,7 @@ pub mod power_monitor {
     pub const SHED: usize = 4;
 }
 
-/// The navigator: it measures how far the aircraft is off its goal.
+/// The navigator: it measures how far the aircraft is from its goal.
 pub mod navigator {
     /// The kind's number.
     pub const KIND: u8 = 3;
@@ -106,7 +106,7 @@ pub mod data_link {
     pub const DROPPED: usize = 4;
 }
 
-/// The task: anything that is placed, started, stopped and timed, and whose contents do not matter to the
+/// The task: an application that is placed, started, stopped and timed, and whose contents do not matter to the
 /// reconfiguration.
 pub mod task {
     /// The kind's number.

@@ -1,30 +1,31 @@
-//! The laws of all kinds keep the ranges of the tables. Each function here states a theorem about the definitions by
-//! its contract and does nothing.
+//! Theorems on the definitions: the laws of all kinds keep the ranges of the tables. Each function here states a
+//! theorem by its contract and does nothing.
 
 ghost use Rattle.app_model.specs.Areas.{LawLiesDuring, LawLiesAfterHalt, LawLiesAfterInit, StartLiesAfterInit, AllTablesNarrow};
 
-/// The area that the law of a kind gives lies in the ranges of the status that the order leaves. The ranges are those
-/// of the mode that the application is to be in, whatever it sees.
+/// States that the area that the law of a kind gives lies in the ranges of the status that the order leaves, whatever
+/// the application sees. The ranges are those of the mode that the application is to be in.
 pub fn law_lies_during()
     ensures { LawLiesDuring }
 {}
 
-/// After the last frame of a halt the area lies in the ranges after a halt.
+/// States that after the last frame of a halt phase the area lies in the ranges after a halt.
 pub fn law_lies_after_halt()
     ensures { LawLiesAfterHalt }
 {}
 
-/// After the last frame of an init phase the area lies in the ranges after an init phase.
+/// States that after the last frame of an init phase the area lies in the ranges after an init phase.
 pub fn law_lies_after_init()
     ensures { LawLiesAfterInit }
 {}
 
-/// The area that an application begins with lies in the ranges after an init phase, in every mode.
+/// States that in every mode the area that an application begins with lies in the ranges after an init phase.
 pub fn start_lies_after_init()
     ensures { StartLiesAfterInit }
 {}
 
-/// The ranges after a halt and after an init phase lie in those of the phase, and the sane ranges contain all others.
+/// States that the ranges after a halt and after an init phase lie in the ranges during that phase, and that the sane
+/// ranges contain all other ranges.
 pub fn tables_narrow()
     ensures { AllTablesNarrow }
 {}

@@ -1,6 +1,6 @@
-//! Boxed applications and their laws. Whatever state an application keeps, its answer in a frame is the law of its
-//! kind, computed from the order and from what the application sees. The area that it answers lies in the ranges of its
-//! status.
+//! Applications in boxes, and their laws. Whatever state an application keeps, its answer in a frame is the law of
+//! its kind, computed from the order and from what the application sees. The area that it answers lies in the ranges
+//! of its status.
 #![tactic(auto)]
 
 pub mod all_laws;

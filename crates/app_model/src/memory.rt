@@ -1,4 +1,4 @@
-//! The memory of a box: its last call, whatever its kind.
+//! Boxes that remember their last call, for applications of any kind.
 
 ghost use Rattle.std.specs.Prelude.{◌≡◌, ℕ};
 ghost use Rattle.app_model.specs.Law.{law};
@@ -9,7 +9,7 @@ use crate::seen::Seen;
 use scram_types::{Area, KindId, Order};
 use std::marker::PhantomData;
 
-/// The function that computes a kind's law.
+/// A kind and the function that computes its law.
 pub trait KindLaw: Drop {
     ghost number: { ℕ };
 
@@ -30,7 +30,7 @@ pub struct Remembering<L: KindLaw> {
 }
 
 impl<L: KindLaw> Remembering<L> {
-    /// Returns a box that has not been called.
+    /// Creates a box that has not been called.
     pub fn new() -> Remembering<L> {
         Remembering {
             last: None,

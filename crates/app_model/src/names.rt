@@ -82,7 +82,7 @@ fn number_in(names: &[Option<&str>], text: &str) -> Option<u8>
     None
 }
 
-/// Returns the kind of this name, or `None` if no kind has it.
+/// Returns the kind with this name, or `None` if no kind has it.
 pub fn kind_named(name: &str) -> Option<KindId>
     ensures kind { option_map (λ kind. kind.0) result ≡ number_in kind_names name.now }
     ensures built { IfSome result (λ kind. kind.0 < 6) }
@@ -93,7 +93,7 @@ pub fn kind_named(name: &str) -> Option<KindId>
     }
 }
 
-/// Returns the mode of this name of a kind, or `None` if the kind has no such mode.
+/// Returns the mode of a kind with this name, or `None` if the kind has no such mode.
 pub fn mode_named(kind: KindId, name: &str) -> Option<Mode>
     ensures mode { option_map (λ mode. mode.0) result ≡ number_in (mode_names kind.0) name.now }
     ensures of_kind { kind.0 < 6 → IfSome result (λ mode. IsModeNumber mode.0 (modes_of_kind kind.0)) }
@@ -104,8 +104,8 @@ pub fn mode_named(kind: KindId, name: &str) -> Option<Mode>
     }
 }
 
-/// Returns the index, 0 to 7, of the variable of this name in the areas of a kind, or `None` if the kind has no such
-/// variable.
+/// Returns the index, 0 to 7, of the variable with this name in the areas of a kind, or `None` if the kind has no
+/// such variable.
 pub fn variable_named(kind: KindId, name: &str) -> Option<u8>
     ensures variable { result ≡ number_in (variable_names kind.0) name.now }
     ensures word { IfSome result (λ variable. variable < 8) }
@@ -140,8 +140,9 @@ pub fn variable_name(kind: KindId, variable: u8) -> Option<&'static str>
     }
 }
 
-/// The look-ups from number to name and from name to number agree for kinds, modes and variables. Every kind has a
-/// name, and so has each of its modes and no other mode number. Each named variable is one of the eight words.
+/// States that the look-ups from number to name and from name to number agree for kinds, modes and variables. Every
+/// kind has a name. Each of its modes has a name, and no other mode number has one. Each named variable is one of the
+/// eight words.
 pub fn names_agree()
     ensures { AllNamesAgree }
 {}

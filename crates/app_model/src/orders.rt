@@ -1,4 +1,4 @@
-//! The areas after all orders except `Run`, the same for all kinds.
+//! The areas after all orders except `Run`. The rules are the same for all kinds.
 #![tactic(auto, unfolding(crate::specs::Orders::faded, crate::specs::Orders::kept_area, crate::specs::Orders::halted_word, crate::specs::Orders::halted, crate::specs::Orders::initialised_word, crate::specs::Orders::initialised))]
 
 ghost use Rattle.std.specs.Prelude.{◌≡◌, ◌<◌, ◌+◌, ◌==◌, IfSome, None};

@@ -1,4 +1,4 @@
-//! Racks: a rack holds the boxes of one processor, one for each kind.
+//! Racks. A rack holds the boxes of one processor, one for each kind.
 
 ghost use Rattle.std.specs.Prelude.{◌≡◌, ◌↔◌, ◌<◌, All, IfOk, IsTrue, [], map, vec_len};
 ghost use Rattle.app_model.specs.Law.{law};
@@ -16,7 +16,7 @@ pub struct Rack {
     pub boxes: Vec<Box<dyn App + Send>>,
 }
 
-/// Returns a rack without boxes. It allocates nothing.
+/// Creates a rack without boxes. It allocates no memory.
 pub fn empty_rack(alloc: Global) -> Rack
     ensures { result.boxes.items ≡ [] }
 {
@@ -25,7 +25,8 @@ pub fn empty_rack(alloc: Global) -> Rack
     }
 }
 
-/// Returns eight racks without boxes, or `Err` when out of memory. A flight with such racks computes each law itself.
+/// Creates eight racks without boxes, or returns `Err` if memory runs out. A flight with such racks computes each law
+/// itself.
 pub fn empty_racks(alloc: Global) -> Result<Vec<Rack>, AllocError>
     ensures count { IfOk result (λ racks. vec_len racks ≡ 8) }
     ensures empty { IfOk result (λ racks. All (λ r. r.boxes.items ≡ []) racks.items) }
@@ -44,7 +45,7 @@ pub fn box_kind(app: &Box<dyn App + Send>) -> KindId
     app.kind()
 }
 
-/// Returns whether the rack has five boxes and `boxes[k]` is of kind `k`.
+/// Returns `true` if the rack has five boxes and `boxes[k]` is of kind `k` for each `k`.
 pub fn rack_fits(rack: &Rack) -> bool
     ensures { IsTrue result ↔ RackFits kind_of rack.now.boxes.items }
 {
@@ -67,15 +68,15 @@ fn all_racks_fit(racks: &[Rack]) -> bool
     true
 }
 
-/// Returns whether there are eight racks that each have the box of kind `k` at index `k`. In every list of racks, rack
-/// `p` belongs to processor `p`.
+/// Returns `true` if there are eight racks, each with a box of kind `k` at each index `k` from 0 to 4 and no further
+/// boxes. In every list of racks, rack `p` belongs to processor `p`.
 pub fn racks_fit(racks: &[Rack]) -> bool
     ensures { IsTrue result ↔ RacksFit kind_of (λ r. r.boxes.items) racks.now }
 {
     racks.len() == 8 && all_racks_fit(racks)
 }
 
-/// Returns the answer of a box in a frame, which is the law of its kind. The kind does not change.
+/// Returns the answer of a box to an order, which is the law of its kind. The kind of the box does not change.
 pub fn box_frame(app: &mut Box<dyn App + Send>, order: Order, seen: &Seen) -> Area
     ensures answer { result ≡ law (kind_of app.old) order seen.now }
     ensures same { kind_of app.new ≡ kind_of app.old }
@@ -83,7 +84,7 @@ pub fn box_frame(app: &mut Box<dyn App + Send>, order: Order, seen: &Seen) -> Ar
     app.frame(order, seen)
 }
 
-// Returns the answer of the box if it is of the kind, and otherwise the law of the kind.
+// Returns the answer of the box if it is of kind `kind`, and the law of the kind otherwise.
 fn box_or_law(app: &mut Box<dyn App + Send>, kind: KindId, order: Order, seen: &Seen) -> Area
     ensures answer { result ≡ law kind.0 order seen.now }
     ensures same { kind_of app.new ≡ kind_of app.old }
@@ -95,11 +96,11 @@ fn box_or_law(app: &mut Box<dyn App + Send>, kind: KindId, order: Order, seen: &
     }
 }
 
-/// Returns the area of an application of the kind after a frame with this order. The box at the kind's index answers if
-/// it is of that kind; otherwise the law is computed anew. So the result is the law of the kind, whatever boxes the
-/// rack has. The kinds of the boxes do not change, and neither do the boxes at other indices.
-// No clause depends on the precondition. A function that takes boxes by `&mut` without any precondition counts as one
-// that may make boxes, and so does each function that calls it without any precondition.
+/// Returns the area of an application of kind `kind` after a frame with this order. The box at the kind's index
+/// answers if it is of that kind; otherwise the law is computed anew. Therefore the result is the law of the kind,
+/// whatever boxes the rack has. The kinds of the boxes and the boxes at other indices do not change.
+// No clause depends on the precondition. A function that takes boxes by `&mut` without a precondition counts as a
+// function that may create boxes, and each function that calls it without a precondition does too.
 pub fn rack_frame(rack: &mut Rack, kind: KindId, order: Order, seen: &Seen) -> Area
     requires kind { kind.0 < 8 }
     ensures answer { result ≡ law kind.0 order seen.now }
@@ -114,9 +115,9 @@ pub fn rack_frame(rack: &mut Rack, kind: KindId, order: Order, seen: &Seen) -> A
     }
 }
 
-/// Returns the area of an application of the kind after a frame with this order. The rack of processor `proc` answers
-/// as in `rack_frame`; if there is no such rack, the law is computed anew. The kinds of the boxes do not change, and
-/// neither do the racks of other processors.
+/// Returns the area of an application of kind `kind` after a frame with this order. The rack of processor `proc`
+/// answers as in `rack_frame`; if there is no such rack, the law is computed anew. The kinds of the boxes and the
+/// racks of other processors do not change.
 pub fn racks_frame(
     racks: &mut [Rack],
     proc: ProcId,

@@ -27,14 +27,14 @@ fn widest_mode(kind: u8) -> u8
     kind_or_last(kind).widest
 }
 
-/// Returns the widest of a variable's ranges over the modes of the kind.
+/// Returns the widest of the ranges that a variable has in the modes of the kind.
 pub fn sane_range(kind: u8, variable: usize) -> Range
     ensures { result ≡ sane_range kind variable }
 {
     mode_range(kind, widest_mode(kind), variable)
 }
 
-/// Returns whether a halt brings the variable to 0.
+/// Returns `true` if a halt brings the variable to 0.
 pub fn is_moving(kind: u8, variable: usize) -> bool
     ensures { result ≡ is_moving kind variable }
 {

@@ -1,4 +1,4 @@
-//! The reads of a law. Each number is clamped to its range, so no law overflows.
+//! The numbers that laws read. Each number is clamped to its range, so no law overflows.
 #![tactic(auto, unfolding(scram_types::specs::Numbers::word, crate::specs::Reads::own_word, crate::specs::Reads::lead_word, crate::specs::Reads::altitude, crate::specs::Reads::heading, crate::specs::Reads::goal_altitude, crate::specs::Reads::goal_heading, crate::specs::Reads::ticks_after))]
 
 ghost use Rattle.std.specs.Prelude.{◌≡◌, ◌<◌};
@@ -18,7 +18,7 @@ fn word_at(area: &Area, variable: usize) -> i64
     area[variable]
 }
 
-/// Returns a word of the application's own area, clamped to the range of the mode that it is to be in.
+/// Returns a word of the application's own area, clamped to the range of the mode that the application is to be in.
 pub fn read_own(kind: u8, seen: &Seen, variable: usize) -> i64
     requires { variable < 8 }
     ensures value { result ≡ own_word kind seen.now variable }
@@ -30,7 +30,7 @@ pub fn read_own(kind: u8, seen: &Seen, variable: usize) -> i64
     )
 }
 
-/// Returns a word of the area of the lowest-numbered application of a kind, clamped to the widest of the modes' ranges.
+/// Returns a word of the area of the lowest-numbered application of a kind, clamped to the widest range of the word.
 pub fn read_lead(kind: u8, seen: &Seen, variable: usize) -> i64
     requires kind { kind < 8 }
     requires variable { variable < 8 }

@@ -13,7 +13,8 @@ fn start_word(kind: u8, variable: usize) -> i64
 }
 
 /// Returns the area that an application of the kind begins with. The status is 4, as after an init phase. The other
-/// words are 0, except the autopilot's targets, 5,000 feet and 90 degrees, and the power monitor's charge, 8,000 units.
+/// words are 0, except the autopilot's target altitude, 5,000 feet, its target heading, 90 degrees, and the power
+/// monitor's charge, 8,000 units.
 pub fn start_area(kind: KindId) -> Area
     ensures { result ≡ start_of kind.0 }
 {

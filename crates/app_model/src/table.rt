@@ -11,15 +11,15 @@ use scram_types::Range;
 /// A word of a kind's area.
 #[derive(Clone, Copy)]
 pub struct Variable {
-    /// The name, or `None` if the kind does not use the word.
+    /// The name of the word, or `None` if the kind does not use the word.
     pub name: Option<&'static str>,
-    /// The ranges in modes 1, 2 and 3. The last range listed is that of every other mode.
+    /// The ranges in modes 1, 2 and 3. Every other mode has the last range of the list.
     pub ranges: &'static [Range],
-    /// The ranges after the last frame of an init phase, likewise.
+    /// The ranges after the last frame of an init phase, in the same form.
     pub initialised: &'static [Range],
     /// Whether a halt brings the word to 0.
     pub moves: bool,
-    /// The value that an application begins with.
+    /// The value that the word has when the application begins.
     pub start: i64,
 }
 
@@ -28,7 +28,7 @@ pub struct Variable {
 pub struct Kind {
     /// The name of the kind.
     pub name: &'static str,
-    /// The names of the modes by number. Mode 0, off, has none.
+    /// The names of the modes, by number. Mode 0, off, has no name.
     pub modes: &'static [Option<&'static str>],
     /// The mode that has the widest range of each variable.
     pub widest: u8,
@@ -196,7 +196,7 @@ pub const TASK: Kind = Kind {
     ],
 };
 
-/// Returns the kind of a number, or `None` if there is no such kind.
+/// Returns the kind with this number, or `None` if there is no such kind.
 pub fn find_kind(kind: u8) -> Option<Kind>
     ensures kind { option_map kind_read result ≡ find_kind kind }
     ensures few { IfSome result (λ found. length found.modes.now ≤ 8) }
@@ -213,7 +213,7 @@ pub fn find_kind(kind: u8) -> Option<Kind>
     }
 }
 
-/// Returns the kind of a number, or the task if the number is past the last kind.
+/// Returns the kind with this number, or the task if there is no such kind.
 pub fn kind_or_last(kind: u8) -> Kind
     ensures { kind_read result ≡ kind_or_last kind }
 {
@@ -223,7 +223,7 @@ pub fn kind_or_last(kind: u8) -> Kind
     }
 }
 
-/// Returns a word of a kind's area.
+/// Returns word `i` of the area of a kind.
 pub fn kind_variable(kind: u8, variable: usize) -> Variable
     ensures { variable_read result ≡ kind_variable kind variable }
 {
@@ -233,7 +233,8 @@ pub fn kind_variable(kind: u8, variable: usize) -> Variable
     }
 }
 
-/// Returns the range in a mode.
+/// Returns the range of a mode in a list of up to three ranges for modes 1, 2 and 3. Every other mode has the last
+/// range of the list.
 pub fn range_in(ranges: &[Range], mode: u8) -> Range
     ensures { result ≡ range_in ranges.now mode }
 {

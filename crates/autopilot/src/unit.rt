@@ -5,7 +5,7 @@ use app_model::memory::{KindLaw, Remembering};
 use app_model::{Seen, law_area};
 use scram_types::{Area, KindId, Order};
 
-/// The law of kind 0.
+/// The law of kind 0, the autopilot.
 #[derive(Drop)]
 pub struct AutopilotLaw {}
 
@@ -21,6 +21,6 @@ impl KindLaw for AutopilotLaw {
     }
 }
 
-/// An autopilot, which commands pitch and roll to reach its target altitude and heading. It answers the law of kind 0
-/// and repeats its last answer if the call is the same.
+/// An autopilot, which commands pitch and roll to reach its target altitude and heading. It answers by the law of
+/// kind 0, and repeats its last answer if the call is the same as the last call.
 pub type Autopilot = Remembering<AutopilotLaw>;

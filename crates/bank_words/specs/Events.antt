@@ -4,7 +4,8 @@ use Rattle.scram_types.specs.Lookups.{proc_id}
 use Rattle.bank_words.specs.declared.events.Event.{Event}
 use Rattle.bank_words.specs.declared.events.Event.TheVariants.{Start, Look, Store, Flip, Done, Halt, KNote, KStore, Release}
 
--- The code of an event: 65536 times its kind, plus its number, or plus 256 times its first number and its second one.
+-- The code of an event: 65536 times the number of its kind, plus its number. An event with two numbers has 256 times
+-- the first number plus the second number instead.
 abbrev pub event_code : Event → ℕ
 event_code (Start p) = p.0
 event_code (Look p q) = 65536 + 256 * p.0 + q.0
@@ -28,15 +29,15 @@ IsEvent (KNote p) = p.0 < 256
 IsEvent (KStore i) = i < 256
 IsEvent Release = 0 < 256
 
--- The number, if it is at most 255.
+-- The number `n`, or `None` if it is above 255.
 abbrev pub byte_of : ℕ → Option ℕ
 byte_of n = if nat_lt n 256 then Some n else None
 
--- The event with one number, if the number is at most 255.
+-- The event with the number `n`, or `None` if `n` is above 255.
 abbrev pub naming : (ℕ → Event) → ℕ → Option Event
 naming event n = option_map event (byte_of n)
 
--- The event of a kind with the numbers that `n` encodes, if there is one.
+-- The event of kind `kind` with the numbers that `n` encodes, or `None` if there is no such event.
 abbrev pub event_in : ℕ → ℕ → Option Event
 event_in kind n =
     if kind == 0 then naming (λ p. Start (proc_id p)) n
@@ -50,6 +51,6 @@ event_in kind n =
     else if kind == 8 then (if n == 0 then Some Release else None)
     else None
 
--- The event with this code, if there is one.
+-- The event with this code, or `None` if no event has it.
 abbrev pub event_of : ℕ → Option Event
 event_of code = event_in (code / 65536) (code % 65536)

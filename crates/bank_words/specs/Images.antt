@@ -1,4 +1,4 @@
--- Kernel images as twenty words, and back.
+-- Kernel images as twenty words, and words decoded as kernel images.
 use Rattle.std.specs.Prelude.{ℕ, suc, ◌+◌, ◌-◌, ◌*◌, ◌/◌, ◌%◌, ◌==◌, List, [], ◌∷◌, ◌++◌, slice_index, slice_index_or, Option, Some, None, if◌then◌else◌}
 use Rattle.scram_types.specs.declared.rows.World.{World}
 use Rattle.scram_types.specs.declared.ids.ConfId.{ConfId}
@@ -10,23 +10,25 @@ use Rattle.scram_types.specs.Lookups.{conf_id, proc_id}
 use Rattle.bank_words.specs.declared.images.KernelImage.{KernelImage}
 use Rattle.bank_words.specs.Numbers.{decode, encode}
 
--- The word of an optional configuration: 0 if there is none, or its number plus 1.
+-- The word that encodes an optional configuration: 0 for `None`, and the configuration's number plus 1 otherwise.
 abbrev pub conf_word : Option ConfId → ℕ
 conf_word None = 0
 conf_word (Some c) = suc c.0
 
--- The five words of a mode. A stable mode is 0 and its configuration. A reconfiguration is 1, the configuration that
--- was left, the one that halts, the target, and the frame in which the halting phase began.
+-- The five words of a kernel mode. For a stable mode they are 0, the configuration, and three zeros. For a
+-- reconfiguration they are 1, the configuration that is left, the configuration that halts, the target, and the frame
+-- in which the halting phase began.
 abbrev pub mode_words : KMode → List ℕ
 mode_words (Stable c) = 0 ∷ c.0 ∷ 0 ∷ 0 ∷ 0 ∷ []
 mode_words (Moving from halting to since) = 1 ∷ from.0 ∷ conf_word halting ∷ to.0 ∷ since ∷ []
 
--- The word of an optional keeper: 0 if there is none, or the processor's number plus 1.
+-- The word that encodes an optional keeper, the processor that keeps an application's area: 0 for `None`, and the
+-- processor's number plus 1 otherwise.
 abbrev pub keeper_word : Option ProcId → ℕ
 keeper_word None = 0
 keeper_word (Some p) = suc p.0
 
--- The words of the eight keepers.
+-- The words of the keepers of the eight applications.
 abbrev pub keeper_words : List (Option ProcId) → List ℕ
 keeper_words keepers = eight (λ a. keeper_word (slice_index_or keepers a None))
 
@@ -36,7 +38,7 @@ factors_word values =
     slice_index values 0 + 256 * slice_index values 1 + 65536 * slice_index values 2
     + 16777216 * slice_index values 3 + 4294967296 * slice_index values 4 + 1099511627776 * slice_index values 5
 
--- The words of a kernel image, in the order of docs/FORMATS.md.
+-- The twenty words of a kernel image, in the order of docs/FORMATS.md.
 abbrev pub kernel_encode : KernelImage → List ℕ
 kernel_encode k =
     k.frame
@@ -49,19 +51,19 @@ kernel_encode k =
 abbrev pub last_byte : ℕ → ℕ
 last_byte word = word % 256
 
--- The configuration that a word encodes, if there is one.
+-- The configuration that a word encodes, or `None` if the word is 0.
 abbrev pub conf_of : ℕ → Option ConfId
 conf_of word = if word == 0 then None else Some (conf_id (last_byte (word - 1)))
 
--- The processor that a word encodes, if there is one.
+-- The processor that a word encodes, or `None` if the word is 0.
 abbrev pub keeper_of : ℕ → Option ProcId
 keeper_of word = if word == 0 then None else Some (proc_id (last_byte (word - 1)))
 
--- The eight keepers that the words encode.
+-- The keepers of the eight applications that eight words encode.
 abbrev pub keepers_of : List ℕ → List (Option ProcId)
 keepers_of words = eight (λ a. keeper_of (slice_index words a))
 
--- The mode that five words encode.
+-- The kernel mode that five words encode.
 abbrev pub mode_in_words : List ℕ → KMode
 mode_in_words words =
     if slice_index words 0 == 0 then Stable (conf_id (last_byte (slice_index words 1)))
@@ -86,7 +88,7 @@ world_of words = record {
   bank = decode (slice_index words 3);
 }
 
--- The kernel image that these words encode.
+-- The kernel image that twenty words encode.
 abbrev pub kernel_decode : List ℕ → KernelImage
 kernel_decode words = record {
   frame = slice_index words 0 % 4294967296;

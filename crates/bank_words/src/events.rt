@@ -1,11 +1,11 @@
-//! Events, which are the steps of a processor or of the kernel.
+//! Events: the steps of a processor or of the kernel, and their codes.
 
 ghost use Rattle.std.specs.Prelude.{◌≡◌, IfSome, Some};
 ghost use Rattle.bank_words.specs.Events.{IsEvent, byte_of, event_code, event_of};
 
 use scram_types::ProcId;
 
-/// One step of a processor or of the kernel. A processor starts a frame, looks at a processor, stores a word of its
+/// A step of a processor or of the kernel. A processor starts a frame, looks at a processor, stores a word of its
 /// image, flips its mark, finishes the frame, or halts. The kernel notes a processor, stores one of its twenty words,
 /// or releases the next frame.
 #[derive(Clone, Copy, Debug, PartialEq, Eq)]
@@ -13,13 +13,13 @@ pub enum Event {
     Start(ProcId),
     /// The first processor looks at the second.
     Look(ProcId, ProcId),
-    /// The processor stores the word of this number.
+    /// The processor stores the word with this number.
     Store(ProcId, u8),
     Flip(ProcId),
     Done(ProcId),
     Halt(ProcId),
     KNote(ProcId),
-    /// The kernel stores the word of this number.
+    /// The kernel stores the word with this number.
     KStore(u8),
     Release,
 }

@@ -1,4 +1,4 @@
-//! The image that the kernel writes of a frame.
+//! The kernel's image of a frame, and the words of the image.
 
 ghost use Rattle.std.specs.Prelude.{◌≡◌};
 ghost use Rattle.bank_words.specs.Images.{conf_of, conf_word, factors_of, factors_word, keeper_of, keeper_word, keeper_words, keepers_of, kernel_decode, kernel_encode, last_byte, mode_in_words, mode_words};
@@ -6,7 +6,8 @@ ghost use Rattle.bank_words.specs.Images.{conf_of, conf_word, factors_of, factor
 use crate::numbers::{decode, encode};
 use scram_types::{ConfId, Env, KMode, ProcId, World};
 
-/// The mode and the environment of a frame, with the keepers and the world at its beginning.
+/// The kernel's image of a frame: the mode and the environment of the frame, and the keepers and the world at its
+/// beginning. The keeper of an application is the processor that keeps its area.
 #[derive(Clone, Copy, Debug, PartialEq, Eq)]
 pub struct KernelImage {
     pub frame: u32,

@@ -1,5 +1,5 @@
-//! The words of stable storage that processors and the kernel share: numbers as words, marks, kernel images, and a code
-//! for each event. Decoding gives back what was encoded.
+//! The words of stable storage that processors and the kernel share: numbers as words, marks, kernel images, and a
+//! code for each event. Decoding returns what was encoded.
 #![tactic(auto)]
 
 pub mod events;

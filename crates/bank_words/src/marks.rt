@@ -3,8 +3,8 @@
 ghost use Rattle.std.specs.Prelude.{◌≡◌, ◌≤◌, ◌/◌, ◌%◌};
 ghost use Rattle.bank_words.specs.Marks.{mark_word, pick};
 
-/// Returns the mark of a processor whose last committed frame is the last of `count` frames and is in bank `bank`, 0 or
-/// 1. The mark is twice the count plus the bank.
+/// Returns the mark of a processor that committed `count` frames, the last of which is in bank `bank`, either 0 or 1.
+/// The mark is twice the count plus the bank.
 pub fn mark_word(count: u32, bank: u8) -> u64
     requires { bank ≤ 1 }
     ensures mark { result ≡ mark_word count bank }
@@ -14,8 +14,8 @@ pub fn mark_word(count: u32, bank: u8) -> u64
     2 * u64::from(count) + u64::from(bank)
 }
 
-/// Returns the bank, 0 or 1, that a reader in a frame takes. It is the marked bank, or the other one if the mark is
-/// already that of this frame.
+/// Returns the bank, 0 or 1, that a reader in frame `frame` takes. It is the marked bank, or the other bank if the
+/// mark counts this frame already.
 pub fn pick(mark: u64, frame: u32) -> u8
     ensures bank { result ≡ pick mark frame }
     ensures side { result ≤ 1 }

@@ -5,14 +5,14 @@ ghost use Rattle.bank_words.specs.Numbers.{decode, encode};
 
 use scram_types::Spec;
 
-/// Returns the number of words of an image, which is eight for each application.
+/// Returns the number of words of a processor's image: eight for each application.
 pub fn words(spec: &Spec) -> u32
     ensures { result ≡ 8 * length spec.now.apps }
 {
     8 * spec.apps.items().len() as u32
 }
 
-/// Returns a number as a word of storage, by two's complement.
+/// Returns the word that encodes a number, by two's complement.
 pub fn encode(v: i64) -> u64
     ensures word { result ≡ encode v }
     ensures back { decode result ≡ v }
@@ -20,7 +20,7 @@ pub fn encode(v: i64) -> u64
     v.cast_unsigned()
 }
 
-/// Returns the number that a word of storage holds, by two's complement.
+/// Returns the number that a word encodes, by two's complement.
 pub fn decode(w: u64) -> i64
     ensures number { result ≡ decode w }
     ensures back { encode result ≡ w }

@@ -5,7 +5,7 @@ use app_model::memory::{KindLaw, Remembering};
 use app_model::{Seen, law_area};
 use scram_types::{Area, KindId, Order};
 
-/// The law of kind 1.
+/// The law of kind 1, the flight control.
 #[derive(Drop)]
 pub struct FlightControlLaw {}
 
@@ -21,6 +21,6 @@ impl KindLaw for FlightControlLaw {
     }
 }
 
-/// A flight control, which moves the elevator and the aileron as the autopilot commands. It answers the law of kind 1
-/// and repeats its last answer if the call is the same.
+/// A flight control, which moves the elevator and the aileron as the autopilot commands. It answers by the law of
+/// kind 1, and repeats its last answer if the call is the same as the last call.
 pub type FlightControl = Remembering<FlightControlLaw>;

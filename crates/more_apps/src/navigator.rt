@@ -1,11 +1,11 @@
-//! The navigator.
+//! The navigator as a box that remembers its last call.
 
 use app_model::kinds::navigator::KIND;
 use app_model::memory::{KindLaw, Remembering};
 use app_model::{Seen, law_area};
 use scram_types::{Area, KindId, Order};
 
-/// The law of kind 3.
+/// The law of kind 3, the navigator.
 #[derive(Drop)]
 pub struct NavigatorLaw {}
 
@@ -21,6 +21,6 @@ impl KindLaw for NavigatorLaw {
     }
 }
 
-/// A navigator, which measures how far the aircraft is off its goal. It answers the law of kind 3 and repeats its last
-/// answer if the call is the same.
+/// A navigator, which measures how far the aircraft is from its goal. It answers by the law of kind 3, and repeats
+/// its last answer if the call is the same as the last call.
 pub type Navigator = Remembering<NavigatorLaw>;

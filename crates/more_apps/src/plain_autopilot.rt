@@ -1,15 +1,15 @@
-//! An autopilot that remembers nothing.
+//! An autopilot without memory.
 
 use app_model::kinds::autopilot::KIND;
 use app_model::{App, Seen, law_area};
 use scram_types::{Area, KindId, Order};
 
-/// An autopilot that does not remember its last call. It answers the law of kind 0.
+/// An autopilot that does not remember its last call. It answers by the law of kind 0.
 #[derive(Drop)]
 pub struct PlainAutopilot {}
 
 impl PlainAutopilot {
-    /// Returns an autopilot.
+    /// Creates an autopilot without memory.
     pub fn new() -> PlainAutopilot {
         PlainAutopilot {}
     }

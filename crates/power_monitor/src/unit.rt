@@ -5,7 +5,7 @@ use app_model::memory::{KindLaw, Remembering};
 use app_model::{Seen, law_area};
 use scram_types::{Area, KindId, Order};
 
-/// The law of kind 2.
+/// The law of kind 2, the power monitor.
 #[derive(Drop)]
 pub struct PowerMonitorLaw {}
 
@@ -21,6 +21,6 @@ impl KindLaw for PowerMonitorLaw {
     }
 }
 
-/// A power monitor, which keeps account of the battery's charge. It answers the law of kind 2 and repeats its last
-/// answer if the call is the same.
+/// A power monitor, which keeps account of the battery's charge. It answers by the law of kind 2, and repeats its
+/// last answer if the call is the same as the last call.
 pub type PowerMonitor = Remembering<PowerMonitorLaw>;

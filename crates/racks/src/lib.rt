@@ -1,5 +1,5 @@
-//! Racks that hold the boxes of kinds 0 to 4, made by macros. A rack holds the boxes that it is made of, in their
-//! order. Nothing is promised about their kinds; `racks_fit` tests them after the racks are made.
+//! Macros that create racks of the boxes of kinds 0 to 4. A rack holds the boxes from which it is created, in their
+//! order. Nothing is promised about their kinds; `racks_fit` tests them after the racks are created.
 #![tactic(auto)]
 
 pub mod macros;

@@ -1,7 +1,7 @@
-//! The macros that make racks. They are macros because no function may make boxes and return them. Each `?` in them
+//! Macros that create racks. They are macros because no function may create boxes and return them. Each `?` in them
 //! returns the out-of-memory error from the enclosing function.
 
-/// Creates a rack of five boxes from its first application.
+/// Creates a rack of five boxes, given its first application. The other four are of kinds 1 to 4.
 #[macro_export]
 macro_rules! rack {
     ($rt:expr, $first:expr) => {{
@@ -19,8 +19,9 @@ macro_rules! rack {
     }};
 }
 
-/// Creates eight racks, one for each processor, each with the boxes of kinds 0 to 4. If a processor, as `Some(number)`,
-/// and an application are given, that processor's rack has a box of the application instead of the autopilot.
+/// Creates eight racks, one for each processor, each with the boxes of kinds 0 to 4. If a processor, as
+/// `Some(number)`, and an application are given, the rack of that processor has a box of the application instead of
+/// the autopilot.
 #[macro_export]
 macro_rules! racks {
     ($rt:expr) => {{

@@ -1,13 +1,13 @@
-//! Boxes, and a rack of five boxes. No function may make boxes of applications and return them as `App` objects. The
-//! functions here take the values, and then the boxes, so that a body that uses `rack!` has two early returns instead
-//! of ten.
+//! Functions that create boxes and a rack of five boxes. No function may create boxes of applications and return them
+//! as `App` objects. The functions here take the values, and then the boxes, so that a body that uses `rack!` has two
+//! early returns instead of ten.
 
 ghost use Rattle.std.specs.Prelude.{◌≡◌, IfOk};
 
 use app_model::{App, Rack};
 use std::alloc::{AllocError, Global};
 
-/// Returns a box for each of five applications, or `Err` when out of memory.
+/// Returns a box for each of five applications, or `Err` if memory runs out.
 pub fn boxed<A: App, B: App, C: App, D: App, E: App>(
     alloc: Global,
     apps: (A, B, C, D, E),
@@ -28,7 +28,7 @@ pub fn boxed<A: App, B: App, C: App, D: App, E: App>(
     ))
 }
 
-/// Returns the rack of these boxes in this order, or `Err` when out of memory.
+/// Returns the rack of these boxes in this order, or `Err` if memory runs out.
 pub fn rack_of(alloc: Global, boxes: [Box<dyn App + Send>; 5]) -> Result<Rack, AllocError>
     ensures { IfOk result (λ rack. rack.boxes.items ≡ boxes) }
 {

@@ -1,4 +1,4 @@
--- Lists that grow as their elements are read.
+-- Lemmas on lists that grow as their elements are read.
 use Rattle.std.proofs.Common.{◌≡◌, ◌<◌, ◌+◌, ℕ, zero, suc, List, [], ◌∷◌, ◌++◌, length, drop, get_or, arith, refl, sym, subst, ◌∙◌}
 use Rattle.std.specs.Prelude.{Some, None, Result, Ok}
 use Rattle.std.proofs.lemmas.List.{at_drop_more}
@@ -13,7 +13,8 @@ use Rattle.scram_doc.specs.Lists.{AllAfter}
 same : {A : Type 0} (x y : A) → Some x ≡ Some y → x ≡ y
 same x y e = cc
 
--- A fact that holds for each element still does after an element is appended for which it holds too.
+-- If each element of a list satisfies a fact and an appended element satisfies it too, each element of the longer
+-- list does.
 pub after_push : {A : Type 0} → (Fact : List A → A → Type 0) → (xs : List A) → (x : A) → AllAfter Fact xs → Fact xs x → AllAfter Fact (xs ++ x ∷ [])
 after_push Fact [] x all new zero y e = subst (λ (z : _). Fact [] z) (same x y e) new
 after_push Fact [] x all new (suc i) y e = absurd (let none : None ≡ Some y = e in cc)
@@ -21,7 +22,7 @@ after_push Fact (a ∷ rest) x all new zero y e = all zero y e
 after_push {A} Fact (a ∷ rest) x all new (suc i) y e =
     after_push (λ (ys : List A) (z : A). Fact (a ∷ ys) z) rest x (λ j z f. all (suc j) z f) new i y e
 
--- an element is read, and the rest begins after it
+-- After an element is read, the rest of the reading begins at the next index.
 pub element_read : {A : Type 0} → (read : List ℕ → List A → Data → Result A DocFault) → (at : List ℕ) (i : ℕ) (done : List A) (vs : List Value) (v : Value) (x : A) (whole : Result (List A) DocFault)
     → i < length vs → v ≡ get_or vs i v → read (item_path at i) done (view v) ≡ Ok x
     → elements_from read at i done (items_view (drop i vs)) ≡ whole
@@ -30,7 +31,7 @@ element_read read at i done vs v x whole below is value so_far =
     let more : suc i ≡ i + 1 = omega arith in
     sym (at_drop_more (λ (ws : List Value). elements_from read at i done (items_view ws)) vs i v below ∙ rw (← is, value, more) refl) ∙ so_far
 
--- an element has made its step, and the rest begins after it
+-- After the step of an element, the rest of the steps begins at the next index.
 pub step_made : {S : Type 0} → (step : List ℕ → S → Data → Result S DocFault) → (at : List ℕ) (i : ℕ) (made : S) (vs : List Value) (v : Value) (next : S) (whole : Result S DocFault)
     → i < length vs → v ≡ get_or vs i v → step (item_path at i) made (view v) ≡ Ok next
     → folded_from step at i made (items_view (drop i vs)) ≡ whole

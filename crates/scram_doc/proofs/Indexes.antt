@@ -1,10 +1,10 @@
--- The length of an index in a path.
+-- A lemma on the length of an index in a path.
 use Rattle.std.proofs.Common.{ℕ, ◌<◌, ◌≤◌, ◌+◌, List, ◌∷◌, length, arith, length-append}
 use Rattle.std.specs.Prelude.{decimal}
 use Rattle.std.proofs.lemmas.Fmt.{length-decimal-le}
 use Rattle.scram_doc.specs.Paths.{item_path}
 
--- an index below 100,000 has at most five digits
+-- An index below 100,000 has at most five digits.
 pub length-decimal_index : (index : ℕ) → index < 100000 → length (decimal index) ≤ 5
 length-decimal_index index below = length-decimal-le 5 index (omega arith) (omega (arith, below)) (omega (arith, below))
 

@@ -1,4 +1,4 @@
--- An index of names finds the same as a search through the names.
+-- A set of names gives each name the number that a search through the items gives.
 use Rattle.std.proofs.Common.{◌≡◌, ℕ, ◌+◌, Bool, true, false, cond, List, [], ◌∷◌, ◌++◌, map, refl, ap, sym, ◌∙◌}
 use Rattle.std.specs.Prelude.{Option, Some, None}
 use Rattle.std.specs.List.{list_any, position_from}
@@ -13,7 +13,7 @@ named_from : {A : Type 0} (name : A → List ℕ) (text : List ℕ) (number : �
 named_from name text number [] = refl
 named_from name text number (x ∷ xs) = rw (named_from name text (number + 1) xs) refl
 
--- an item is found as its name is
+-- A search for a name among the names of items finds the same index as a search among the items.
 pub place_of_names : {A : Type 0} (name : A → List ℕ) (xs : List A) (text : List ℕ) → place_named itself (map name xs) text ≡ place_named name xs text
 place_of_names {A} name xs text =
     position_from-zero (λ (n : List ℕ). bytes_eq text (itself n)) (map name xs) ∙ named_from name text 0 xs
@@ -37,7 +37,7 @@ same_any : {A : Type 0} (test other : A → Bool) → ((y : A) → test y ≡ ot
 same_any test other same [] = refl
 same_any test other same (x ∷ xs) = rw (same x, same_any test other same xs) refl
 
--- a name that is not in the list is appended
+-- If a name is not in the list, adding it appends it.
 pub added : {A : Type 0} (name : A → List ℕ) (eq : A → A → Bool) (xs : List A) (x : A) (text : List ℕ)
     → ((y : A) → eq x y ≡ bytes_eq (name x) (name y)) → name x ≡ text → place_named itself (map name xs) text ≡ None
     → map name (insert_key eq xs x) ≡ map name xs ++ text ∷ []

@@ -1,4 +1,4 @@
--- Canonical values have no float and are not deep, so that their texts are exact and read back.
+-- Canonical values have no float and are not deep. Therefore their texts are exact and are read back.
 use Rattle.std.proofs.Common.{◌≡◌, ◌≤◌, ℕ, false, List, [], ◌∷◌, map, arith, refl, ap, ◌∙◌}
 use Rattle.std.specs.Prelude.{Some, ℤ, pos, negsuc}
 use Rattle.serde_json.specs.Data.{Data, depth, items_depth}
@@ -15,7 +15,7 @@ pub integer_no_float : (n : ℤ) → is_float (of_integer n) ≡ false
 integer_no_float (pos n) = refl
 integer_no_float (negsuc n) = refl
 
--- a list is as deep as its deepest item
+-- If each item of a list is at most `most` deep, the items of the list are at most `most` deep.
 pub low : {A : Type 0} → (f : A → Data) → (most : ℕ) → ((a : A) → depth (f a) ≤ most) → (xs : List A) → items_depth (items_of (map f xs)) ≤ most
 low f most h [] = omega arith
 low f most h (x ∷ xs) = let here = h x in let rest = low f most h xs in omega (arith, here, rest)

@@ -1,4 +1,4 @@
--- A text that spells a name is written unchanged between two quotes.
+-- A text that is a valid name is written unchanged between two quotes.
 use Rattle.std.proofs.Common.{◌≡◌, ◌≤◌, ℕ, true, List, [], ◌∷◌, ◌++◌, length, arith, ap, refl}
 use Rattle.std.specs.Prelude.{◌&&◌, nat_le, Option, Some, None}
 use Rattle.std.specs.Option.{option_map_or}

@@ -14,7 +14,7 @@ use Rattle.scram_doc.specs.Lists.{AllAfter, elements_at, elements_from}
 use Rattle.scram_doc.specs.Paths.{item_path}
 use Rattle.scram_doc.specs.Values.{items_within, whole_below}
 
--- a step that succeeds, followed by the rest
+-- If a step succeeds, the chain has the result of the rest at the value of the step.
 pub chained : {A B E : Type 0} (r : Result A E) (rest : A → Result B E) (a : A) (b : Result B E) → r ≡ Ok a → rest a ≡ b → chain r rest ≡ b
 chained r rest a b e f = rw (e) f
 
@@ -25,12 +25,13 @@ seam : {A : Type 0} (xs : List A) (x : A) (ys : List A) → slice_get (xs ++ x �
 seam [] x ys = refl
 seam (y ∷ xs) x ys = seam xs x ys
 
--- what an element keeps with the elements before it
+-- If each element satisfies a fact with the elements before it, the element `x` satisfies it with the elements
+-- `before`.
 pub fact_after : {A : Type 0} (Fact : List A → A → Type 0) (before : List A) (x : A) (after : List A) → AllAfter Fact (before ++ x ∷ after) → Fact before x
 fact_after {A} Fact before x after all =
     subst (λ (ys : List A). Fact ys x) (take-append_seam before (x ∷ after)) (all (length before) x (seam before x after))
 
--- the elements read back, if what is read differs from what was written
+-- Elements that are written and read back are mapped by `give`, if reading an element gives its image.
 pub elements_given : {A B : Type 0} (Fact : List B → B → Type 0) (read : List ℕ → List A → Data → Result A DocFault) (f : B → Data) (give : B → A)
     → ((at : List ℕ) (done : List B) (x : B) → Fact done x → read at (map give done) (f x) ≡ Ok (give x))
     → (at : List ℕ) (i : ℕ) (before xs whole : List B) → before ++ xs ≡ whole → AllAfter Fact whole
@@ -62,7 +63,7 @@ items_back f least most at xs enough few =
     let count = items_count f xs in
     within_back least most at (items_of (map f xs)) (omega (arith, count, enough)) (omega (arith, count, few))
 
--- a whole list
+-- If each element is read back as written, the whole list is.
 pub list_back : {A : Type 0} (Fact : List A → A → Type 0) (read : List ℕ → List A → Data → Result A DocFault) (f : A → Data)
     → ((at : List ℕ) (done : List A) (x : A) → Fact done x → read at done (f x) ≡ Ok x)
     → (least most : ℕ) (at : List ℕ) (xs : List A) → least ≤ length xs → length xs ≤ most → AllAfter Fact xs

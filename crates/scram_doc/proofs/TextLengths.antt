@@ -1,4 +1,4 @@
--- Bounds on the length of a value's text. Each byte of a text takes at most six.
+-- Bounds on the length of a value's text. Each byte of a string takes at most six bytes.
 use Rattle.std.proofs.Common.{◌≡◌, ◌+◌, ◌*◌, ◌≤◌, ◌<◌, ◌^◌, ◌/◌, ◌%◌, ℕ, suc, Bool, true, false, cond, List, [], ◌∷◌, ◌++◌, length, map, arith, ap, refl}
 use Rattle.std.specs.Prelude.{nat_lt, slice_get, Option, Some, None}
 use Rattle.std.specs.Option.{option_map_or}
@@ -14,15 +14,16 @@ use Rattle.scram_doc.specs.Canonical.{count_data}
 use Rattle.scram_doc.specs.Names.{is_letter_of_name, is_spelled_name}
 use Rattle.scram_doc.proofs.QuotedNames.{name_short, quoted_letters, quoted_name}
 
--- the bytes and two quotes
+-- A text of letters that names may contain is written with its bytes and two quotes.
 pub quoted_length : (text : List ℕ) → list_all is_letter_of_name text ≡ true → length (quoted text) ≡ length text + 2
 quoted_length text named = omega (arith, ap length (quoted_letters text named), length-append text (34 ∷ []))
 
--- a name of at most 16 bytes and two quotes
+-- A name, of at most 16 bytes, is written with at most 18 bytes, including two quotes.
 pub name_length : (text : List ℕ) → is_spelled_name text ≡ true → length (quoted text) ≤ 18
 name_length text named = omega (arith, ap length (quoted_name text named), length-append text (34 ∷ []), name_short text named)
 
--- an item that is not found has no name, and is written as two quotes alone
+-- The name of an item that may not be found is written with at most 18 bytes. An item that is not found is written as
+-- two quotes alone.
 pub found_length : {A : Type 0} (name : A → List ℕ) (found : Option A) → ((x : A) → found ≡ Some x → is_spelled_name (name x) ≡ true) → length (quoted (option_map_or name found [])) ≤ 18
 found_length name None named = omega arith
 found_length name (Some x) named = name_length (name x) (named x refl)
@@ -45,15 +46,15 @@ escape_length (x ∷ xs) =
     let rest = escape_length xs in
     omega (arith, here, rest, length-append (escape_byte x) (escape xs))
 
--- any text, between two quotes
+-- Any text is written with at most six bytes for each of its bytes, and two quotes.
 pub escaped_length : (xs : List ℕ) → length (quoted xs) ≤ 6 * length xs + 2
 escaped_length xs = let inside = escape_length xs in omega (arith, inside, length-append (escape xs) (34 ∷ []))
 
--- the length of a text between its quotes, as it is written
+-- The length of a text as it is written, including its quotes.
 abbrev pub exact : List ℕ → ℕ
 exact text = length (quoted text)
 
--- a bound on the length of a value's text, if `measure` bounds the lengths of the texts in it
+-- A bound on the length of a value's text, given a bound `measure` on the lengths of the texts in it.
 abbrev mutual
   pub weight : (List ℕ → ℕ) → Data → ℕ
   weight measure null = 4
@@ -71,7 +72,7 @@ abbrev mutual
   members_weight measure no_members = 1
   members_weight measure (member k d ms) = measure k + 2 + weight measure d + members_weight measure ms
 
--- a measure of texts that is never too small
+-- The measure of each text is at least the length of the text as it is written.
 abbrev pub Covers : (List ℕ → ℕ) → Type 0
 Covers measure = (s : List ℕ) → length (quoted s) ≤ measure s
 

@@ -5,14 +5,14 @@ use Rattle.serde_json.specs.Data.{Data, number, array, unsigned}
 use Rattle.serde_json.specs.Find.{of_integer}
 use Rattle.serde_json.specs.View.{items_of}
 
--- The value of a non-negative whole number.
+-- The JSON value of the non-negative whole number `n`.
 abbrev pub count_data : ℕ → Data
 count_data n = number (unsigned n)
 
--- The value of a whole number with its sign.
+-- The JSON value of the whole number `n`, which may be negative.
 abbrev pub integer_data : ℤ → Data
 integer_data n = number (of_integer n)
 
--- The value of a list, in which `f` gives the value of each item.
+-- The JSON value of a list, given the function `f` from an item to its value.
 abbrev pub list_data : {A : Type 0} → (A → Data) → List A → Data
 list_data f xs = array (items_of (map f xs))

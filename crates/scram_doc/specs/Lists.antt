@@ -6,22 +6,25 @@ use Rattle.scram_doc.specs.Chain.{chain}
 use Rattle.scram_doc.specs.Paths.{item_path}
 use Rattle.scram_doc.specs.Values.{list_at}
 
--- The elements `done`, followed by those that `read` gives from index `i` on.
+-- The elements `done`, followed by the elements that `read` gives for the values of the list, whose first value has
+-- index `i`.
 abbrev pub elements_from : {A : Type 0} → (List ℕ → List A → Data → Result A DocFault) → List ℕ → ℕ → List A → Items → Result (List A) DocFault
 elements_from read at i done no_items = Ok done
 elements_from {A} read at i done (item d ds) =
     chain (read (item_path at i) done d) (λ (x : A). elements_from read at (suc i) (done ++ x ∷ []) ds)
 
--- The elements of a list of `least` to `most` elements.
+-- The elements that `read` gives for the values of the list at the path `at`, which has `least` to `most` elements.
+-- Rule 5 or 6 is broken at the path otherwise.
 abbrev pub elements_at : {A : Type 0} → (List ℕ → List A → Data → Result A DocFault) → ℕ → ℕ → List ℕ → Data → Result (List A) DocFault
 elements_at read least most at d = chain (list_at least most at d) (λ (ds : Items). elements_from read at 0 [] ds)
 
--- The state after all elements. `step` makes the next state from a path, the state before and an element.
+-- The state after all elements, beginning with state `made` at index `i`. `step` gives the next state from an
+-- element's path, the state before and the element.
 abbrev pub folded_from : {S : Type 0} → (List ℕ → S → Data → Result S DocFault) → List ℕ → ℕ → S → Items → Result S DocFault
 folded_from step at i made no_items = Ok made
 folded_from {S} step at i made (item d ds) =
     chain (step (item_path at i) made d) (λ (next : S). folded_from step at (suc i) next ds)
 
--- `Fact` holds for each element and the elements before it.
+-- Each element satisfies `Fact` together with the elements before it.
 abbrev pub AllAfter : {A : Type 0} → (List A → A → Type 0) → List A → Type 0
 AllAfter {A} Fact xs = (i : ℕ) (x : A) → slice_get xs i ≡ Some x → Fact (take i xs) x

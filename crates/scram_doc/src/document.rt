@@ -6,7 +6,11 @@ use crate::{DocError, DocFault, Path, rule};
 use serde_json::Value;
 use std::alloc::Global;
 
-/// Returns the JSON value that the bytes encode. Rule 1 is broken if they are not a JSON text.
+/// Returns the JSON value that the bytes encode.
+///
+/// # Errors
+///
+/// Returns rule 1 at the root if the bytes are not a JSON text, and `NoMemory` if memory runs out.
 pub fn parse(alloc: Global, bytes: &[u8]) -> Result<Value, DocError>
     ensures { Answers (parsed bytes.now) view result }
 {

@@ -20,20 +20,28 @@ pub trait Elements<T: Drop> {
     /// The maximum length of the path of an element.
     ghost room: { ℕ };
 
-    /// The element that a value encodes, from its path, the elements before it and the value.
+    /// The element that a value encodes, given its path, the elements before it and the value.
     ghost reading: { Self → List ℕ → List T → Data → Result T DocFault };
 
-    /// A fact that each element keeps with the elements before it.
+    /// The property that each element satisfies together with the elements before it.
     ghost Fits: { Self → List T → T → Type 0 };
 
-    /// Returns the element that the value encodes. `done` has the elements before it.
+    /// Returns the element that the value `v` at path `at` encodes, given the elements `done` before it.
+    ///
+    /// # Errors
+    ///
+    /// Returns the rule that the value breaks, and `NoMemory` if memory runs out.
     fn read(&self, alloc: Global, done: &[T], v: &Value, at: &Path) -> Result<T, DocError>
         requires room { length at.now ≤ room }
         ensures value { Answers (reading self.now at.now done.now (view v.now)) (λ x. x) result }
         ensures fits { IfOk result (λ x. Fits self.now done.now x) };
 }
 
-/// Reads the elements of a list whose length has been checked.
+/// Returns the elements of a list whose length has been checked, given its values and its path.
+///
+/// # Errors
+///
+/// Returns the rule that the first faulty element breaks, and `NoMemory` if memory runs out.
 pub fn read_items<T: Drop, E: Elements<T>>(
     alloc: Global,
     elements: &E,
@@ -74,7 +82,12 @@ impl Lengths {
     }
 }
 
-/// Reads a list whose length is within `lengths`.
+/// Returns the elements of the list `v` at path `at`, whose length has to be within `lengths`.
+///
+/// # Errors
+///
+/// Returns rule 5 if the value is not a list, rule 6 if its length is not within `lengths`, or else the rule that the
+/// first faulty element breaks. Returns `NoMemory` if memory runs out.
 pub fn read_list<T: Drop, E: Elements<T>>(
     alloc: Global,
     elements: &E,

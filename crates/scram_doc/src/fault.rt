@@ -29,7 +29,7 @@ pub enum DocError {
     /// The document breaks a rule.
     Fault(DocFault),
 
-    /// Out of memory.
+    /// Memory ran out.
     NoMemory,
 }
 

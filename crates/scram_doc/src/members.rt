@@ -19,15 +19,15 @@ pub fn object(v: &Value, at: &Path) -> Result<(), DocFault>
     }
 }
 
-/// Returns the value of a member, or `None` if the value is not an object or has no such member.
+/// Returns the value of member `name`, or `None` if the value is not an object or has no such member.
 pub fn field<'a>(v: &'a Value, name: &str) -> Option<&'a Value>
     ensures { option_map (λ d. view d.now) result ≡ get name.now (view v.now) }
 {
     v.get(name)
 }
 
-/// Returns the value of a member. Rule 3 is broken at the member's path if the value at `at` has no such member. There
-/// must be room for that path.
+/// Returns the value of member `name` of the value at path `at`. Rule 3 is broken at the member's path if there is no
+/// such member. The member's path has to fit the maximum length of a path.
 pub fn need<'a>(v: &'a Value, name: &str, at: &Path) -> Result<&'a Value, DocFault>
     requires { length at.now + 1 + length name.now ≤ 64 }
     ensures { ok_map (λ d. view d.now) result ≡ needed name.now at.now (view v.now) }

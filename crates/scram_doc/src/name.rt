@@ -4,8 +4,8 @@ ghost use Rattle.scram_doc.specs.Names.{is_spelled_name, is_letter_of_name, spel
 
 use arrayvec::ArrayString;
 
-/// Returns the name that the text spells, or `None` if it spells no name. A name has 1 to 16 bytes: a lower-case
-/// letter, followed by lower-case letters, digits or `_`.
+/// Returns the name that the text spells, or `None` if the text is not a valid name. A name has 1 to 16 bytes: a
+/// lower-case letter, followed by lower-case letters, digits or `_`.
 pub fn name_of(s: &str) -> Option<ArrayString<16>>
     ensures { option_map (λ n. n.bytes) result ≡ spelled_name s.now }
 {

@@ -12,7 +12,7 @@ use serde_json::Value;
 use std::alloc::{AllocError, Global};
 use std::marker::{Model, PhantomData};
 
-/// A naming of items.
+/// A way to get the name of an item.
 pub trait Naming<T> {
     ghost use Rattle.std.specs.Prelude.{◌≡◌, List, ℕ};
 
@@ -55,7 +55,7 @@ impl Numbers {
         self.names.get_index_of(name)
     }
 
-    /// Appends a name that is not yet in the list.
+    /// Appends a name that is not yet in the list. Returns an error if memory runs out.
     fn with(self, alloc: Global, name: &str) -> Result<Numbers, AllocError>
         requires { place_named itself self name.now ≡ None }
         ensures { IfOk result (λ numbers. numbers ≡ self ++ name.now ∷ []) }
@@ -66,7 +66,7 @@ impl Numbers {
     }
 }
 
-/// A list of items, each with a name of its own.
+/// A list of items with different names.
 #[derive(Drop)]
 pub struct Numbered<T, N: Naming<T>> {
     items: Vec<T>,
@@ -85,7 +85,7 @@ impl<T, N: Naming<T>> Model for Numbered<T, N> {
 }
 
 impl<T, N: Naming<T>> Numbered<T, N> {
-    /// Creates a list of these items. `numbers` has their names in order.
+    /// Creates a list of these items, given the names of the items in order.
     pub fn of(items: Vec<T>, numbers: Numbers) -> Numbered<T, N>
         requires { numbers ≡ map N.spelling items.items }
         ensures { result ≡ items.items }
@@ -138,7 +138,7 @@ impl<T: Drop, N: Naming<T>> Numbered<T, N> {
         }
     }
 
-    /// Appends an item whose name no other item has.
+    /// Appends an item whose name no item of the list has. Returns an error if memory runs out.
     fn with(self, alloc: Global, item: T) -> Result<Numbered<T, N>, AllocError>
         requires { place_named N.spelling self (N.spelling item) ≡ None }
         ensures { IfOk result (λ numbered. numbered ≡ self ++ item ∷ []) }
@@ -166,13 +166,17 @@ pub trait NamedElements<T: Drop, N: Naming<T>> {
     /// The maximum length of the path of an element.
     ghost room: { ℕ };
 
-    /// The element that a value encodes, from its path, the elements before it and the value.
+    /// The element that a value encodes, given its path, the elements before it and the value.
     ghost reading: { Self → List ℕ → List T → Data → Result T DocFault };
 
-    /// A fact that each element keeps with the elements before it.
+    /// The property that each element satisfies together with the elements before it.
     ghost Fits: { Self → List T → T → Type 0 };
 
-    /// Returns the element that the value encodes. `done` has the elements before it.
+    /// Returns the element that the value `v` at path `at` encodes, given the elements `done` before it.
+    ///
+    /// # Errors
+    ///
+    /// Returns the rule that the value breaks, and `NoMemory` if memory runs out.
     fn read(
         &self,
         alloc: Global,
@@ -184,7 +188,7 @@ pub trait NamedElements<T: Drop, N: Naming<T>> {
         ensures value { Answers (reading self.now at.now done.now (view v.now)) (λ x. x) result }
         ensures fits { IfOk result (λ x. Fits self.now done.now x) };
 
-    /// No element has the name of an element before it.
+    /// If `Fits` holds for an element and the elements before it, no element before it has its name.
     ghost is_new: { (e : Self) (done : List T) (x : T) → Fits e done x → place_named N.spelling done (N.spelling x) ≡ None };
 }
 
@@ -209,7 +213,13 @@ pub fn read_named_items<T: Drop, N: Naming<T>, E: NamedElements<T, N>>(
     Ok(done)
 }
 
-/// Reads a list of named elements whose length is within `lengths`.
+/// Returns the elements of the list `v` at path `at`, whose length has to be within `lengths`. Each element has a
+/// name.
+///
+/// # Errors
+///
+/// Returns rule 5 if the value is not a list, rule 6 if its length is not within `lengths`, or else the rule that the
+/// first faulty element breaks. Returns `NoMemory` if memory runs out.
 pub fn read_named_list<T: Drop, N: Naming<T>, E: NamedElements<T, N>>(
     alloc: Global,
     elements: &E,

@@ -7,7 +7,7 @@ use std::fmt;
 use std::marker::Model;
 
 /// The path of a value in a document, of at most 64 bytes: `.` and a member name or an index for each level, or `.`
-/// alone for the whole document. In a contract it is the list of its bytes, which is empty for the whole document.
+/// alone for the whole document. Contracts see the list of its bytes, which is empty for the whole document.
 #[derive(Debug, Drop)]
 pub struct Path {
     text: ArrayString<64>,
@@ -38,7 +38,8 @@ impl Path {
         Path { text: self.text }
     }
 
-    /// Returns the path of a member of the object at this path. There must be room for it.
+    /// Returns the path of member `name` of the object at this path. The result has to fit the maximum length of a
+    /// path.
     pub fn member(&self, name: &str) -> Path
         requires { length self.now + 1 + length name.now ≤ 64 }
         ensures { result ≡ member_path self.now name.now }
@@ -49,7 +50,8 @@ impl Path {
         Path { text }
     }
 
-    /// Returns the path of an element of the list at this path. There must be room for an index of five digits.
+    /// Returns the path of the element with index `index` of the list at this path. There has to be room for an index
+    /// of five digits.
     pub fn item(&self, index: usize) -> Path
         requires index { index < 100000 }
         requires room { length self.now + 6 ≤ 64 }

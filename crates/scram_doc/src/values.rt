@@ -7,8 +7,12 @@ ghost use Rattle.scram_doc.specs.Values.{list_at, text_at, int_at, whole_at};
 use crate::{DocFault, Path, rule};
 use serde_json::Value;
 
-/// Returns the elements of a list. Rule 5 is broken at its path if the value is not a list. Rule 6 is broken there if
-/// the list has fewer than `least` or more than `most` elements.
+/// Returns the elements of a list of `least` to `most` elements.
+///
+/// # Errors
+///
+/// Returns rule 5 at the path if the value is not a list. Returns rule 6 at the path if the list has fewer than
+/// `least` or more than `most` elements.
 pub fn list<'a>(v: &'a Value, least: usize, most: usize, at: &Path) -> Result<&'a [Value], DocFault>
     ensures items { ok_map (λ ds. items_view ds.now) result ≡ list_at least most at.now (view v.now) }
     ensures least { IfOk result (λ ds. least ≤ length ds.now) }
@@ -39,8 +43,9 @@ pub fn text<'a>(v: &'a Value, at: &Path) -> Result<&'a str, DocFault>
     v.as_str().ok_or_else(|| DocFault::new(rule::NO_TEXT, at))
 }
 
-/// Returns the value, if it is a whole number from `least` to `most`. Rule 8 is broken at its path if it is not. A
-/// number with a point or an exponent, `-0` and a number beyond 64 bits are not whole numbers.
+/// Returns the whole number that the value encodes, from `least` to `most`. Rule 8 is broken at its path if the value
+/// is not such a number. A number with a point or an exponent, `-0` and a number beyond 64 bits are not whole
+/// numbers.
 pub fn int_in(v: &Value, least: i64, most: i64, at: &Path) -> Result<i64, DocFault>
     ensures value { result ≡ int_at least most at.now (view v.now) }
     ensures least { IfOk result (λ n. least ≤ℤ n) }
@@ -58,8 +63,8 @@ fn is_within(number: i64, least: i64, most: i64) -> bool
     least <= number && number <= most
 }
 
-/// Returns the value, if it is a whole number that is at least `least` and below `end`. Rule 8 is broken at its path if
-/// it is not.
+/// Returns the whole number that the value encodes, at least `least` and below `end`. Rule 8 is broken at its path if
+/// the value is not such a number.
 pub fn whole_in(v: &Value, least: u32, end: u32, at: &Path) -> Result<u32, DocFault>
     ensures value { result ≡ whole_at least end at.now (view v.now) }
     ensures least { IfOk result (λ n. least ≤ n) }

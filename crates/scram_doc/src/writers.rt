@@ -8,7 +8,7 @@ ghost use Rattle.scram_doc.specs.Canonical.{list_data};
 use serde_json::{Map, Value};
 use std::alloc::{AllocError, Global};
 
-/// A writer of the items of a list.
+/// A writer of the items of a list as JSON values.
 pub trait Writes<T> {
     ghost use Rattle.std.specs.Prelude.{◌≡◌, IfOk};
     ghost use Rattle.serde_json.specs.Data.{Data};
@@ -22,7 +22,7 @@ pub trait Writes<T> {
         ensures { IfOk result (λ v. view v ≡ written self.now item.now) };
 }
 
-/// Returns the values of the items of a list, in order.
+/// Returns the values that are written for the items of a list, in order.
 pub fn write_list<T, W: Writes<T>>(
     alloc: Global,
     writer: &W,

@@ -1,4 +1,4 @@
--- Reads in sequence: lemmas on the growth of the history over several files.
+-- Lemmas on the growth of the history over several reads.
 use Rattle.std.proofs.Common.{[], ◌∷◌, ◌++◌, Option, Some, None, IfSome, append_assoc, append-nil, sym, ◌∙◌, ap, refl, arith}
 use Rattle.scram_io.specs.Outside.{Agrees, FileMap, FilesState, Grew, History}
 
@@ -6,7 +6,7 @@ none_agree : (told : Option FileMap) → IfSome told (λ map. Agrees map [])
 none_agree None = tt
 none_agree (Some map) = tt
 
--- no read
+-- If no file is read, the history grows by no read.
 pub grew_none : (files : FilesState) → Grew files files []
 grew_none files = record { history = sym (append-nil files.history); known_map = refl; agrees = none_agree files.known_map; count = omega arith }
 
@@ -18,7 +18,7 @@ told_agrees : (told : Option FileMap) (a b : History) → IfSome told (λ map. A
 told_agrees None a b first second = tt
 told_agrees (Some map) a b first second = agrees_more map a b first second
 
--- first these reads, then those
+-- If the history grows by the reads `a` and then by the reads `b`, it grows by `a ++ b`.
 pub grew_more : (old mid new : FilesState) (a b : History) → Grew old mid a → Grew mid new b → Grew old new (a ++ b)
 grew_more old mid new a b first second =
     let later : IfSome old.known_map (λ map. Agrees map b) = rw first.known_map at second.agrees in

@@ -1,12 +1,12 @@
--- Puts in sequence: lemmas that show the contract of `put` for all bytes of several puts.
+-- Lemmas that show the contract of `put` for the bytes of several puts in sequence.
 use Rattle.std.proofs.Common.{◌≡◌, ℕ, ◌+◌, ◌-◌, ◌<◌, ◌≤◌, List, [], ◌++◌, length, Option, Some, None, Result, Ok, Err, IfSome, append_assoc, append-nil, length-append, arith, sym, ◌∙◌, ap, refl}
 use Rattle.scram_io.specs.Outside.{CutOff, Printed, Prints, Rose, SinkState, TakesSurely, Took, TookPrefix, Unrisen, greatest_count, taken}
 
--- first a is taken, then b
+-- If a sink takes the bytes `a` and then the bytes `b`, it takes `a ++ b`.
 pub took_more : (old mid new : SinkState) (a b : List ℕ) → Took old mid a → Took mid new b → Took old new (a ++ b)
 took_more old mid new a b first second = second ∙ ap (λ (front : List ℕ). front ++ b) first ∙ append_assoc (taken old) a b
 
--- all of a is taken, then a prefix of b
+-- If a sink takes all of `a` and then a prefix of `b`, it takes a prefix of `a ++ b`.
 pub prefix_after : (old mid new : SinkState) (a b : List ℕ) → Took old mid a → TookPrefix mid new b → TookPrefix old new (a ++ b)
 prefix_after old mid new a b first second = record {
   front = a ++ second.front;
@@ -15,7 +15,7 @@ prefix_after old mid new a b first second = record {
   took = took_more old mid new a second.front first second.took;
 }
 
--- a prefix of a is a prefix of each text that begins with a
+-- A prefix of `a` is a prefix of each text that begins with `a`.
 pub prefix_more : (old new : SinkState) (a b : List ℕ) → TookPrefix old new a → TookPrefix old new (a ++ b)
 prefix_more old new a b first = record {
   front = first.front;
@@ -24,7 +24,7 @@ prefix_more old new a b first = record {
   took = first.took;
 }
 
--- no count both rose and did not rise
+-- No count both rose and did not rise.
 pub risen : (before now : ℕ) → Rose before now → Unrisen before now → ⊥
 risen before now rose unrisen = omega (arith, unrisen.same, unrisen.below)
 
@@ -41,7 +41,8 @@ surely_by (Some n) last before between now after a b first second = λ fits.
     let left : n - length a - length b ≡ n - length (a ++ b) = omega arith in
     (record { same = two.0.same ∙ one.0.same; below = one.0.below }, two.1 ∙ ap (λ (m : ℕ). Some m) left)
 
--- two puts in a row
+-- If the sink is sure to take the bytes of two puts in a row, the number of bytes that it is sure to take falls by
+-- the number of both.
 pub surely_more : (old mid new : SinkState) (a b : List ℕ) → TakesSurely old mid a → TakesSurely mid new b → TakesSurely old new (a ++ b)
 surely_more old mid new a b first second = surely_by old.surely mid.surely old.faults mid.faults new.faults new.surely a b first second
 
@@ -57,7 +58,8 @@ surely_none_by : (room : Option ℕ) (count : ℕ) → IfSome room (λ _. count 
 surely_none_by None count below = tt
 surely_none_by (Some n) count below = λ fits. (record { same = refl; below = below }, let same : n ≡ n - 0 = omega arith in ap (λ (left : ℕ). Some left) same)
 
--- no put: nothing is taken, and no count rises, since a sink with a known number has a count below the greatest
+-- Without a put, no bytes are taken and no count rises, since the count of a sink with a known number is below the
+-- maximum.
 pub printed_none : (sink : SinkState) → IfSome sink.surely (λ _. sink.faults < greatest_count) → Printed sink sink []
 printed_none sink below = record {
   count = omega arith;
@@ -65,7 +67,7 @@ printed_none sink below = record {
   surely = surely_none_by sink.surely sink.faults below;
 }
 
--- first a is printed, then b
+-- If `a` is printed and then `b`, `a ++ b` is printed.
 pub printed_more : (old mid new : SinkState) (a b : List ℕ) → Printed old mid a → Printed mid new b → Printed old new (a ++ b)
 printed_more old mid new a b first second = record {
   count = omega (arith, first.count, second.count);
@@ -73,7 +75,7 @@ printed_more old mid new a b first second = record {
   surely = surely_more old mid new a b first.surely second.surely;
 }
 
--- a is printed, then b is cut off
+-- If `a` is printed and then `b` is cut off, `a ++ b` is cut off.
 pub cut_after : (old mid new : SinkState) (a b : List ℕ) → Printed old mid a → CutOff mid new b → CutOff old new (a ++ b)
 cut_after old mid new a b first second = record {
   count = omega (arith, first.count, second.count);
@@ -82,7 +84,7 @@ cut_after old mid new a b first second = record {
   surely = surely_more old mid new a b first.surely second.surely;
 }
 
--- what begins with bytes that are cut off is cut off
+-- If bytes are cut off, each text that begins with them is cut off.
 pub cut_more : (old new : SinkState) (a b : List ℕ) → CutOff old new a → CutOff old new (a ++ b)
 cut_more old new a b cut = record {
   count = cut.count;
@@ -91,11 +93,11 @@ cut_more old new a b cut = record {
   surely = stopped_by old.surely new.surely old.faults new.faults a b cut.rose cut.surely;
 }
 
--- first a is printed, then b is printed or cut off
+-- If `a` is printed and then `b` is printed or cut off, the same happens to `a ++ b`.
 pub prints_more : {A E : Type 0} (result : Result A E) (old mid new : SinkState) (a b : List ℕ) → Printed old mid a → Prints result mid new b → Prints result old new (a ++ b)
 prints_more (Ok x) old mid new a b first second = printed_more old mid new a b first second
 prints_more (Err fault) old mid new a b first second = cut_after old mid new a b first second
 
--- a is printed, b is cut off, and so is the whole that begins with them
+-- If `a` is printed and then `b` is cut off, each text that begins with `a ++ b` is cut off.
 pub cut_in : (old mid new : SinkState) (whole a b rest : List ℕ) → whole ≡ (a ++ b) ++ rest → Printed old mid a → CutOff mid new b → CutOff old new whole
 cut_in old mid new whole a b rest parts first second = rw parts (cut_more old new (a ++ b) rest (cut_after old mid new a b first second))

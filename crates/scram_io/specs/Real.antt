@@ -7,7 +7,7 @@ pub record FilesSeen : Type 0 where
   pub history : History
   pub faults : ℕ
 
--- The state of the system's files, which have no map known beforehand and are not steady.
+-- The state of the system's files, which are not steady and whose map is not known beforehand.
 abbrev pub real_files : FilesSeen → FilesState
 real_files seen = record { history = seen.history; known_map = None; steady = false; faults = seen.faults }
 
@@ -17,6 +17,6 @@ pub record SinkSeen : Type 0 where
   pub held : List ℕ
   pub faults : ℕ
 
--- The state of standard output, which has no known number of bytes that it surely takes.
+-- The state of standard output. The number of bytes that it is sure to take is not known.
 abbrev pub real_sink : SinkSeen → SinkState
 real_sink seen = record { sent = seen.sent; held = seen.held; surely = None; faults = seen.faults }

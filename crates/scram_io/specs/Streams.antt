@@ -1,22 +1,23 @@
--- The effects of reading a whole stream and of writing a whole buffer, on the known bytes of the stream.
+-- The effects on the known bytes of a stream when a whole stream is read or a whole buffer is written.
 use Rattle.std.specs.Prelude.{◌≡◌, ℕ, ◌<◌, ◌≤◌, List, [], ◌∷◌, ◌++◌, length, Option, IfSome}
 use Rattle.std.specs.Io.KnownBytes.{Appends, Consumes}
 use Rattle.scram_io.specs.Outside.{History}
 
--- The stream lost at most this number of its known bytes.
+-- The stream lost at most `most` of its known bytes.
 pub record ConsumesAtMost (old new : Option (List ℕ)) (most : ℕ) : Type 0 where
   pub lost : List ℕ
   pub consumed : Consumes old new lost
   pub few : length lost ≤ most
 
--- The known bytes grew by a prefix of these.
+-- The known bytes of the stream grew by a prefix of these bytes.
 pub record AppendsPrefix (old new : Option (List ℕ)) (bytes : List ℕ) : Type 0 where
   pub front : List ℕ
   pub rest : List ℕ
   pub parts : bytes ≡ front ++ rest
   pub gained : Appends old new front
 
--- More bytes than the limit were read and noted under this name. They are the first of the known bytes.
+-- More than `limit` bytes were read and noted under the name `name`. If the bytes of the stream are known, the bytes
+-- read are a prefix of them.
 pub record NotedLonger (old new : History) (name : List ℕ) (limit : ℕ) (known : Option (List ℕ)) : Type 0 where
   pub bytes : List ℕ
   pub noted : new ≡ old ++ (name, bytes) ∷ []

@@ -1,4 +1,4 @@
-//! Files that are read.
+//! Files that are read by name.
 ghost use Rattle.std.specs.Prelude.{◌≡◌, ◌≢◌, ◌∷◌, ◌<◌, ◌≤◌, [], IsTrue, IfOk, IsErrOf, length};
 ghost use Rattle.scram_io.specs.declared.files.ReadFault.TheVariants.{Failed, NoMemory, TooLong};
 ghost use Rattle.std.specs.IoError.{error_kind};
@@ -10,7 +10,7 @@ use std::io;
 use std::io::ErrorKind;
 use thiserror::Error;
 
-/// The cause for which a file was not read. Out of memory is never merged with another cause.
+/// The reason why a file was not read. Running out of memory is a reason of its own, never merged with another.
 #[derive(Clone, Copy, Debug, PartialEq, Eq, Error)]
 pub enum ReadFault {
     /// The file could not be read. The count of faults rose.
@@ -19,7 +19,7 @@ pub enum ReadFault {
     /// The file has more bytes than the limit.
     #[error("the file is longer than the limit")]
     TooLong,
-    /// Out of memory. It can occur wherever the read would otherwise return the bytes.
+    /// Memory ran out. It can occur wherever the read would otherwise return the bytes.
     #[error("out of memory")]
     NoMemory,
 }
@@ -43,17 +43,20 @@ impl From<AllocError> for ReadFault {
     }
 }
 
-/// Files that can be read whole, by name. Contracts see their `state`: the history of reads, the map of names to bytes
-/// if it is known beforehand, whether the files are steady, and the count of faults. The count never falls and stays at
-/// the maximum `u64`. Reads of steady files do not fail if the map has the name.
+/// Files that are read by name, each as a whole. Contracts see their `state`: the history of reads, the map from
+/// names to bytes if it is known beforehand, whether the files are steady, and the count of faults. The count never
+/// falls and stays at the maximum `u64`. Reads of steady files do not fail if the map has the name.
 pub trait Files {
     ghost state: { Self → FilesState };
 
-    /// Reads the file `name`, of at most `limit` bytes. The history grows by this read if the result is `Ok` or
-    /// `TooLong`.
+    /// Returns the bytes of the file `name`, which has at most `limit` bytes. The history grows by this read if the
+    /// result is `Ok` or `TooLong`.
     ///
-    /// The error is `TooLong` if the read did not fail, memory sufficed, and the file has more bytes than `limit`. Then
-    /// more than `limit` bytes were read, and files without a known map count it as a fault.
+    /// # Errors
+    ///
+    /// Returns `Failed` if the file could not be read, and `NoMemory` if memory runs out. Returns `TooLong` if the
+    /// read did not fail, memory sufficed, and the file has more than `limit` bytes. Then more than `limit` bytes
+    /// were read, and files without a known map count it as a fault.
     fn read(&mut self, alloc: Global, name: &str, limit: usize) -> Result<Vec<u8>, ReadFault>
         ensures grew { IfOk result (λ bytes. Grew (state self.old) (state self.new) ((name.now, bytes.items) ∷ [])) }
         ensures limited { IfOk result (λ bytes. length bytes.items ≤ limit) }

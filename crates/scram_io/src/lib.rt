@@ -1,6 +1,6 @@
-//! The outside of SCRAM: files that are read and a sink that is written, each with a history and a count of its faults.
-//! A file is read whole. Bytes that are put are all taken or, at a fault, a prefix of them. After a flush all bytes
-//! have been sent, and every fault is counted.
+//! Input and output of SCRAM: files that are read and a sink that is written, each with a history and a count of
+//! faults. A file is read as a whole. A sink takes all the bytes that are put or, at a fault, a prefix of them. After
+//! a flush all bytes have been sent, and every fault is counted.
 #![tactic(auto)]
 
 pub mod files;

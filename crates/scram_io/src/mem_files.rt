@@ -33,7 +33,7 @@ impl Model for MemFiles {
 }
 
 impl MemFiles {
-    /// Creates files with these names and bytes. Of two entries with the same name the first counts. The reads whose
+    /// Creates files with these names and bytes. The first of two entries with the same name counts. The reads whose
     /// numbers are in `failing` fail.
     pub fn new(files: Vec<(String, Vec<u8>)>, failing: Vec<u32>) -> MemFiles
         ensures { result ≡ unread_files (entries_of files.items) failing.items }
@@ -51,8 +51,13 @@ impl MemFiles {
 impl Files for MemFiles {
     ghost state = { files_state };
 
-    /// Fails exactly if the read's number is listed or no file has the name, and only then raises the count of faults.
-    /// Otherwise the error is `TooLong` exactly if the file has more bytes than `limit`.
+    /// Returns the bytes of the file `name`.
+    ///
+    /// # Errors
+    ///
+    /// Returns `Failed` exactly if the read's number is listed or no file has the name, and only then raises the
+    /// count of faults. Otherwise returns `TooLong` exactly if the file has more than `limit` bytes, and `NoMemory`
+    /// if memory runs out.
     fn read(&mut self, alloc: Global, name: &str, limit: usize) -> Result<Vec<u8>, ReadFault>
         ensures after { ¬ IsErrOf result ReadFault.NoMemory → self.new ≡ after_read self.old name.now (found_by self.old name.now) }
         ensures whole { IfOk result (λ bytes. read_of self.old name.now limit ≡ Ok bytes.items) }
@@ -79,14 +84,14 @@ impl Files for MemFiles {
     ghost steady_below = { λ held. Prim.search rules };
 }
 
-/// Returns the bytes of the first entry of this name, or `None` if the read is to fail or there is no such entry.
+/// Returns the bytes of the first entry with this name, or `None` if `listed` is `true` or there is no such entry.
 fn find_unless<'a>(listed: bool, files: &'a [(String, Vec<u8>)], name: &str) -> Option<&'a [u8]>
     ensures { option_map (λ bytes. bytes.now) result ≡ (if listed then None else file_at name.now (entries_of files.now)) }
 {
     if listed { None } else { find_file(files, name) }
 }
 
-/// Returns the bytes of the first entry of this name, or `None` if there is none.
+/// Returns the bytes of the first entry with this name, or `None` if there is no such entry.
 fn find_file<'a>(files: &'a [(String, Vec<u8>)], name: &str) -> Option<&'a [u8]>
     ensures { option_map (λ bytes. bytes.now) result ≡ file_at name.now (entries_of files.now) }
 {

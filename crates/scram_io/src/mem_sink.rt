@@ -10,7 +10,7 @@ use scram_types::NoMemory;
 use std::alloc::Global;
 use std::marker::Model;
 
-/// A sink that keeps the bytes in memory, whose buffer is allocated when it is created. The bytes that it takes count
+/// A sink that keeps the bytes in memory. Its buffer is allocated when it is created. The bytes that it takes count
 /// as sent.
 ///
 /// Contracts see the bytes, the capacity, the numbers of the puts that are to fail, the number of puts and the number
@@ -48,7 +48,7 @@ impl MemSink {
         })
     }
 
-    /// Returns the bytes taken, at most the capacity.
+    /// Returns the bytes that the sink took, which are at most its capacity.
     pub fn bytes(&self) -> &[u8]
         ensures shown { result.now ≡ self.now.bytes }
         ensures within { length result.now ≤ self.now.room }
@@ -60,8 +60,8 @@ impl MemSink {
 impl Sink for MemSink {
     ghost state = { sink_state };
 
-    /// Fails exactly if the put's number is listed or the bytes do not fit the capacity. Then it takes nothing and
-    /// raises the count of faults.
+    /// Takes all of `bytes`. Fails exactly if the put's number is listed or the bytes do not fit the capacity. Then
+    /// the sink takes no bytes, and the count of faults rises.
     fn put(&mut self, bytes: &[u8]) -> Result<(), SinkFault>
         ensures prints { Prints result (sink_state self.old) (sink_state self.new) bytes.now }
         ensures after { self.new ≡ after_put self.old bytes.now }

@@ -1,10 +1,10 @@
-//! Reads, noted as ghost data: a note takes no memory, and its calls do nothing at run time.
+//! A note of reads as ghost data, which takes no memory. Calls that note reads do nothing at run time.
 ghost use Rattle.std.specs.Prelude.{◌≡◌, ◌++◌, [], ◌∷◌, List, ℕ};
 ghost use Rattle.std.specs.Borrow.{ftrue};
 
 use std::marker::Model;
 
-/// Names with bytes, in the order in which they were noted.
+/// The names and the bytes of reads, in the order in which they were noted.
 #[derive(Drop)]
 pub struct NotedReads {
     pub ghost reads: { List (List ℕ × List ℕ) },
@@ -15,14 +15,14 @@ impl Model for NotedReads {
 }
 
 impl NotedReads {
-    /// Creates an empty note of reads.
+    /// Creates a note without reads.
     pub fn new() -> NotedReads
         ensures { result.reads ≡ [] }
     {
         NotedReads {}
     }
 
-    /// Notes that the file of this name had these bytes, after the reads noted so far.
+    /// Notes that the file with this name had these bytes, after the reads noted so far.
     pub fn note(&mut self, _name: &[u8], _bytes: &[u8])
         ensures { self.new.reads ≡ self.old.reads ++ (_name.now, _bytes.now) ∷ [] }
     {}

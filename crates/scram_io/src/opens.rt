@@ -11,18 +11,18 @@ use std::fs::File;
 use std::io::Read;
 use std::{io, rt};
 
-/// An opener of streams by name. `bytes` gives the contents of the stream of a name, if they are known.
+/// An opener of streams by name. `bytes` gives the contents of the stream with a name, if they are known.
 pub(crate) trait Opens {
     type Stream: Read + Drop;
 
     ghost bytes: { Self → List ℕ → Option (List ℕ) };
 
-    /// Opens the stream of this name.
+    /// Opens the stream with this name.
     fn open(&self, name: &str) -> io::Result<Self::Stream>
         ensures { IfOk result (λ stream. IfSome (bytes self.now name.now) (λ all. Self.Stream.remaining stream ≡ Some all)) };
 }
 
-/// The files of a runtime, as an opener.
+/// An opener of the files of a runtime.
 #[derive(Drop)]
 pub(crate) struct System<'a, R> {
     pub rt: &'a R,
@@ -38,7 +38,13 @@ impl<'a, R: rt::Files> Opens for System<'a, R> {
     }
 }
 
-/// Opens the stream of this name, reads it to its end or past the limit, and notes the name with the bytes.
+/// Opens the stream with this name, reads it to its end or past `limit` bytes, and notes the name with the bytes
+/// read.
+///
+/// # Errors
+///
+/// Returns `TooLong` if more than `limit` bytes were read, `NoMemory` if memory runs out, and `Failed` if the stream
+/// could not be opened or read.
 pub(crate) fn read_noted<O: Opens>(
     opener: &O,
     reads: &mut NotedReads,

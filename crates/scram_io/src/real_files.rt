@@ -10,8 +10,8 @@ use std::alloc::Global;
 use std::marker::Model;
 use std::rt;
 
-/// The files of the system. They have no map known beforehand, and are not steady. Contracts see the history of reads
-/// and the count of faults.
+/// The files of the system. They are not steady, and their map is not known beforehand. Contracts see the history of
+/// reads and the count of faults.
 #[derive(Drop)]
 pub struct RealFiles<'a, R: rt::Files> {
     rt: &'a R,
@@ -26,7 +26,7 @@ impl<'a, R: rt::Files> Model for RealFiles<'a, R> {
 }
 
 impl<'a, R: rt::Files> RealFiles<'a, R> {
-    /// Returns the files of this runtime, with no read and no fault yet.
+    /// Returns the files of this runtime, without reads and faults.
     pub fn new(rt: &'a R) -> RealFiles<'a, R>
         ensures { result ≡ record { history = []; faults = 0 } }
     {

@@ -13,11 +13,11 @@ use std::io;
 use std::io::{BufWriter, Print, Printer, Write};
 use std::marker::Model;
 
-/// The maximum number of bytes that are held back.
+/// The maximum number of bytes that the sink holds back.
 const HELD: usize = 65536;
 
-/// Standard output, buffered. It has no known number of bytes that it surely takes. Contracts see the bytes sent, the
-/// bytes held back and the count of faults.
+/// Standard output, buffered. The number of bytes that it is sure to take is not known. Contracts see the bytes sent,
+/// the bytes held back and the count of faults.
 #[derive(Drop)]
 pub struct RealSink<'a, R: Print> {
     out: BufWriter<Recorded<Printer<'a, R>>>,
@@ -31,8 +31,8 @@ impl<'a, R: Print> Model for RealSink<'a, R> {
 }
 
 impl<'a, R: Print> RealSink<'a, R> {
-    /// Returns the standard output of this runtime, with nothing put and no fault yet. Fails if there is no memory for
-    /// the buffer.
+    /// Returns the standard output of this runtime, without puts and faults. Returns an error if there is no memory
+    /// for the buffer.
     pub fn new(alloc: Global, rt: &'a R) -> Result<RealSink<'a, R>, NoMemory>
         ensures { IfOk result (λ sink. sink ≡ record { sent = []; held = []; faults = 0 }) }
     {

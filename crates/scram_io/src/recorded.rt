@@ -1,4 +1,4 @@
-//! A writer with a record of the bytes written.
+//! A writer that records the bytes written.
 ghost use Rattle.std.specs.Borrow.{ftrue};
 ghost use Rattle.std.specs.Prelude.{◌≡◌, ◌++◌, [], List, Some, ℕ};
 ghost use Rattle.std.specs.Io.{WritesAtMost};
@@ -9,7 +9,7 @@ use std::io::Write;
 use std::marker::Model;
 
 /// Bytes, in the order in which they were noted. They are ghost data, which takes no memory. Only a `Recorded` notes
-/// any.
+/// bytes.
 #[derive(Drop)]
 pub struct NotedBytes {
     pub ghost bytes: { List ℕ },
@@ -20,7 +20,7 @@ impl Model for NotedBytes {
 }
 
 impl NotedBytes {
-    /// Creates an empty note of bytes.
+    /// Creates a note without bytes.
     fn new() -> NotedBytes
         ensures { result.bytes ≡ [] }
     {
@@ -33,8 +33,8 @@ impl NotedBytes {
     {}
 }
 
-/// A writer with a note of all the bytes that its writes took. The note gives its `contents`. If the contents of
-/// `inner` are known too, both are shown to grow alike.
+/// A writer that notes all the bytes that its writes took. The noted bytes are its `contents`. If the contents of
+/// `inner` are known too, each write appends the same bytes to both.
 #[derive(Drop)]
 pub struct Recorded<W> {
     inner: W,
@@ -42,7 +42,7 @@ pub struct Recorded<W> {
 }
 
 impl<W> Recorded<W> {
-    /// Creates a recorder around a writer, with nothing written yet.
+    /// Creates a recorder around a writer. No bytes are noted yet.
     pub fn new(inner: W) -> Recorded<W>
         ensures inner { result.inner ≡ inner }
         ensures empty { result.taken.bytes ≡ [] }

@@ -4,22 +4,22 @@ ghost use Rattle.scram_io.specs.Outside.{Flushes, Prints, SinkState, greatest_co
 
 use thiserror::Error;
 
-/// The error of bytes that were not taken or not sent. The count of faults rose.
+/// The error of a put or a flush: some bytes were not taken or not sent. The count of faults rose.
 #[derive(Clone, Copy, Debug, PartialEq, Eq, Error)]
 #[error("the bytes could not be written")]
 pub struct SinkFault;
 
-/// A sink of bytes, which allocates nothing. Contracts see its `state`: the bytes sent, the bytes held back, the number
-/// of further bytes that it surely takes and sends, if known, and the count of faults. The count never falls and stays
-/// at the maximum `u64`.
+/// A sink of bytes, which allocates nothing. Contracts see its `state`: the bytes sent, the bytes held back, the
+/// number of further bytes that the sink is sure to take and send, if it is known, and the count of faults. The count
+/// never falls and stays at the maximum `u64`.
 pub trait Sink {
     ghost state: { Self → SinkState };
 
-    /// Takes all of `bytes`, or a prefix of them if it fails. The bytes may be sent now or later.
+    /// Takes all of `bytes`, or a prefix of them if the call fails. The sink sends the bytes at once or later.
     fn put(&mut self, bytes: &[u8]) -> Result<(), SinkFault>
         ensures { Prints result (state self.old) (state self.new) bytes.now };
 
-    /// Sends all bytes taken. After an `Ok` nothing is held back.
+    /// Sends all bytes taken. After an `Ok` no bytes are held back.
     fn flush(&mut self) -> Result<(), SinkFault>
         ensures { Flushes result (state self.old) (state self.new) };
 

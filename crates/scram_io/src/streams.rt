@@ -1,4 +1,4 @@
-//! Reading a whole stream and writing a whole buffer, for any kind of stream.
+//! Functions that read a whole stream and write a whole buffer, for any kind of stream.
 ghost use Rattle.std.specs.Prelude.{◌≡◌, ◌+◌, ◌≤◌, IfOk, IfSome, OnErr, OnOk, length};
 ghost use Rattle.std.specs.Io.KnownBytes.{Appends, Consumes};
 ghost use Rattle.scram_io.specs.Streams.{AppendsPrefix, ConsumesAtMost};
@@ -11,9 +11,13 @@ use std::io::{Read, Write};
 /// The maximum number of bytes that one call of `read` asks for.
 const PIECE: usize = 4096;
 
-/// Reads a stream to its end, or until it has given more than `limit` bytes.
+/// Reads a stream to its end, or until more than `limit` bytes were read.
 ///
-/// It asks for at most `limit + 1` bytes in all and ends when a read gives none. It fails if a read fails.
+/// It asks for at most `limit + 1` bytes in all and ends when a read gives no bytes.
+///
+/// # Errors
+///
+/// Returns the error of a read that fails, and an error of kind `OutOfMemory` if memory runs out.
 pub fn read_past<I: Read>(alloc: Global, input: &mut I, limit: usize) -> io::Result<Vec<u8>>
     ensures whole { IfOk result (λ bytes. length bytes.items ≤ limit → IfSome (I.remaining input.old) (λ all. bytes.items ≡ all)) }
     ensures lost { IfOk result (λ bytes. Consumes (I.remaining input.old) (I.remaining input.new) bytes.items) }
@@ -32,7 +36,7 @@ pub fn read_past<I: Read>(alloc: Global, input: &mut I, limit: usize) -> io::Res
     Ok(bytes)
 }
 
-/// Writes all the bytes to a stream, which need not pass them on. Fails if a write takes nothing.
+/// Writes all the bytes to a stream, which may keep them back. Returns an error if a write fails or takes no bytes.
 pub fn write_whole<O: Write>(output: &mut O, bytes: &[u8]) -> Result<(), SinkFault>
     ensures whole { OnOk result (Appends (O.contents output.old) (O.contents output.new) bytes.now) }
     ensures prefix { OnErr result (AppendsPrefix (O.contents output.old) (O.contents output.new) bytes.now) }

@@ -1,4 +1,4 @@
--- Sets of numbers that are kept as bits, bit by bit.
+-- Lemmas on sets of numbers that are kept as bits.
 use Rattle.std.proofs.Common.{◌≡◌, ◌∙◌, ℕ, zero, suc, ◌+◌, ◌-◌, ◌*◌, ◌^◌, ◌<◌, ◌≤◌, ◌%◌, ◌/◌, refl, ap, sym, arith, Bool, true, false, not, ◌&&◌, ◌||◌, ◌⊎◌}
 use mathlib.Core.Logic.{inl, inr}
 use Rattle.std.specs.Prelude.{◌==◌, max, min, bit_and, bit_or, if◌then◌else◌}
@@ -12,14 +12,14 @@ use Rattle.scram_types.proofs.Naturals.{below_or_at, differ_test, equal_test, sa
 pub twice : (n : ℕ) → 2 ^ suc n ≡ 2 ^ n + 2 ^ n
 twice n = pow-suc 2 n ∙ omega arith
 
--- a test as a bit
+-- The bit that stands for the result of a test.
 abbrev pub bit_of : Bool → ℕ
 bit_of b = if b then 1 else 0
 
 pub bit_cases : (set p : ℕ) → (bit_at set p ≡ 0) ⊎ (bit_at set p ≡ 1)
 bit_cases set p = let low : bit_at set p < 2 = mod_below (set / 2 ^ p) 2 (omega arith) in grind arith
 
--- no bit is set at or past the end
+-- If a set is below `2 ^ n`, its bits from `n` on are 0.
 pub no_bit : (set n p : ℕ) → set < 2 ^ n → n ≤ p → bit_at set p ≡ 0
 no_bit set n p few past =
     let wide : 2 ^ n ≤ 2 ^ p = pow-le-pow_right (omega arith) past in
@@ -32,7 +32,7 @@ no_bit_past set n p few past = rw (no_bit set n p few past) refl
 pub no_high_bit : (set p : ℕ) → set < 256 → 8 ≤ p → has_bit set p ≡ false
 no_high_bit set p few high = rw (no_bit set 8 p few high) refl
 
--- the lower bits of a number, with one further bit
+-- The lower `n + 1` bits of a number are bit `n` and the lower `n` bits.
 pub low_bits : (set n : ℕ) → set % 2 ^ suc n ≡ bit_at set n * 2 ^ n + set % 2 ^ n
 low_bits set n = let e : suc n ≡ 1 + n = omega arith in rw e (mod-pow-add set 1 n)
 
@@ -52,7 +52,7 @@ lowest : (b : Bool) → bit_at (bit_of b) 0 ≡ bit_of b
 lowest true = refl
 lowest false = refl
 
--- each bit is the answer of the test
+-- Each bit of `bits_below` is the result of the test.
 pub bit_is : (test : ℕ → Bool) (n i : ℕ) → i < n → bit_at (bits_below test n) i ≡ bit_of (test i)
 bit_is test zero i h = absurd (omega arith)
 bit_is test (suc n) i h = elim (below_or_at i n h) [
@@ -69,7 +69,7 @@ set_bit false = refl
 pub has_bits : (test : ℕ → Bool) (n i : ℕ) → i < n → has_bit (bits_below test n) i ≡ test i
 has_bits test n i low = rw (bit_is test n i low) (set_bit (test i))
 
--- a set is known by its bits
+-- Two sets with the same bits are equal.
 pub bits_are : (set : ℕ) (test : ℕ → Bool) (n : ℕ) → set < 2 ^ n → ((i : ℕ) → i < n → bit_at set i ≡ bit_of (test i)) → set ≡ bits_below test n
 bits_are set test n few is = same_from_bits_below n set (bits_below test n) few (bits_lt test n) (λ i low. is i low ∙ sym (bit_is test n i low))
 
@@ -103,14 +103,14 @@ bits_but s t n few =
     (λ i under. bit_at_and (bits_below s n) (bit_not w8 (bits_below t n)) i
     ∙ rw (bit_at_not w8 (bits_below t n) i (within t n few) (omega arith), bit_is s n i under, bit_is t n i under) (but (s i) (t i)))
 
--- adding a number to a set
+-- If a set contains only numbers below `p`, adding `p` to it adds `2 ^ p` to its value.
 pub bit_more : (set p : ℕ) → p < 8 → set < 2 ^ p → bit_or set ((1 * 2 ^ p) % 256) ≡ set + 2 ^ p
 bit_more set p low few =
     let shifted : (1 * 2 ^ p) % 256 ≡ 2 ^ p = one_shl p 8 low in
     let single : 2 ^ p ≡ 1 * 2 ^ p = omega arith in
     rw (shifted, or_comm set (2 ^ p)) (ap (λ x. bit_or x set) single ∙ or_shifted 1 p set few ∙ omega arith)
 
--- all numbers below n
+-- The set of all numbers below `n` is `2 ^ n - 1`.
 
 all_ones : (n : ℕ) → bits_below (λ i. true) n + 1 ≡ 2 ^ n
 all_ones zero = omega arith
@@ -119,7 +119,7 @@ all_ones (suc n) = let before = all_ones n in rw (twice n) (omega arith)
 pub bits_all : (n : ℕ) → 2 ^ n - 1 ≡ bits_below (λ i. true) n
 bits_all n = let all = all_ones n in omega arith
 
--- the members of a set after adding a number
+-- A member of a set to which `k` was added is a member of the original set or `k`.
 pub has_more : (set k n : ℕ) → has_bit (bit_or set (2 ^ k)) n ≡ true → (has_bit set n ≡ true) ⊎ (n ≡ k)
 has_more set k n is = elim (same_or_not n k) [
   | inl same ↦ inr same
@@ -128,7 +128,7 @@ has_more set k n is = elim (same_or_not n k) [
       sym (ap (λ (b : ℕ). b == 1) beside) ∙ is)
 ]
 
--- counts of the numbers that pass
+-- Lemmas on the count of the numbers that pass a test.
 
 bit_most : (b : Bool) → bit_of b ≤ 1
 bit_most true = omega arith
@@ -148,7 +148,7 @@ rises_by s t n false true e f more before = (n, omega arith, e, f)
 rises_by s t n false false e f more before = let found = before (omega arith) in (found.0, omega arith, found.2, found.3)
 rises_by s t n true b e f more before = let most = bit_most b in let found = before (omega arith) in (found.0, omega arith, found.2, found.3)
 
--- if more numbers pass the second test, some number passes it and not the first
+-- If more numbers pass the second test than the first, some number passes the second test but not the first.
 pub count_rises : (s t : ℕ → Bool) (n : ℕ) → count_below s n < count_below t n → (k : ℕ) × (k < n) × (s k ≡ false) × (t k ≡ true)
 count_rises s t zero h = absurd (omega arith)
 count_rises s t (suc n) h = rises_by s t n (s n) (t n) refl refl h (count_rises s t n)
@@ -157,7 +157,7 @@ last_more : (b t : Bool) (c : ℕ) → (b ≡ true → t ≡ false) → c + bit_
 last_more true t c f = rw (f refl) (omega arith)
 last_more false t c f = omega arith
 
--- the count rises by one if a number passes that did not pass before
+-- If a number that did not pass a test passes the extended test, the count rises by one.
 pub count_more : (s : ℕ → Bool) (q n : ℕ) (b : Bool) → q < n → (b ≡ true → s q ≡ false) → count_below (λ p. (q == p && b) || s p) n ≡ count_below s n + bit_of b
 count_more s q zero b less apart = absurd (omega arith)
 count_more s q (suc n) b less apart = elim (below_or_at q n less) [

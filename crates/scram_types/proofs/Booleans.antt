@@ -1,4 +1,4 @@
--- Facts on tests that are joined. The values of `b && true`, `b || true` and their like are in std's Math.Bool.
+-- Lemmas on tests that are joined. The values of `b && true`, `b || true` and the like are in std's Math.Bool.
 use Rattle.std.proofs.Common.{◌≡◌, Bool, true, false, refl, sym}
 use Rattle.std.specs.Prelude.{◌&&◌}
 pub use Rattle.std.proofs.lemmas.Bool.{and_from as and_true, and_left as left_false, and_right as right_false, or_left, or_right, or_cases, or_parts as or_false, false_from_ne_true as not_true, true_from_ne_false as not_false}
@@ -22,13 +22,13 @@ pub by_bool : {P : Type 0} (b : Bool) → (b ≡ true → P) → (b ≡ false �
 by_bool true t f = t refl
 by_bool false t f = f refl
 
--- two tests that follow from each other
+-- Two tests that imply each other are equal.
 pub same_test : (a b : Bool) → (a ≡ true → b ≡ true) → (b ≡ true → a ≡ true) → a ≡ b
 same_test true b h k = sym (h refl)
 same_test false true h k = k refl
 same_test false false h k = refl
 
--- the second test fails if the first one passes
+-- If the first test implies that the second one fails, not both pass.
 pub both_false : (a b : Bool) → (a ≡ true → b ≡ false) → (a && b) ≡ false
 both_false true b f = f refl
 both_false false b f = refl

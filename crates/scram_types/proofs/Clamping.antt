@@ -6,7 +6,7 @@ use Rattle.scram_types.specs.declared.ranges.Range.{Range}
 use Rattle.scram_types.specs.Numbers.{minus, clamp, modulo}
 use Rattle.scram_types.specs.Ranges.{clamp_in, limit}
 
--- The number x is within the range.
+-- The number `x` is within the range.
 pub record IsInRange (r : Range) (x : ℤ) : Type 0 where
   pub least : minus r.below ≤ℤ x
   pub greatest : x ≤ℤ pos r.above
@@ -20,7 +20,7 @@ in_clamp r x = by (int_lt x (minus r.below)) (int_lt (pos r.above) x) refl refl
     by false true e f = record { least = omega (arith, ints); greatest = omega (arith, ints) }
     by false false e f = record { least = omega (arith, ints); greatest = omega (arith, ints) }
 
--- headings, in tenths of a degree
+-- A heading modulo 3,600 tenths of a degree is within 0 to 3,599.
 pub in_circle : (x : ℤ) → IsInRange (limit 0 3599) (modulo x 3600)
 unfolding modulo
 in_circle (pos a) = let h : a % 3600 < 3600 = mod-lt a (omega arith) in record { least = omega (arith, ints); greatest = omega (arith, ints) }

@@ -1,4 +1,4 @@
--- Lists of eight elements, element by element.
+-- Lemmas on lists of eight elements.
 use Rattle.std.proofs.Common.{◌≡◌, ℕ, zero, suc, ◌<◌, refl, arith}
 use Rattle.std.specs.Prelude.{slice_index_or}
 use Rattle.scram_types.specs.Eights.{eight}

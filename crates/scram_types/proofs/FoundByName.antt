@@ -1,4 +1,4 @@
--- An item of a list is found by its name.
+-- A lookup by name finds the item that has the name.
 use Rattle.std.proofs.Common.{◌≡◌, ◌+◌, ◌<◌, ℕ, zero, suc, Bool, true, false, cond, List, [], ◌∷◌, length, arith, refl, ap, ◌∙◌}
 use Rattle.std.specs.Prelude.{Option, Some, slice_get}
 use Rattle.std.specs.Bool.{Decides}
@@ -15,7 +15,7 @@ later : (test : Bool) (P : Type 0) (k i : ℕ) (rest : Option ℕ) → Decides t
 later true P k i rest decides apart e = absurd (apart (decides.0 refl))
 later false P k i rest decides apart e = e ∙ ap (λ (n : ℕ). Some n) (omega arith)
 
--- if names differ, an item is found by its own name
+-- If the names of the items differ, the lookup of an item's name finds the item.
 pub found_named : {A : Type 0} (name : A → List ℕ) (k i : ℕ) (xs : List A) (x : A) → NamesDiffer name xs → slice_get xs i ≡ Some x → number_from name k xs (name x) ≡ Some (k + i)
 found_named name k i [] x differ e = none_some x e
 found_named name k zero (y ∷ ys) x differ e =

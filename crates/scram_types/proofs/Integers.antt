@@ -1,4 +1,4 @@
--- Tests on whole numbers, and the orders that they decide.
+-- Tests on integers, and the orders that they decide.
 use Rattle.std.proofs.Common.{int_le, ◌≡◌, Bool, true, false, refl, sym, subst}
 use Rattle.std.specs.Prelude.{ℤ, ◌≤ℤ◌}
 use lib.Signed.{le_z_yes}

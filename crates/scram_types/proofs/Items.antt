@@ -1,4 +1,4 @@
--- Tests of lists, and items by their indexes.
+-- Lemmas on tests of lists, and on the items of lists at their indexes.
 use Rattle.std.proofs.Common.{◌≡◌, ℕ, zero, suc, ◌<◌, Bool, true, false, refl, arith, List, [], ◌∷◌, ◌++◌, length, get_or}
 use mathlib.Core.Logic.{inl, inr}
 use Rattle.std.specs.Prelude.{◌||◌, Some, replicate, slice_get}
@@ -9,13 +9,13 @@ use Rattle.scram_types.specs.Specification.{Each}
 use Rattle.scram_types.proofs.Booleans.{and_left, and_right, or_cases}
 use Rattle.scram_types.proofs.Options.{same_some}
 
--- an item of a list
+-- A list has an item at each index below its length.
 pub some_item : {A P : Type 0} (xs : List A) (i : ℕ) → i < length xs → ((x : A) → slice_get xs i ≡ Some x → P) → P
 some_item [] i less then = absurd (omega (arith, less))
 some_item (x ∷ xs) zero less then = then x refl
 some_item (x ∷ xs) (suc i) less then = some_item xs i (omega (arith, less)) then
 
--- tests of any
+-- Lemmas on `list_any`, which tests if some item passes.
 
 pub any_found : {A : Type 0} (test : A → Bool) (xs : List A) → list_any test xs ≡ true → (i : ℕ) × (x : A) × (slice_get xs i ≡ Some x) × (test x ≡ true)
 any_found test [] h = absurd (cc)
@@ -48,7 +48,7 @@ pub any_or : {A : Type 0} (s t : A → Bool) (xs : List A) → list_any (λ x. s
 any_or s t [] = refl
 any_or s t (x ∷ xs) = rw (any_or s t xs) (or_mixed (s x) (t x) (list_any s xs) (list_any t xs))
 
--- tests of all
+-- Lemmas on `list_all`, which tests if each item passes.
 
 pub each_passes : {A : Type 0} (test : A → Bool) (xs : List A) → list_all test xs ≡ true → (i : ℕ) (x : A) → slice_get xs i ≡ Some x → test x ≡ true
 each_passes test [] h i x e = let none : i < 0 = slice_get_within [] i x e in absurd (omega arith)
@@ -61,7 +61,7 @@ pub all_pass : {A : Type 0} (test : A → Bool) (xs : List A) → ((i : ℕ) (x 
 all_pass test [] h = refl
 all_pass test (x ∷ xs) h = rw (h 0 x refl, all_pass test xs (λ i y e. h (suc i) y e)) refl
 
--- items of lists that are joined
+-- Lemmas on the items of lists that are joined.
 
 pub first_part : {A : Type 0} (xs ys : List A) (k : ℕ) (x : A) → slice_get xs k ≡ Some x → slice_get (xs ++ ys) k ≡ Some x
 first_part {A} [] ys k x h = let past = slice_get_within {A = A} [] k x h in absurd (omega arith)
@@ -78,7 +78,7 @@ each_end {A} Fact [] x known new (suc i) y there = let none = slice_get_within {
 each_end Fact (first ∷ xs) x known new zero y there = known zero y there
 each_end Fact (first ∷ xs) x known new (suc i) y there = each_end Fact xs x (λ k z here. known (suc k) z here) new i y there
 
--- a list of zeros has 0 at every index, and so has the default past its end
+-- A list of zeros has 0 at every index, and the default past its end is 0 too.
 pub zeros_everywhere : (n x : ℕ) → ◌≡◌ {A = ℕ} (get_or (replicate n 0) x 0) 0
 zeros_everywhere zero x = refl
 zeros_everywhere (suc n) zero = refl

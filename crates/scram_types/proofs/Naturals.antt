@@ -1,4 +1,4 @@
--- Comparisons of numbers.
+-- Lemmas on comparisons of natural numbers.
 use Rattle.std.proofs.Common.{◌≡◌, ℕ, suc, ◌+◌, ◌<◌, ◌≤◌, arith, ◌⊎◌}
 pub use Rattle.std.proofs.lemmas.Bool.{cases_lt as low_or_high, cases_eq as same_or_not, ltb-true as below, lt-ltb as below_test, ltb-false as not_below, le-ltb as not_below_test, leb-true as at_most, le-leb as at_most_test, leb-false as above, lt-leb as above_test, eqb-true as equal, eq-eqb as equal_test, eqb-false as differ, ne_eqb as differ_test}
 

@@ -1,4 +1,4 @@
--- Facts on options.
+-- Lemmas on options.
 use Rattle.std.proofs.Common.{◌≡◌, false, refl, ◌⊎◌}
 use mathlib.Core.Logic.{inl, inr}
 use Rattle.std.specs.Prelude.{Option, Some, None, is_some}
@@ -19,7 +19,7 @@ pub none_where_not_some : {A : Type 0} (o : Option A) → is_some o ≡ false �
 none_where_not_some None e = refl
 none_where_not_some (Some x) e = absurd (cc)
 
--- one of two
+-- Lemmas on `option_or`, the first of two options that is not `None`.
 
 pub none_left : {A : Type 0} (o p : Option A) → option_or o p ≡ None → o ≡ None
 none_left None p e = refl

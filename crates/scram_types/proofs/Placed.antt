@@ -1,4 +1,4 @@
--- Items read from a list, and the places of applications in a configuration.
+-- Lemmas on items read from a list, and on the places of applications in a configuration.
 use Rattle.std.proofs.Common.{◌≡◌, ℕ, ◌<◌, refl, arith, true, List, length}
 use Rattle.std.specs.Prelude.{Option, Some, None, IfSome, nat_lt, slice_get, slice_index_or}
 use Rattle.std.proofs.lemmas.Bool.Decides.{nat_tests}
@@ -12,7 +12,7 @@ read_within xs i x test here =
     let low : i < length xs = grind (arith, nat_tests, test) in
     slice_get_read xs (length xs) i x refl low here
 
--- the processor of a placed application exists
+-- If an application has a place, the processor of the place has a number below 8.
 on_processor : (spec : Parts) → IsSpec spec → (c a : ℕ) (conf : Conf) → slice_get spec.confs c ≡ Some conf → (place : Option Place) → place_in conf a ≡ place → IfSome place (λ p. p.proc.0 < 8)
 on_processor spec facts c a conf there None is = tt
 on_processor spec facts c a conf there (Some place) is =

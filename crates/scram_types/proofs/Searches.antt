@@ -1,4 +1,4 @@
--- Results of a search through the numbers below n.
+-- Lemmas on searches through the numbers below `n`.
 use Rattle.std.proofs.Common.{◌≡◌, ℕ, zero, suc, ◌+◌, ◌-◌, ◌<◌, ◌≤◌, Bool, true, false, refl, arith, ap, sym, ◌∙◌, ◌⊎◌, [], ◌∷◌, ◌++◌, length}
 use mathlib.Core.Logic.{inl, inr}
 use Rattle.std.specs.Prelude.{Option, Some, None, is_some, max, slice_get}
@@ -12,7 +12,7 @@ use Rattle.scram_types.proofs.Items.{first_part, next_part}
 use Rattle.scram_types.proofs.Naturals.{at_or_below, below_or_at, plus_one}
 use Rattle.scram_types.proofs.Options.{none_both, none_left, none_right, none_where_not_some, some_either, some_none}
 
--- tests of all
+-- Lemmas on `all_below`.
 
 pub all_each : (test : ℕ → Bool) (n k : ℕ) → all_below test n ≡ true → k < n → test k ≡ true
 all_each test zero k e less = absurd (omega arith)
@@ -28,7 +28,7 @@ each_all test (suc n) each = rw (each_all test n (λ k less. each k (omega arith
 pub all_false : (test : ℕ → Bool) (n k : ℕ) → k < n → test k ≡ false → all_below test n ≡ false
 all_false test n k less here = by_bool (all_below test n) (λ t. true_false (test k) (all_each test n k t less) here) (λ f. f)
 
--- if not all pass, one fails
+-- If not all numbers pass a test, some number fails it.
 pub fails_below : (test : ℕ → Bool) (n : ℕ) → all_below test n ≡ false → (k : ℕ) × (k < n) × (test k ≡ false)
 fails_below test zero h = absurd (cc)
 fails_below test (suc n) h = elim (and_cases (all_below test n) (test n) h) [
@@ -39,7 +39,7 @@ fails_below test (suc n) h = elim (and_cases (all_below test n) (test n) h) [
 pub all_more : (test : ℕ → Bool) (n : ℕ) → all_below test n ≡ true → test n ≡ true → all_below test (n + 1) ≡ true
 all_more test n before here = rw (← plus_one n, before) here
 
--- tests of any
+-- Lemmas on `any_below`.
 
 pub any_below_is : (test : ℕ → Bool) (n k : ℕ) → test k ≡ true → k < n → any_below test n ≡ true
 any_below_is test zero k e less = absurd (omega arith)
@@ -55,7 +55,7 @@ any_below_found test (suc n) e = elim (or_cases (any_below test n) (test n) e) [
   | inr here ↦ (n, omega arith, here)
 ]
 
--- if none passes from `low` on, the search below n is the search below `low`
+-- If no number from `low` on passes a test, `any_below` has the same value for `n` and for `low`.
 pub any_skip : (test : ℕ → Bool) (n low : ℕ) → low ≤ n → ((k : ℕ) → low ≤ k → k < n → test k ≡ false) → any_below test n ≡ any_below test low
 any_skip test zero low h none = let least : zero ≡ low = omega arith in ap (any_below test) least
 any_skip test (suc n) low h none = elim (at_or_below low n h) [
@@ -63,7 +63,7 @@ any_skip test (suc n) low h none = elim (at_or_below low n h) [
   | inr same ↦ ap (any_below test) (sym same)
 ]
 
--- the first answer
+-- Lemmas on `first_below`, the first value of a function.
 
 pub none_below : {A : Type 0} (answer : ℕ → Option A) (n : ℕ) → ((k : ℕ) → k < n → answer k ≡ None) → first_below answer n ≡ None
 none_below answer zero each = refl
@@ -100,7 +100,7 @@ found_below answer (suc n) x e = elim (some_either (first_below answer n) (answe
   | inr here ↦ (n, omega arith, here)
 ]
 
--- the least number, from one number to the next
+-- Lemmas on `least_from`, for one step of a search.
 
 pub least_passes : (test : ℕ → Bool) (n c : ℕ) → c < n → test c ≡ false → least_from test (c + 1) (n - (c + 1)) ≡ least_from test c (n - c)
 least_passes test n c below fails =
@@ -111,7 +111,7 @@ least_passes test n c below fails =
 pub least_here : (test : ℕ → Bool) (n c : ℕ) → c < n → test c ≡ true → least_from test c (n - c) ≡ Some c
 least_here test n c below holds = let e : n - c ≡ suc (n - (c + 1)) = omega arith in rw (e, holds) refl
 
--- the greatest value
+-- Lemmas on `greatest_below`.
 
 pub greatest_most : (value : ℕ → ℕ) (n k : ℕ) → k < n → value k ≤ greatest_below value n
 greatest_most value zero k less = absurd (omega arith)
@@ -123,7 +123,7 @@ greatest_most value (suc n) k less = elim (below_or_at k n less) [
 max_or : (a b : ℕ) → (max a b ≡ a) ⊎ (max a b ≡ b)
 max_or a b = grind arith
 
--- the greatest value is 0 or the value of some number
+-- The maximum is 0 or the value of some number below `n`.
 pub greatest_reached : (value : ℕ → ℕ) (n : ℕ) → (greatest_below value n ≡ 0) ⊎ ((k : ℕ) × (k < n) × (greatest_below value n ≡ value k))
 greatest_reached value zero = inl refl
 greatest_reached value (suc n) = elim (max_or (value n) (greatest_below value n)) [
@@ -146,7 +146,7 @@ pub greatest_same : (f g : ℕ → ℕ) (n : ℕ) → ((k : ℕ) → k < n → f
 greatest_same f g zero h = refl
 greatest_same f g (suc n) h = rw (h n (omega arith), greatest_same f g n (λ k less. h k (omega arith))) refl
 
--- listed values
+-- Lemmas on `listed_below`.
 
 pub length_listed : {A : Type 0} (value : ℕ → A) (n : ℕ) → length (listed_below value n) ≡ n
 length_listed value zero = refl
@@ -164,7 +164,7 @@ told_by : {A : Type 0} (answer : ℕ → Option A) (n : ℕ) (x : A) (o : Option
 told_by answer n x (Some y) is told before = let found = before (is ∙ told) in (found.0, omega arith, found.2, found.3)
 told_by answer n x None is told before = (n, omega arith, is, told)
 
--- the first answer, and where it is given
+-- If there is a first value, some number below `n` has it, and no lower number has a value.
 pub first_told : {A : Type 0} (answer : ℕ → Option A) (n : ℕ) (x : A) → first_below answer n ≡ Some x → (k : ℕ) × (k < n) × (first_below answer k ≡ None) × (answer k ≡ Some x)
 first_told answer zero x e = some_none x (sym e)
 first_told answer (suc n) x e = told_by answer n x (first_below answer n) refl e (first_told answer n x)

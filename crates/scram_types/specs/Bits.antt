@@ -1,17 +1,17 @@
--- Sets of numbers that are kept as bits, and the numbers below a number that pass a test.
+-- Sets of numbers that are kept as bits, and the set and the count of the numbers below a limit that pass a test.
 use Rattle.std.specs.Prelude.{ℕ, zero, suc, ◌+◌, ◌^◌, Bool, ◌==◌, if◌then◌else◌}
 use Rattle.std.specs.Int.{bit_at}
 
--- Number p is in a set of numbers that is kept as bits.
+-- The number `p` is in the set, which is kept as bits.
 abbrev pub has_bit : ℕ → ℕ → Bool
 has_bit set p = bit_at set p == 1
 
--- The numbers below n that pass a test, as bits: the sum of 2 ^ p over them.
+-- The set of the numbers below `n` that pass a test, as bits: the sum of `2 ^ p` over each such number `p`.
 abbrev pub bits_below : (ℕ → Bool) → ℕ → ℕ
 bits_below test zero = 0
 bits_below test (suc n) = bits_below test n + (if test n then 2 ^ n else 0)
 
--- The number of numbers below n that pass a test.
+-- The count of the numbers below `n` that pass a test.
 abbrev pub count_below : (ℕ → Bool) → ℕ → ℕ
 count_below test zero = 0
 count_below test (suc n) = count_below test n + (if test n then 1 else 0)

@@ -12,6 +12,6 @@ abbrev pub is_name : List ℕ → Bool
 is_name [] = false
 is_name (first ∷ rest) = is_ascii_lowercase first && list_all is_name_byte rest && nat_le (length (first ∷ rest)) 16
 
--- The name that a text spells, or nothing if the text is not a name.
+-- The name that a text spells, or `None` if the text is not a name.
 abbrev pub name_of : List ℕ → Option (List ℕ)
 name_of text = if is_name text then Some text else None

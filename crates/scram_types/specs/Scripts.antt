@@ -1,10 +1,10 @@
--- A script as plain data.
+-- A fault script as plain data.
 use Rattle.std.specs.Prelude.{ℕ, List}
 use Rattle.scram_types.specs.declared.scripts.Change.{Change}
 use Rattle.scram_types.specs.declared.scripts.HaltAt.{HaltAt}
 use Rattle.scram_types.specs.declared.scripts.RestartAt.{RestartAt}
 
--- A script, as contracts see it.
+-- A fault script, as contracts see it.
 pub record ScriptParts : Type 0 where
   pub frames : ℕ
   pub changes : List Change

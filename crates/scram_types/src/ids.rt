@@ -1,4 +1,4 @@
-//! Numbers of applications, processors, configurations, factors, kinds and modes.
+//! The numbers by which applications, processors, configurations, factors, kinds and modes are known.
 
 /// An application, as an index into the specification's applications. The default is the first application.
 #[derive(Clone, Copy, Debug, Default, PartialEq, Eq)]
@@ -20,6 +20,6 @@ pub struct FactorId(pub u8);
 #[derive(Clone, Copy, Debug, PartialEq, Eq)]
 pub struct KindId(pub u8);
 
-/// A mode of an application's kind, counted from 1; mode 0 is off.
+/// A mode of an application's kind, counted from 1. Mode 0 is off.
 #[derive(Clone, Copy, Debug, PartialEq, Eq)]
 pub struct Mode(pub u8);

@@ -1,9 +1,9 @@
-//! A list that contracts see as its items alone.
+//! A list of which contracts see only the items.
 
 ghost use Rattle.std.specs.Prelude.{◌≡◌};
 
-/// Items in order. Contracts see the items but not the capacity, so a value that holds a list can equal the value of a
-/// definition.
+/// A list of items in order. Contracts see the items but not the capacity, so a value that contains a list can equal
+/// the value of a definition.
 #[derive(Drop)]
 pub struct List<T> {
     items: Vec<T>,
@@ -18,7 +18,7 @@ impl<T> std::marker::Model for List<T> {
 }
 
 impl<T> List<T> {
-    /// Returns the list of these items.
+    /// Creates the list of these items.
     pub fn of(items: Vec<T>) -> List<T>
         ensures { result ≡ items.items }
     {

@@ -9,7 +9,7 @@ use crate::rows::{Env, Row};
 use crate::specification::{Factor, ModeSpec, Place, Spec};
 
 impl Spec {
-    /// Returns the application of this name, or `None` if there is none.
+    /// Returns the application with this name, or `None` if there is no such application.
     pub fn app_named(&self, text: &[u8]) -> Option<AppId>
         ensures app { result ≡ app_named self.now text.now }
         ensures below { IfSome result (λ app. app.0 < length self.now.apps) }
@@ -22,7 +22,7 @@ impl Spec {
         None
     }
 
-    /// Returns the processor of this name, or `None` if there is none.
+    /// Returns the processor with this name, or `None` if there is no such processor.
     pub fn proc_named(&self, text: &[u8]) -> Option<ProcId>
         ensures proc { result ≡ proc_named self.now text.now }
         ensures below { IfSome result (λ proc. proc.0 < length self.now.procs) }
@@ -35,7 +35,7 @@ impl Spec {
         None
     }
 
-    /// Returns the configuration of this name, or `None` if there is none.
+    /// Returns the configuration with this name, or `None` if there is no such configuration.
     pub fn conf_named(&self, text: &[u8]) -> Option<ConfId>
         ensures conf { result ≡ conf_named self.now text.now }
         ensures below { IfSome result (λ conf. conf.0 < length self.now.confs) }
@@ -48,7 +48,7 @@ impl Spec {
         None
     }
 
-    /// Returns the factor of this name, or `None` if there is none.
+    /// Returns the factor with this name, or `None` if there is no such factor.
     pub fn factor_named(&self, text: &[u8]) -> Option<FactorId>
         ensures factor { result ≡ factor_named self.now text.now }
         ensures below { IfSome result (λ factor. factor.0 < length self.now.factors) }
@@ -116,7 +116,7 @@ impl Spec {
         }
     }
 
-    /// Returns the place of an application in a configuration, or `None` if the application is off there.
+    /// Returns the place of application `app` in configuration `c`, or `None` if the application is off there.
     pub fn place_of(&self, c: ConfId, app: AppId) -> Option<Place>
         ensures place { result ≡ place_of self.now c app.0 }
         ensures proc { IfSome result (λ place. place.proc.0 < 8) }
@@ -127,7 +127,7 @@ impl Spec {
         }
     }
 
-    /// Returns whether an application is on in a configuration.
+    /// Returns `true` if an application is on in a configuration.
     pub fn is_on(&self, conf: ConfId, app: AppId) -> bool
         ensures { result ≡ is_on self.now conf app.0 }
     {
@@ -161,7 +161,8 @@ impl Spec {
 }
 
 impl Factor {
-    /// Returns the number of the value of this name, or `None` if there is none. The factor has at most 255 values.
+    /// Returns the number of the value with this name, or `None` if there is no such value. The factor has at most
+    /// 255 values.
     pub fn value_named(&self, text: &[u8]) -> Option<u8>
         requires { length self.now.values ≤ 255 }
         ensures { result ≡ value_named self.now text.now }
@@ -169,7 +170,8 @@ impl Factor {
         number_of_name(self.values.items(), text)
     }
 
-    /// Returns the name of a value, at most 16 bytes, or an empty string if the factor has no such value.
+    /// Returns the name of a value of the factor, at most 16 bytes, or an empty string if the factor has no such
+    /// value.
     pub fn value_name(&self, value: u8) -> &str
         ensures name { result.now ≡ value_name self.now value }
         ensures short { length result.now ≤ 16 }
@@ -203,7 +205,8 @@ pub fn env_in(rows: &[Row], k: usize) -> Option<Env>
     }
 }
 
-/// Returns the environment of the row preceding row `k`, or the environment at the start of a flight if `k` is 0.
+/// Returns the environment of the row before row `k`, or the environment at the start of a flight if `k` is 0.
+/// Returns `None` if there is no such row.
 pub fn env_before(spec: &Spec, rows: &[Row], k: usize) -> Option<Env>
     ensures { result ≡ env_before spec.now rows.now k }
 {

@@ -1,4 +1,4 @@
-//! Out of memory: an error that any call that allocates may return.
+//! The error that any call that allocates returns if memory runs out.
 
 use std::alloc::{AllocError, AllocFailed};
 

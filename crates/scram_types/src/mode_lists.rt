@@ -5,7 +5,7 @@ ghost use Rattle.scram_types.specs.ModeLists.{is_among};
 
 use crate::ids::Mode;
 
-/// Up to three modes, in order. Contracts see the list of them.
+/// A list of up to three modes, in order. Contracts see it as a list of modes.
 #[derive(Clone, Copy)]
 pub struct Modes {
     items: [Mode; 3],
@@ -39,7 +39,7 @@ impl Modes {
         }
     }
 
-    /// Appends a mode.
+    /// Appends a mode to the list, which has fewer than three modes.
     pub fn push(&mut self, mode: Mode)
         requires { length self.old < 3 }
         ensures { self.new ≡ self.old ++ mode ∷ [] }
@@ -48,7 +48,7 @@ impl Modes {
         self.count += 1;
     }
 
-    /// Returns whether a mode is in the list.
+    /// Returns `true` if a mode is in the list.
     pub fn has(&self, mode: Mode) -> bool
         ensures { result ≡ is_among self.now mode.0 }
     {

@@ -7,7 +7,7 @@ ghost use Rattle.scram_types.specs.Names.{is_name, is_name_byte, name_of};
 use arrayvec::ArrayString;
 use std::fmt;
 
-/// A name: 1 to 16 lower-case letters, digits or `_`, of which the first is a letter.
+/// A name: 1 to 16 bytes, each a lower-case letter, a digit or `_`, of which the first is a letter.
 #[derive(Debug, Drop)]
 pub struct Name {
     text: ArrayString<16>,
@@ -25,7 +25,7 @@ impl std::marker::Model for Name {
 }
 
 impl Name {
-    /// Returns the name that `text` spells, or `None` if `text` is not a name.
+    /// Returns the name with the spelling `text`, or `None` if `text` is not a valid name.
     pub fn of(text: &str) -> Option<Name>
         ensures { result ≡ name_of text.now }
     {
@@ -56,7 +56,7 @@ impl Name {
 }
 
 impl Default for Name {
-    /// Returns the name `a`, which fills the unused elements of a list of fixed length.
+    /// Returns the name `a`, which fills the unused elements of arrays of names.
     fn default() -> Name {
         let mut text = ArrayString::new();
         text.push('a');

@@ -20,7 +20,7 @@ pub fn clamped(x: i64, low: i64, high: i64) -> i64
     }
 }
 
-/// Returns `x + y`, where both numbers are within 2^32 of 0.
+/// Returns `x + y`. Both numbers are within 2^32 of 0.
 pub fn sum(x: i64, y: i64) -> i64
     requires x { FitsSums x }
     requires y { FitsSums y }
@@ -31,7 +31,7 @@ pub fn sum(x: i64, y: i64) -> i64
     x + y
 }
 
-/// Returns `target - x`, where both numbers are within 2^32 of 0.
+/// Returns `target - x`. Both numbers are within 2^32 of 0.
 pub fn gap(x: i64, target: i64) -> i64
     requires x { FitsSums x }
     requires target { FitsSums target }

@@ -1,27 +1,28 @@
-//! The kernel's modes, its orders, and the acts of applications.
+//! The kernel's modes, its orders to applications, and the acts of applications.
 
 use crate::ids::{ConfId, Mode, ProcId};
 
 /// The kernel's mode in a frame.
 #[derive(Clone, Copy, Debug, PartialEq, Eq)]
 pub enum KMode {
-    /// The configuration runs.
+    /// The configuration runs, and no reconfiguration is under way.
     Stable(ConfId),
     /// A reconfiguration is under way.
     Moving {
         /// The configuration that the reconfiguration leaves.
         from: ConfId,
-        /// The configuration whose applications halt, or none.
+        /// The configuration whose applications halt, or `None` if no application halts.
         halting: Option<ConfId>,
-        /// The target.
+        /// The configuration to which the reconfiguration leads.
         to: ConfId,
-        /// The frame in which the halting phase began. The age of frame `f` is `f - since` frames.
+        /// The frame in which the halting phase began. In frame `f` the age of the reconfiguration is `f - since`
+        /// frames.
         since: u32,
     },
 }
 
-/// What an application is to do in a frame. In `Halt`, `Prepare` and `Init` the first number is the frame of the phase,
-/// counted from 0. The second is the phase's length in frames, 1 to 16.
+/// The kernel's order to an application in a frame. In `Halt`, `Prepare` and `Init` the first number is the frame of
+/// the phase, counted from 0, and the second number is the phase's length in frames, 1 to 16.
 #[derive(Clone, Copy, Debug, PartialEq, Eq)]
 pub enum Order {
     Run,
@@ -32,7 +33,8 @@ pub enum Order {
     Off,
 }
 
-/// What an application did in a frame, on which processor, and in which frame of which phase, as in [`Order`].
+/// The act of an application in a frame. The numbers of `Halting`, `Preparing` and `Initialising` are the frame of
+/// the phase and the phase's length, as in [`Order`], and the processor is the one on which the application acted.
 #[derive(Clone, Copy, Debug, PartialEq, Eq)]
 pub enum Act {
     /// The application ran in this mode on this processor.
@@ -43,6 +45,6 @@ pub enum Act {
     Initialising(u8, u8, ProcId),
     /// The application is off.
     Off,
-    /// The application's processor did not commit the frame, so the application's area is unchanged.
+    /// The application's processor did not commit the frame, so the application's area did not change.
     Lost,
 }

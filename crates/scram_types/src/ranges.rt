@@ -7,7 +7,7 @@ ghost use Rattle.scram_types.specs.Ranges.{clamp_in, limit};
 
 use crate::numbers::clamped;
 
-/// The whole numbers from `-below` to `above`, inclusive. Each range of a quantity holds 0.
+/// The whole numbers from `-below` to `above`, inclusive. Each range contains 0.
 #[derive(Clone, Copy, Debug, PartialEq, Eq)]
 pub struct Range {
     pub below: u32,

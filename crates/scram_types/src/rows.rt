@@ -4,14 +4,14 @@ use crate::ids::ConfId;
 use crate::lists::List;
 use crate::orders::{Act, KMode};
 
-/// The eight words of an application in stable storage. An application that is off has zeros.
+/// The eight words of an application in stable storage, which are zeros while the application is off.
 pub type Area = [i64; 8];
 
 /// The words of a processor in stable storage: word `8 * a + i` is word `i` of application `a`.
 pub type Image = [i64; 64];
 
-/// The aircraft: `alt` in feet, `climb` in tenths of a foot per frame, `heading` and `bank` in tenths
-/// of a degree.
+/// The state of the aircraft: `alt` in feet, `climb` in tenths of a foot per frame, `heading` and `bank` in tenths of
+/// a degree.
 #[derive(Clone, Copy, Debug, PartialEq, Eq)]
 pub struct World {
     pub alt: i64,
@@ -27,15 +27,15 @@ pub struct Goal {
     pub heading: i64,
 }
 
-/// The environment, by which the table chooses. Bit `p` of `up` is set if processor `p` is up; bits past the last
-/// processor are clear. `factors` holds the number of each factor's value, and 0 past the last factor.
+/// The environment, which the choice table takes into account. Bit `p` of `up` is set if processor `p` is up; bits
+/// past the last processor are clear. `factors` holds the number of each factor's value, and 0 past the last factor.
 #[derive(Clone, Copy, Debug, PartialEq, Eq)]
 pub struct Env {
     pub up: u8,
     pub factors: [u8; 6],
 }
 
-/// One frame of the trace: the frame's environment and kernel mode, the act and the area of each application, and the
+/// One frame of a trace: the frame's environment and kernel mode, the act and the area of each application, and the
 /// world at the end of the frame. Past the last application the acts are `Off` and the areas are zeros.
 #[derive(Clone, Copy, Debug, PartialEq, Eq)]
 pub struct Row {
@@ -47,8 +47,8 @@ pub struct Row {
     pub world: World,
 }
 
-/// A reconfiguration, with the frames in which it began and ended. A reconfiguration that the end of the script cut off
-/// has no target, and its end is the number of frames.
+/// A reconfiguration, with the frames in which it began and ended. If the script ended before the reconfiguration
+/// did, it has no target and its end is the number of frames.
 #[derive(Clone, Copy, Debug, PartialEq, Eq)]
 pub struct Report {
     pub from: ConfId,
@@ -57,7 +57,7 @@ pub struct Report {
     pub end: u32,
 }
 
-/// A finished flight.
+/// The trace of a finished flight: its rows and the reports of its reconfigurations.
 #[derive(Drop)]
 pub struct Flown {
     pub rows: List<Row>,

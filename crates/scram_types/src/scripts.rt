@@ -1,9 +1,10 @@
-//! Fault scripts: the faults of a flight and their frames.
+//! Fault scripts: the faults of a flight and the frames in which they occur.
 
 use crate::ids::{FactorId, ProcId};
 use crate::lists::List;
 
-/// A change of a factor: from this frame on the factor has this value, which is an index into the factor's values.
+/// A change of a factor: from frame `frame` on, the factor has this value, given as an index into the factor's
+/// values.
 #[derive(Clone, Copy, Debug, PartialEq, Eq)]
 pub struct Change {
     pub frame: u32,
@@ -11,8 +12,8 @@ pub struct Change {
     pub value: u8,
 }
 
-/// A halt of a processor in this frame: after `step` stores if `step` is at most `W`, or after its mark if `step` is `W
-/// + 1`. `W` is eight times the number of applications.
+/// A halt of a processor in a frame: after `step` stores if `step` is at most `W`, or after the processor's mark if
+/// `step` is `W + 1`. `W` is eight times the number of applications.
 #[derive(Clone, Copy, Debug, PartialEq, Eq)]
 pub struct HaltAt {
     pub proc: ProcId,
@@ -20,7 +21,7 @@ pub struct HaltAt {
     pub step: u8,
 }
 
-/// A restart: the processor, halted before, is up again from this frame on.
+/// A restart: the processor, which was halted before, is up again from this frame on.
 #[derive(Clone, Copy, Debug, PartialEq, Eq)]
 pub struct RestartAt {
     pub proc: ProcId,

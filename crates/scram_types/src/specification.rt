@@ -10,15 +10,15 @@ use crate::mode_lists::Modes;
 use crate::names::Name;
 use crate::rows::Goal;
 
-/// A processor, with its capacity, 0 to 1,000,000 load units.
+/// A processor with its name and its capacity, 0 to 1,000,000 load units.
 #[derive(Drop)]
 pub struct Proc {
     pub name: Name,
     pub capacity: u32,
 }
 
-/// The costs of an application's mode: its load, 0 to 1,000,000 load units, and the lengths of its halt, prepare and
-/// init phases, 1 to 16 frames each.
+/// The costs of a mode of an application: its load, 0 to 1,000,000 load units, and the lengths of its halt, prepare
+/// and init phases, 1 to 16 frames each.
 #[derive(Clone, Copy, Debug, PartialEq, Eq)]
 pub struct ModeSpec {
     pub mode: Mode,
@@ -28,7 +28,7 @@ pub struct ModeSpec {
     pub init: u8,
 }
 
-/// An application: its kind, the applications that it needs, and the modes of its kind that it may be in. Its rank is
+/// An application: its kind, the applications that it needs, and the modes of its kind that it lists. Its rank is
 /// above the rank of each application that it needs.
 #[derive(Drop)]
 pub struct AppSpec {
@@ -39,7 +39,7 @@ pub struct AppSpec {
     pub rank: u8,
 }
 
-/// The mode and the processor of an application that is on.
+/// The mode and the processor of an application in a configuration in which it is on.
 #[derive(Clone, Copy, Debug, PartialEq, Eq)]
 pub struct Place {
     pub mode: Mode,
@@ -54,22 +54,22 @@ pub struct Conf {
     pub places: [Option<Place>; 8],
 }
 
-/// An environment factor and its possible values. At the start of a flight it has the first.
+/// An environment factor and its possible values. At the start of a flight the factor has its first value.
 #[derive(Drop)]
 pub struct Factor {
     pub name: Name,
     pub values: List<Name>,
 }
 
-/// A required value of a factor, as an index into the factor's values.
+/// A requirement that a factor has a value, given as an index into the factor's values.
 #[derive(Clone, Copy, Debug, PartialEq, Eq)]
 pub struct Want {
     pub factor: FactorId,
     pub value: u8,
 }
 
-/// A rule of the choice table, whose target is `to`. The rule fits if the source is `from` (`None` for any), each
-/// required factor has the required value, and each processor whose bit is set in `up` is up.
+/// A rule of the choice table, whose target is `to`. The rule applies if the source is `from` (`None` for any
+/// source), each required factor has the required value, and each processor whose bit is set in `up` is up.
 #[derive(Drop)]
 pub struct Choice {
     pub from: Option<ConfId>,
@@ -108,8 +108,8 @@ pub struct Precondition {
     pub greatest: i64,
 }
 
-/// The effect of a failure during a reconfiguration on its target. `Retarget` chooses anew with each change; `Settle`
-/// keeps the target while it can run.
+/// The policy for a failure during a reconfiguration. `Retarget` chooses a new target at each change; `Settle` keeps
+/// the target as long as it can run.
 #[derive(Clone, Copy, Debug, PartialEq, Eq)]
 pub enum Policy {
     Retarget,
@@ -117,12 +117,12 @@ pub enum Policy {
 }
 
 /// A demand on the choices in some environments. It applies if the environment has each value of `wants`, each
-/// processor of `up` is up and each of `down` is down. Then a choice from a configuration of `from` has to be one of
-/// `to` in which each application of `on` is on and each of `off` is off. An empty `from` or `to` means every
-/// configuration. The sets are kept as bits.
+/// processor of `up` is up, and each processor of `down` is down. Then a choice from a configuration of `from` has to
+/// be a configuration of `to` in which each application of `on` is on and each application of `off` is off. An empty
+/// `from` or `to` means every configuration. The sets are kept as bits.
 ///
-/// For each application, `on` has `None` if the application need not be on. Otherwise it has the modes that are
-/// allowed, or an empty list for any mode.
+/// For each application, `on` is `None` if the application need not be on. Otherwise it is the list of the modes that
+/// are allowed, and an empty list allows any mode.
 #[derive(Drop)]
 pub struct Demand {
     pub name: Name,
@@ -219,8 +219,8 @@ impl Conf {
 impl Demand {
     ghost use Rattle.scram_types.specs.Specification.{modes_on};
 
-    /// Returns the modes that the demand allows for an application, empty if any mode will do, or `None` if the
-    /// application need not be on.
+    /// Returns the modes that the demand allows for an application: the empty list if any mode will do, or `None` if
+    /// the demand does not require the application to be on.
     pub fn modes_on(&self, app: AppId) -> Option<Modes>
         ensures { result ≡ modes_on self.now app.0 }
     {
@@ -250,8 +250,8 @@ impl AppSpec {
 impl Spec {
     ghost use Rattle.scram_types.specs.Specification.{bound_in, greatest_bound_in};
 
-    /// Returns the bound, in frames, on a reconfiguration from one configuration to another, or `None` if none is
-    /// given.
+    /// Returns the bound, in frames, on a reconfiguration from one configuration to another, or `None` if the
+    /// specification gives no bound for the pair.
     pub fn bound(&self, from: ConfId, to: ConfId) -> Option<u32>
         ensures { result ≡ bound_in self.now.bounds from.0 to.0 }
     {
@@ -263,7 +263,8 @@ impl Spec {
         None
     }
 
-    /// Returns the greatest bound, in frames, that is given from a configuration, or `None` if none is given.
+    /// Returns the greatest bound, in frames, on a reconfiguration from a configuration, or `None` if the
+    /// specification gives no such bound.
     pub fn greatest_bound(&self, from: ConfId) -> Option<u32>
         ensures { result ≡ greatest_bound_in self.now.bounds from.0 }
     {
@@ -276,28 +277,28 @@ impl Spec {
         greatest
     }
 
-    /// Returns the processor of this number, or `None` if there is none.
+    /// Returns the processor with this number, or `None` if there is no such processor.
     pub fn proc(&self, proc: ProcId) -> Option<&Proc>
         ensures { option_copied result ≡ slice_get self.now.procs proc.0 }
     {
         self.procs.items().get(usize::from(proc.0))
     }
 
-    /// Returns the application of this number, or `None` if there is none.
+    /// Returns the application with this number, or `None` if there is no such application.
     pub fn app(&self, app: AppId) -> Option<&AppSpec>
         ensures { option_copied result ≡ slice_get self.now.apps app.0 }
     {
         self.apps.items().get(usize::from(app.0))
     }
 
-    /// Returns the configuration of this number, or `None` if there is none.
+    /// Returns the configuration with this number, or `None` if there is no such configuration.
     pub fn conf(&self, conf: ConfId) -> Option<&Conf>
         ensures { option_copied result ≡ slice_get self.now.confs conf.0 }
     {
         self.confs.items().get(usize::from(conf.0))
     }
 
-    /// Returns the factor of this number, or `None` if there is none.
+    /// Returns the factor with this number, or `None` if there is no such factor.
     pub fn factor(&self, factor: FactorId) -> Option<&Factor>
         ensures { option_copied result ≡ slice_get self.now.factors factor.0 }
     {

@@ -1,4 +1,4 @@
--- The call is listed among the remaining numbers exactly if it is listed among all.
+-- The call is listed among the remaining numbers exactly if it is listed in the whole list.
 use Rattle.std.proofs.Common.{◌≡◌, drop}
 use Rattle.scram_io.specs.Memory.{is_listed}
 use Rattle.scram_io.proofs.listed.is_listed_call.Given as goal

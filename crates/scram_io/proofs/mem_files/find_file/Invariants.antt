@@ -1,4 +1,4 @@
--- The first entry of the name among the remaining entries is the first among all.
+-- The first entry with the name among the remaining entries is the first such entry of the whole list.
 use Rattle.std.proofs.Common.{◌≡◌, drop}
 use Rattle.scram_io.specs.Outside.{file_at}
 use Rattle.scram_io.specs.Entries.{entries_of}

@@ -1,4 +1,4 @@
--- If out of memory, the stream lost the bytes read so far and the piece.
+-- If memory runs out, the stream lost the bytes read so far and the last piece.
 use Rattle.std.proofs.Common.{◌≡◌, ◌++◌, length, take, vec_len, length-append, arith, rules}
 use Rattle.std.proofs.lemmas.List.{length-take}
 use Rattle.scram_io.proofs.KnownBytes.{consumes_more}

@@ -1,4 +1,4 @@
--- The bytes read so far are the bytes that the stream lost, and exceed the limit by at most one.
+-- The bytes read so far are the bytes that the stream lost, and they exceed the limit by at most one.
 use Rattle.std.proofs.Common.{◌+◌, ◌-◌, ◌≤◌, length}
 use Rattle.std.specs.Io.KnownBytes.{Consumes}
 use Rattle.scram_io.proofs.streams.read_past.Given as goal

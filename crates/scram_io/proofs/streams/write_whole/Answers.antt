@@ -1,4 +1,4 @@
--- A write that took some bytes lengthens the front; a write that took none leaves it.
+-- The stream gains the bytes that a write took, and gains no bytes if the write took none.
 use Rattle.std.proofs.Common.{◌+◌, arith, length-drop}
 use Rattle.std.proofs.lemmas.List.{length-take}
 use Rattle.scram_io.proofs.KnownBytes.{appends_kept, appends_part, prefix_taken}

@@ -1,4 +1,4 @@
--- The bytes before the start are the bytes that the stream gained.
+-- The stream gained the bytes before index `start`.
 use Rattle.std.proofs.Common.{◌-◌, ◌≤◌, length, take}
 use Rattle.std.specs.Io.KnownBytes.{Appends}
 use Rattle.scram_io.proofs.streams.write_whole.Given as goal

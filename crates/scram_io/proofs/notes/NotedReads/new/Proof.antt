@@ -1,4 +1,4 @@
--- `new` creates a value of no reads, at the empty list.
+-- `new` creates a value whose ghost list of reads is empty.
 use Rattle.std.proofs.Common.{[], ◌∷◌, refl}
 use Rattle.std.proofs.raw_atomic.Walks.{proved}
 use mir.Val.{Val, vstruct, vnil}

@@ -1,4 +1,4 @@
--- The body is empty. The borrow is opened, and closed at the longer list.
+-- The body is empty. The proof opens the borrow and closes it at the longer list of reads.
 use Rattle.std.proofs.Common.{List, [], ◌∷◌, ◌++◌, refl, length}
 use Rattle.std.proofs.raw_atomic.Walks.{proved}
 use mir.Syntax.{named}
