@@ -1,4 +1,4 @@
--- Sets of numbers that are kept as bits.
+-- Sets of numbers, stored as bits.
 use Rattle.std.proofs.Common.{◌≡◌, ℕ, zero, suc, ◌+◌, ◌-◌, ◌*◌, ◌≤◌, ◌^◌, ◌%◌, refl, arith, not, ◌∙◌}
 use mathlib.Core.Logic.{inl, inr}
 use Rattle.std.specs.Prelude.{bit_and, if◌then◌else◌}
@@ -7,7 +7,7 @@ use Rattle.std.proofs.lemmas.Nat.{and_mask, one_shl}
 use Rattle.scram_types.proofs.BitSets.{twice, low_bits, bit_cases}
 use Rattle.scram_types.specs.Bits.{has_bit, bits_below}
 
--- the numbers below n that are not in a set and those that are make up all of them
+-- The numbers below `n` that are not in a set and those that are in it make up all numbers below `n`.
 pub others : (set n : ℕ) → bits_below (λ p. not (has_bit set p)) n + set % 2 ^ n + 1 ≡ 2 ^ n
 others set zero = rw (mod-one set) refl
 others set (suc n) =

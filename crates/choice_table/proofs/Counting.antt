@@ -22,7 +22,7 @@ times_if : (b : Bool) (c m : ℕ) → c * m + (if b then m else 0) ≡ (c + (if 
 times_if true c m = omega arith
 times_if false c m = omega arith
 
--- a test of the quotient passes for whole blocks of numbers
+-- A test of the quotient n / m passes for whole blocks of m numbers.
 pub count_blocks : (test : ℕ → Bool) (d m : ℕ) → 0 < m → count_below (λ n. test (n / m)) (d * m) ≡ count_below test d * m
 count_blocks test zero m some = let e : 0 * m ≡ 0 = omega arith in rw (e) (omega arith)
 count_blocks test (suc d) m some =

@@ -9,7 +9,7 @@ use Rattle.scram_types.specs.declared.specification.Factor.{Factor}
 use Rattle.scram_types.specs.Specification.{Each, IsFactor}
 use Rattle.choice_table.specs.Numbering.{combinations, digits_of, value_count, values_of}
 
--- each factor but the first
+-- If each factor of a list is valid, so is each factor but the first.
 pub after : (f : Factor) (fs : List Factor) → Each IsFactor (f ∷ fs) → Each IsFactor fs
 after f fs known = λ i x e. known (suc i) x e
 
@@ -39,7 +39,8 @@ value_count_most [] x known h = absurd (omega arith)
 value_count_most (f ∷ fs) zero known h = (known 0 f refl).count.few
 value_count_most (f ∷ fs) (suc x) known h = value_count_most fs x (after f fs known) (omega arith)
 
--- one factor at a time
+-- The number of combinations from factor `x` on is the number of values of `x` times the number of combinations after
+-- it.
 pub combinations_drop : (fs : List Factor) (x : ℕ) → x < length fs → combinations (drop x fs) ≡ value_count fs x * combinations (drop (suc x) fs)
 combinations_drop [] x h = absurd (omega arith)
 combinations_drop (f ∷ fs) zero h = refl
@@ -91,7 +92,7 @@ nothing_left (y ∷ ys) (suc x) h = nothing_left ys x (omega arith)
 pub product_end : (fs : List Factor) (x product : ℕ) → length fs ≤ x → product * combinations (drop x fs) ≡ combinations fs → product ≡ combinations fs
 product_end fs x product past so_far = let end = rw (nothing_left fs x past) at so_far in omega (arith, end)
 
--- a step of the loop over the factors that computes the number of their values
+-- A step of the loop that computes the number of the factors' values keeps the loop's invariant.
 pub digits_step : (fs : List Factor) (vs : List ℕ) (x number : ℕ) → x < length fs → x < length vs
     → number * combinations (drop x fs) + digits_of (drop x fs) (drop x vs) ≡ digits_of fs vs
     → (number * value_count fs x + get_or vs x 0) * combinations (drop (suc x) fs) + digits_of (drop (suc x) fs) (drop (suc x) vs) ≡ digits_of fs vs
@@ -103,7 +104,7 @@ pub digits_end : (fs : List Factor) (vs : List ℕ) (x number : ℕ) → length 
     → number * combinations (drop x fs) + digits_of (drop x fs) (drop x vs) ≡ digits_of fs vs → number ≡ digits_of fs vs
 digits_end fs vs x number past so_far = let end = rw (nothing_left fs x past) at so_far in omega (arith, end)
 
--- such a number stays small for any bytes as values
+-- A step of that loop keeps the number small, even if the values are arbitrary bytes.
 pub few_digits : (count value x number : ℕ) → count ≤ 4 → value < 256 → x < 6 → number + 85 ≤ 85 * 4 ^ x → number * count + value + 85 ≤ 85 * 4 ^ suc x
 few_digits count value x number few byte inside so_far =
     let product = mul-le number count number 4 (omega arith) few in
@@ -120,7 +121,8 @@ digits_room x number inside so_far =
     let wide : 4 ^ x ≤ 4 ^ 6 = pow-le-pow_right (omega arith) inside in
     omega arith
 
--- a step of the loop over the factors that computes their values from a number
+-- The number of combinations from factor `x` on, divided by the number of values of `x`, is that of the factors after
+-- `x`. The loop that computes values from a number relies on this at each step.
 pub place_step : (fs : List Factor) (x place : ℕ) → Each IsFactor fs → x < length fs → place ≡ combinations (drop x fs)
     → place / value_count fs x ≡ combinations (drop (suc x) fs)
 place_step fs x place known h is =

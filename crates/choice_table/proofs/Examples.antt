@@ -1,4 +1,4 @@
--- Worked examples of the definitions: computed, and compared with the rules.
+-- Worked examples of the definitions, computed and compared with the rules.
 use Rattle.std.proofs.Common.{◌≡◌, refl, ℕ, List, [], ◌∷◌, true, false, pos}
 use Rattle.std.specs.Prelude.{Some, None, replicate}
 use Rattle.scram_types.specs.declared.rows.Env.{Env}
@@ -26,7 +26,8 @@ want x value = record { factor = record { 0 = x }; value = value }
 environment : ℕ → List ℕ → Env
 environment up factors = record { up = up; factors = factors }
 
--- a specification with these processors, factors, places and rules, of which `halts` processors may be down
+-- A specification with these processors, factors, configurations and rules, of which at most `halts` processors may
+-- be down.
 made : List Proc → List Factor → List Conf → List Choice → ℕ → Parts
 made procs factors confs rules halts = record {
   procs = procs;
@@ -46,7 +47,8 @@ made procs factors confs rules halts = record {
   window = 1;
 }
 
--- eight processors and six factors of four values, which make the maximum number of environments
+-- A specification with eight processors and six factors of four values each. It has the maximum number of
+-- environments.
 large : Parts
 large = made (replicate 8 proc) (replicate 6 (factor 4)) [] [] 1
 
@@ -58,7 +60,7 @@ all_well : number_of large (environment 255 (replicate 6 0)) ≡ 0
 unfolding large made proc factor environment
 all_well = refl
 
--- the first factor is the most significant digit
+-- The first factor is the most significant digit.
 first_factor : number_of large (environment 255 (1 ∷ replicate 5 0)) ≡ 1024
 unfolding large made proc factor environment
 first_factor = refl
@@ -67,7 +69,7 @@ last_factor : number_of large (environment 255 (0 ∷ 0 ∷ 0 ∷ 0 ∷ 0 ∷ 3 
 unfolding large made proc factor environment
 last_factor = refl
 
--- processor 0 down is one time 4096, processor 7 down 128 times
+-- Processor 0 adds 4096 to the number if it is down, and processor 7 adds 128 times 4096.
 down_first : number_of large (environment 254 (3 ∷ 0 ∷ 0 ∷ 0 ∷ 0 ∷ 1 ∷ [])) ≡ 7169
 unfolding large made proc factor environment
 down_first = refl
@@ -104,7 +106,8 @@ two_down : in_scope large (environment 126 (replicate 6 0)) ≡ false
 unfolding large made proc factor environment
 two_down = refl
 
--- two processors and factors of two and three values, with zeros past the last factor
+-- A specification with two processors and two factors, with two and three values. Its environments have zeros past
+-- the last factor.
 small : ℕ → Parts
 small halts = made (replicate 2 proc) (factor 2 ∷ factor 3 ∷ []) [] [] halts
 
@@ -124,7 +127,8 @@ one_may_be_down : states (small 1) ≡ 18
 unfolding small made proc factor
 one_may_be_down = refl
 
--- three rules: from configuration 0 to 2 while factor 0 has value 1, to 0 while processor 1 is up, to 1
+-- A specification with three rules: from configuration 0 to 2 if factor 0 has value 1, from any configuration to 0 if
+-- processor 1 is up, and from configuration 0 to 1.
 ruled : Parts
 ruled = made (replicate 2 proc) (factor 2 ∷ []) (
     record { name = []; places = Some (record { mode = record { 0 = 1 }; proc = record { 0 = 1 } }) ∷ replicate 7 None }

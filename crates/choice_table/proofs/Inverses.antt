@@ -1,4 +1,4 @@
--- An environment's number and a number's environment are each other's inverse.
+-- The functions that number environments and that return the environment of a number are inverse to each other.
 use Rattle.std.proofs.Common.{◌≡◌, ℕ, zero, suc, ◌+◌, ◌-◌, ◌<◌, ◌≤◌, ◌^◌, ◌/◌, ◌%◌, refl, arith, ap, ◌∙◌, List, [], ◌∷◌, ◌++◌, length, drop, take, get_or, subst, length-drop}
 use Rattle.std.specs.Prelude.{Option, Some, replicate, slice_get, slice_index, unwrap_or}
 use Rattle.std.proofs.Math.Nat.{mod-eq_of_lt, mod-lt}
@@ -16,7 +16,7 @@ use Rattle.choice_table.specs.Numbering.{combinations, digits_of, down_set, env_
 use Rattle.choice_table.proofs.Bits.{others}
 use Rattle.choice_table.proofs.Digits.{after, combinations_least}
 
--- each factor has one of its values
+-- Each factor has one of its values.
 pub Fitting : List Factor → List ℕ → Type 0
 Fitting fs vs = (x : ℕ) (f : Factor) → slice_get fs x ≡ Some f → slice_index vs x < length f.values
 

@@ -1,4 +1,4 @@
--- Processors that are up, place by place and bit by bit.
+-- Processors that are up, by set and by bit.
 use Rattle.std.proofs.Common.{◌≡◌, ℕ, zero, suc, ◌<◌, ◌^◌, ◌/◌, ◌%◌, refl, arith, sym, ap, ◌∙◌, true, List}
 use mathlib.Core.Logic.{inl, inr}
 use Rattle.std.specs.Prelude.{Option, Some, None, bit_and, slice_get}
@@ -27,7 +27,7 @@ runs_where_up spec c v = (
   λ up. all_pass (is_place_up v) (places_of spec c) (up_places v (places_of spec c) up),
 )
 
--- bit p of the common bits
+-- Bit `p` of the bitwise AND of `a` and `b` is the bitwise AND of bit `p` of each.
 common_bit : (a b p : ℕ) → bit_at (bit_and a b) p ≡ bit_and (bit_at a p) (bit_at b p)
 common_bit a b p = ap (λ n. n % 2) (and_shr a b p) ∙ and_mod (a / 2 ^ p) (b / 2 ^ p) 1
 
@@ -37,7 +37,7 @@ bit_known set p h = grind (arith, nat_tests)
 bit_told : (set p : ℕ) → bit_at set p ≡ 1 → has_bit set p ≡ true
 bit_told set p h = rw (h) refl
 
--- if the common bits are all bits of the set, each bit of the set is common
+-- If the bitwise AND of a set and the processors that are up is the set, each processor of the set is up.
 members : (set : ℕ) (v : Env) → all_up set v ≡ true → (p : ℕ) → has_bit set p ≡ true → is_up_in v p ≡ true
 members set v h p e =
     let all : bit_and set v.up ≡ set = grind (arith, nat_tests) in
@@ -48,7 +48,8 @@ members set v h p e =
       | inr o ↦ bit_told v.up p o
     ]
 
--- if each bit of the set is common, the common bits are all of them, digit by digit
+-- If each processor of a set is up, the bitwise AND of the set and the processors that are up has the same bits as
+-- the set.
 same_bit : (set up p : ℕ) → ((q : ℕ) → has_bit set q ≡ true → has_bit up q ≡ true) → bit_at (bit_and set up) p ≡ bit_at set p
 same_bit set up p h = elim (bit_cases set p) [
   | inl z ↦ (let small = and_le_l (bit_at set p) (bit_at up p) in let common = common_bit set up p in omega arith)

@@ -16,7 +16,7 @@ abbrev pub has_source : Option ConfId → ConfId → Bool
 has_source None c = true
 has_source (Some from) c = from.0 == c.0
 
--- An environment has the value that is required of a factor.
+-- Environment `v` has the required value of a factor.
 abbrev pub has_wanted : Env → Want → Bool
 has_wanted v want = factor_in v want.factor.0 == want.value
 
@@ -24,18 +24,18 @@ has_wanted v want = factor_in v want.factor.0 == want.value
 abbrev pub all_up : ℕ → Env → Bool
 all_up set v = bit_and set v.up == set
 
--- A rule fits a configuration and an environment: the rule's source does, and so do the values and the processors that
--- it requires.
+-- A rule fits configuration `c` and environment `v`: its source is `c` or it has no source, `v` has each value that
+-- it requires, and each processor that it requires is up.
 abbrev pub rule_fits : ConfId → Env → Choice → Bool
 rule_fits c v rule = has_source rule.from c && list_all (has_wanted v) rule.wants && all_up rule.up v
 
--- The target of the first rule that fits, or `c` if no rule fits.
+-- The target of the first rule of a list that fits configuration `c` and environment `v`, or `c` if no rule fits.
 abbrev pub target_among : List Choice → ConfId → Env → ConfId
 target_among [] c v = c
 target_among (rule ∷ rules) c v = if rule_fits c v rule then rule.to else target_among rules c v
 
--- The configuration that the table chooses in an environment: the target of the first rule that fits, or the same
--- configuration if none fits.
+-- The configuration that the choice table chooses from configuration `c` in environment `v`: the target of the first
+-- rule that fits, or `c` if no rule fits.
 abbrev pub choose : Parts → ConfId → Env → ConfId
 choose spec c v = target_among spec.rules c v
 
@@ -47,12 +47,12 @@ has_rule spec c v = list_any (rule_fits c v) spec.rules
 abbrev pub places_of : Parts → ConfId → List (Option Place)
 places_of spec c = option_map_or (λ (conf : Conf). conf.places) (slice_get spec.confs c.0) []
 
--- The processor of an application is up, or the application is off.
+-- The application at a place is off, or its processor is up.
 abbrev pub is_place_up : Env → Option Place → Bool
 is_place_up v None = true
 is_place_up v (Some place) = is_up_in v place.proc.0
 
--- Each processor that the configuration uses is up.
+-- Each processor that configuration `c` uses is up.
 abbrev pub is_runnable : Parts → ConfId → Env → Bool
 is_runnable spec c v = list_all (is_place_up v) (places_of spec c)
 

@@ -17,12 +17,12 @@ use Rattle.choice_table.specs.Choices.{all_up, has_wanted}
 abbrev pub all_down : ℕ → Env → Bool
 all_down set v = bit_and set v.up == 0
 
--- A demand applies to an environment: each factor has the value that the demand requires, each processor of `up` is up
--- and each of `down` is down.
+-- A demand applies to an environment: the environment has each value that the demand requires, each processor of `up`
+-- is up, and each processor of `down` is down.
 abbrev pub applies_in : Demand → Env → Bool
 applies_in demand v = list_all (has_wanted v) demand.wants && all_up demand.up v && all_down demand.down v
 
--- A set of configurations holds `c`, or it is empty, which means all of them.
+-- A set of configurations contains `c`, or it is empty, which stands for all configurations.
 abbrev pub is_empty_or_holds : ℕ → ConfId → Bool
 is_empty_or_holds set c = set == 0 || has_bit set c.0
 
@@ -30,17 +30,18 @@ is_empty_or_holds set c = set == 0 || has_bit set c.0
 abbrev pub applies_from : Demand → ConfId → Bool
 applies_from demand c = is_empty_or_holds demand.from c
 
--- The list of modes is empty, or it holds the mode.
+-- A list of modes contains a mode, or it is empty, which stands for all modes.
 abbrev pub modes_allow : List Mode → Mode → Bool
 modes_allow modes mode = length modes == 0 || is_among modes mode.0
 
--- An application that must be on is on, in an allowed mode. One that need not be on may have any place.
+-- A place meets a demand for an application. If the demand lists modes, the application is on, in an allowed mode. If
+-- the modes are `None`, any place meets the demand, and so does no place.
 abbrev pub is_placed : Option (List Mode) → Option Place → Bool
 is_placed None place = true
 is_placed (Some modes) None = false
 is_placed (Some modes) (Some place) = modes_allow modes place.mode
 
--- Configuration `c` turns application `a` on or off as a demand requires.
+-- Application `a` is on or off in configuration `c` as a demand requires, and in an allowed mode.
 abbrev pub is_met_by : Parts → Demand → ConfId → ℕ → Bool
 is_met_by spec demand c a = is_placed (modes_on demand a) (place_of spec c a) && (not (has_bit demand.off a) || not (is_on spec c a))
 

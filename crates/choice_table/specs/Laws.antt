@@ -1,4 +1,4 @@
--- The meaning of the definitions of choice.
+-- Laws about the definitions of choice.
 use Rattle.std.specs.Prelude.{◌≡◌, ℕ, true, slice_get, Some}
 use Rattle.scram_types.specs.declared.ids.ConfId.{ConfId}
 use Rattle.scram_types.specs.declared.rows.Env.{Env}
@@ -8,7 +8,7 @@ use Rattle.scram_types.specs.Bits.{has_bit}
 use Rattle.choice_table.specs.Environments.{is_up_in}
 use Rattle.choice_table.specs.Choices.{all_up, is_runnable, places_of}
 
--- States that a configuration is runnable if and only if each processor on which it places an application is up.
+-- A configuration is runnable if and only if each processor on which it places an application is up.
 abbrev pub RunsWherePlacesAreUp : Type 0
 RunsWherePlacesAreUp = (spec : Parts) (c : ConfId) (v : Env) →
     (is_runnable spec c v ≡ true → (a : ℕ) (place : Place) → slice_get (places_of spec c) a ≡ Some (Some place) → is_up_in v place.proc.0 ≡ true)

@@ -1,4 +1,4 @@
--- The numbers of environments, both ways.
+-- The number of each environment, and the environment of each number.
 use Rattle.std.specs.Prelude.{◌≡◌, ℕ, ◌+◌, ◌-◌, ◌*◌, ◌/◌, ◌%◌, ◌^◌, ◌<◌, ◌≤◌, Bool, true, false, not, nat_le, nat_lt, List, [], ◌∷◌, ◌++◌, length, replicate, slice_get, Option, Some, None, if◌then◌else◌}
 use Rattle.std.specs.Option.{option_map_or}
 use Rattle.scram_types.specs.Bits.{bits_below, count_below, has_bit}
@@ -7,7 +7,7 @@ use Rattle.scram_types.specs.declared.specification.Factor.{Factor}
 use Rattle.scram_types.specs.Specification.{Parts}
 use Rattle.choice_table.specs.Environments.{in_scope, is_up_in}
 
--- The processors that are down, as bits.
+-- The set of processors that are down, as bits.
 abbrev pub down_set : Parts → Env → ℕ
 down_set spec v = bits_below (λ p. not (is_up_in v p)) (length spec.procs)
 
@@ -20,7 +20,7 @@ abbrev pub combinations : List Factor → ℕ
 combinations [] = 1
 combinations (factor ∷ factors) = length factor.values * combinations factors
 
--- The mixed-radix number of the factors' values, the first factor being the most significant digit.
+-- The mixed-radix number of the factors' values. The first factor is the most significant digit.
 abbrev pub digits_of : List Factor → List ℕ → ℕ
 digits_of [] values = 0
 digits_of (factor ∷ factors) [] = 0
@@ -31,32 +31,33 @@ abbrev pub values_of : List Factor → ℕ → List ℕ
 values_of [] digits = []
 values_of (factor ∷ factors) digits = digits / combinations factors ∷ values_of factors (digits % combinations factors)
 
--- The number of an environment, made of the processors that are down and, less significant, the factors' values.
+-- The number of an environment: the set of processors that are down, as bits, times the number of combinations of the
+-- factors' values, plus the mixed-radix number of these values.
 abbrev pub number_of : Parts → Env → ℕ
 number_of spec v = down_set spec v * combinations spec.factors + digits_of spec.factors v.factors
 
--- The number of environments. Their numbers are those below it.
+-- The number of environments. The environments have the numbers from 0 on below it.
 abbrev pub environments : Parts → ℕ
 environments spec = 2 ^ length spec.procs * combinations spec.factors
 
--- The environment with number `n`. As `n` grows, the set of processors that are up counts down from all of them, and
--- the values of the factors count up.
+-- The environment with number `n`. As `n` grows, the set of processors that are up, as bits, counts down from the set
+-- of all processors. For each set, the values of the factors count up.
 abbrev pub numbered : Parts → ℕ → Env
 numbered spec n = record {
   up = 2 ^ length spec.procs - 1 - n / combinations spec.factors;
   factors = values_of spec.factors (n % combinations spec.factors) ++ replicate (6 - length spec.factors) 0;
 }
 
--- The environment with this number, if there is one.
+-- The environment with number `n`, or `None` if no environment has it.
 abbrev pub env_of : Parts → ℕ → Option Env
 env_of spec n = if nat_lt n (environments spec) then Some (numbered spec n) else None
 
--- A set of processors may be down together.
+-- The failure assumption allows the processors of the set `down` to be down at the same time.
 abbrev pub is_down_in_scope : Parts → ℕ → Bool
 is_down_in_scope spec down =
     nat_le (count_below (λ p. not (has_bit (2 ^ length spec.procs - 1 - down) p)) (length spec.procs)) spec.halts
 
--- The environment of number n is in scope.
+-- The environment with number `n` is in scope.
 abbrev pub is_number_in_scope : Parts → ℕ → Bool
 is_number_in_scope spec n = in_scope spec (numbered spec n)
 
@@ -64,13 +65,13 @@ is_number_in_scope spec n = in_scope spec (numbered spec n)
 abbrev pub states : Parts → ℕ
 states spec = count_below (is_number_in_scope spec) (environments spec)
 
--- The smallest number from `low` on whose environment is in scope is `n`.
+-- The smallest number, at least `low`, of an environment in scope is `n`.
 pub record IsNextInScope (spec : Parts) (low n : ℕ) : Type 0 where
   pub from : low ≤ n
   pub inside : n < environments spec
   pub scope : is_number_in_scope spec n ≡ true
   pub least : (k : ℕ) → low ≤ k → k < n → is_number_in_scope spec k ≡ false
 
--- No environment from number low on is in scope.
+-- No environment with a number of at least `low` is in scope.
 abbrev pub NoneInScope : Parts → ℕ → Type 0
 NoneInScope spec low = (k : ℕ) → low ≤ k → k < environments spec → is_number_in_scope spec k ≡ false

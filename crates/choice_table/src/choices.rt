@@ -20,14 +20,14 @@ pub fn choose(spec: &Spec, c: ConfId, env: &Env) -> ConfId
     c
 }
 
-/// Returns whether some rule fits configuration `c` and the environment.
+/// Returns `true` if some rule fits configuration `c` and the environment.
 pub fn has_rule(spec: &Spec, c: ConfId, env: &Env) -> bool
     ensures { result ≡ has_rule spec.now c env.now }
 {
     spec.rules.items().iter().any(|rule| fits(rule, c, env))
 }
 
-/// Returns whether each processor that configuration `c` uses is up. A configuration that does not exist uses none.
+/// Returns `true` if each processor that configuration `c` uses is up. A configuration that does not exist uses none.
 pub fn runnable(spec: &Spec, c: ConfId, env: &Env) -> bool
     ensures { result ≡ is_runnable spec.now c env.now }
 {
@@ -61,7 +61,7 @@ fn is_source(from: Option<ConfId>, c: ConfId) -> bool
     }
 }
 
-// Returns whether an environment has each required value.
+// Returns `true` if an environment has each required value.
 pub(crate) fn have_wanted(wants: &[Want], env: &Env) -> bool
     ensures { result ≡ list_all (has_wanted env.now) wants.now }
 {
@@ -76,7 +76,7 @@ fn has_wanted(want: &Want, env: &Env) -> bool
     value == want.value
 }
 
-// Returns whether each processor of a set is up.
+// Returns `true` if each processor of a set is up.
 pub(crate) fn are_up(set: u8, env: &Env) -> bool
     ensures { result ≡ all_up set env.now }
 {

@@ -8,23 +8,24 @@ use crate::choices::{are_up, have_wanted};
 use scram_types::bits::{has_bit, is_in};
 use scram_types::{AppId, ConfId, Demand, Env, Mode, Modes, Place, Spec};
 
-/// Returns whether a demand applies to an environment. It does if each factor has the value that the demand requires,
-/// each processor of `up` is up and each of `down` is down.
+/// Returns `true` if a demand applies to an environment: the environment has each value that the demand requires,
+/// each processor of `up` is up, and each processor of `down` is down.
 pub fn applies_in(demand: &Demand, env: &Env) -> bool
     ensures { result ≡ applies_in demand.now env.now }
 {
     have_wanted(demand.wants.items(), env) && are_up(demand.up, env) && are_down(demand.down, env)
 }
 
-/// Returns whether a demand applies to a choice from configuration `c`.
+/// Returns `true` if a demand applies to a choice from configuration `c`.
 pub fn applies_from(demand: &Demand, c: ConfId) -> bool
     ensures { result ≡ applies_from demand.now c }
 {
     is_empty_or_holds(demand.from, c)
 }
 
-/// Returns whether configuration `c` meets a demand. The configuration must be one of `to`, unless `to` is empty. Each
-/// application of `on` must be on there, in one of its modes if it has any, and each of `off` must be off.
+/// Returns `true` if configuration `c` meets a demand. The configuration must be one of `to`, unless `to` is empty.
+/// Each application of `on` must be on in it, in one of the modes that the demand lists for the application, if any.
+/// Each application of `off` must be off.
 pub fn is_met(spec: &Spec, demand: &Demand, c: ConfId) -> bool
     ensures { result ≡ is_met spec.now demand.now c }
 {
@@ -66,7 +67,7 @@ fn modes_allow(modes: &Modes, mode: Mode) -> bool
     modes.as_slice().is_empty() || modes.has(mode)
 }
 
-/// Returns whether configuration `c` meets each demand that applies to an environment and to a choice from `c`.
+/// Returns `true` if configuration `c` meets each demand that applies to an environment and to a choice from `c`.
 pub fn meets_all(spec: &Spec, c: ConfId, env: &Env) -> bool
     ensures { result ≡ meets_all spec.now c env.now }
 {
@@ -82,7 +83,7 @@ fn meets(spec: &Spec, c: ConfId, env: &Env, demand: &Demand) -> bool
     !(applies_in(demand, env) && applies_from(demand, c)) || is_met(spec, demand, c)
 }
 
-/// Returns whether some demand applies to an environment.
+/// Returns `true` if some demand applies to an environment.
 pub fn has_demand_in(spec: &Spec, env: &Env) -> bool
     ensures { result ≡ has_demand_in spec.now env.now }
 {
@@ -92,7 +93,7 @@ pub fn has_demand_in(spec: &Spec, env: &Env) -> bool
         .any(|demand| applies_in(demand, env))
 }
 
-// Returns whether each processor of a set is down.
+// Returns `true` if each processor of a set is down.
 fn are_down(set: u8, env: &Env) -> bool
     ensures { result ≡ all_down set env.now }
 {

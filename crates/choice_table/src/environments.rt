@@ -7,14 +7,15 @@ ghost use Rattle.choice_table.specs.Environments.{in_scope};
 use scram_types::bits::has_bit;
 use scram_types::{Env, Spec};
 
-/// Returns whether the number of processors that are down is within the specification's failure assumption.
+/// Returns `true` if an environment is in scope: the number of processors that are down is at most the number that
+/// the specification's failure assumption allows.
 pub fn in_scope(spec: &Spec, env: &Env) -> bool
     ensures { result ≡ in_scope spec.now env.now }
 {
     count_down(spec.procs.items().len() as u8, env.up) <= spec.halts
 }
 
-// Returns the number of the first `processors` processors that are not in the set `up`.
+// Returns how many of the first `processors` processors are not in the set `up`.
 pub(crate) fn count_down(processors: u8, up: u8) -> u8
     ensures value { result ≡ count_below (λ p. not (has_bit up p)) processors }
     ensures most { result ≤ processors }

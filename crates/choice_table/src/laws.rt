@@ -1,4 +1,4 @@
-//! The meaning of the definitions in this crate's contracts, as laws. Each function's contract is a law.
+//! Laws about the definitions in this crate's contracts. The contract of each function is a law.
 
 ghost use Rattle.choice_table.specs.Laws.{RunsWherePlacesAreUp, SetsAreUpByMembers};
 

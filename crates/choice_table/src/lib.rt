@@ -1,4 +1,4 @@
-//! The choice table, with the exact configuration that it chooses in an environment. The crate also has the
+//! The choice table, and the configuration that it chooses in an environment. The crate also covers the
 //! configurations that can run, the environments in scope, the demands on the table, and the numbers of environments.
 #![tactic(auto)]
 

@@ -1,4 +1,4 @@
-//! The numbers of environments, both ways.
+//! The number of each environment, and the environment of each number.
 
 ghost use Rattle.std.specs.Prelude.{◌≡◌, ◌+◌, ◌-◌, ◌*◌, ◌/◌, ◌%◌, ◌^◌, ◌<◌, ◌≤◌, ◌++◌, length, not, replicate, IfSome, MatchOption, Some};
 ghost use Rattle.scram_types.specs.Specification.{Each, IsFactor};
@@ -16,7 +16,7 @@ pub struct Numbered {
     pub env: Env,
 }
 
-/// Returns the number of an environment. With `M` the product of the factors' numbers of values, it is `M` times the
+/// Returns the number of an environment. If `M` is the product of the factors' numbers of values, it is `M` times the
 /// set of processors that are down, as bits, plus the mixed-radix number of the factors' values. The first factor is
 /// the most significant digit.
 pub fn number_of(spec: &Spec, env: &Env) -> u32
@@ -40,7 +40,7 @@ pub fn env_of(spec: &Spec, number: u32) -> Option<Env>
     }
 }
 
-/// Returns the number of environments in scope. The function looks at each set of processors once, and not at each
+/// Returns the number of environments in scope. The function visits each set of processors once, instead of each
 /// environment.
 pub fn states(spec: &Spec) -> u32
     ensures { result ≡ states spec.now }
@@ -55,8 +55,8 @@ pub fn states(spec: &Spec) -> u32
     states
 }
 
-/// Returns the environment in scope with the smallest number from `low` on, or `None` if there is none. The function
-/// skips a set of processors that is out of scope as a whole.
+/// Returns the environment in scope with the smallest number that is at least `low`, or `None` if there is none. The
+/// function skips all environments of a set of processors that is out of scope.
 pub fn next_in_scope(spec: &Spec, low: u32) -> Option<Numbered>
     ensures next { MatchOption result (NoneInScope spec.now low) (λ found. IsNextInScope spec.now low found.number) }
     ensures env { IfSome result (λ found. env_of spec.now found.number ≡ Some found.env) }
@@ -74,7 +74,7 @@ pub fn next_in_scope(spec: &Spec, low: u32) -> Option<Numbered>
     None
 }
 
-// Returns whether the processors of the set `down` may be down together.
+// Returns `true` if the failure assumption allows the processors of the set `down` to be down at the same time.
 fn can_be_down(spec: &Spec, down: u32) -> bool
     requires { down < 2 ^ length spec.now.procs }
     ensures { result ≡ is_down_in_scope spec.now down }
@@ -93,7 +93,7 @@ fn env_numbered(spec: &Spec, number: u32) -> Env
     }
 }
 
-// Returns the processors that are up if those of the set `down` are down.
+// Returns the set of processors that are up if exactly the processors of the set `down` are down.
 fn up_beside(spec: &Spec, down: u32) -> u8
     requires { down < 2 ^ length spec.now.procs }
     ensures { result ≡ 2 ^ length spec.now.procs - 1 - down }
@@ -101,7 +101,7 @@ fn up_beside(spec: &Spec, down: u32) -> u8
     (count_sets(spec) - 1 - down) as u8
 }
 
-// Returns the numbers below `count` that are not in a set of numbers, both sets as bits.
+// Returns the numbers below `count` that are not in `set`. Both sets of numbers are given as bits.
 fn others(count: u8, set: u8) -> u8
     requires { count ≤ 8 }
     ensures value { result ≡ bits_below (λ p. not (has_bit set p)) count }
@@ -145,7 +145,7 @@ fn count_environments(spec: &Spec) -> u32
     count_sets(spec) * count_combinations(spec)
 }
 
-// Returns the number of sets of processors.
+// Returns the number of sets of processors, from none to all.
 fn count_sets(spec: &Spec) -> u32
     ensures value { result ≡ 2 ^ length spec.now.procs }
     ensures least { 1 ≤ result }

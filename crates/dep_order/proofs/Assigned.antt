@@ -1,4 +1,4 @@
--- Ranks that are given one after another.
+-- Ranks that are assigned one after another.
 use Rattle.std.proofs.Common.{◌≡◌, ℕ, zero, suc, ◌+◌, ◌<◌, ◌≤◌, ◌≢◌, refl, arith, ◌⊎◌, ap, sym, ◌∙◌, List, [], ◌∷◌, length, set}
 use mathlib.Core.Logic.{inl, inr}
 use Rattle.std.specs.Prelude.{Option, Some, None, max, option_and_then, slice_get}
@@ -39,7 +39,7 @@ get_set_other (z ∷ zs) zero (suc j) x other = refl
 get_set_other (z ∷ zs) (suc i) zero x other = refl
 get_set_other (z ∷ zs) (suc i) (suc j) x other = get_set_other zs i j x (λ same. other (ap suc same))
 
--- one further application is given a rank
+-- If an application without a rank is given one, it has that rank, and the others keep theirs.
 module _ (ranks : List (Option ℕ)) (a r : ℕ) (unranked : slice_get ranks a ≡ Some None) where
   none_there : rank_in ranks a ≡ None
   none_there = rw (unranked) refl
@@ -90,7 +90,7 @@ module _ (ranks : List (Option ℕ)) (a r : ℕ) (unranked : slice_get ranks a �
             omega arith)
       ]
 
--- a rank that the needs give leaves room for the applications without a rank
+-- If each rank found is less than 8 minus `room`, the rank that needs determine is at most 8 minus `room`.
 ready_room_one : (ranks : List (Option ℕ)) (room least t : ℕ) (needs : List AppId) (rank : Option ℕ) → ((s : ℕ) → rank ≡ Some s → s + room < 8)
     → ((more : ℕ) → more + room ≤ 8 → ready more ranks needs ≡ Some t → t + room ≤ 8) → least + room ≤ 8
     → option_and_then (λ (rank : ℕ). ready (max least (rank + 1)) ranks needs) rank ≡ Some t → t + room ≤ 8

@@ -7,7 +7,7 @@ use Rattle.scram_types.proofs.Naturals.{below_or_at}
 use Rattle.scram_types.proofs.Searches.{greatest_most, greatest_reached, greatest_within, greatest_zero}
 use Rattle.dep_order.specs.Chains.{Chain, Chart, HasFirst, IsOffset, chain_time, longest, time_added}
 
--- an application that goes before another has the higher rank, and ranks are below 8
+-- An application that goes before another has the higher rank, and all ranks are below 8.
 pub record IsRanked (chart : Chart) (rank : ℕ → ℕ) : Type 0 where
   pub falls : (b a : ℕ) → chart.before b a ≡ true → rank a < rank b
   pub below : (a : ℕ) → a < chart.apps → rank a < 8
@@ -57,7 +57,7 @@ module _ (chart : Chart) (rank : ℕ → ℕ) (ranked : IsRanked chart rank) whe
     most = λ a bs h. chain_most 8 a bs (chain_length a bs h) h;
   }
 
-  -- an application that is on and has the maximum rank of those that are on
+  -- An application below `n` that is on and has the maximum rank of those that are on.
   pub record Top (n : ℕ) : Type 0 where
     pub app : ℕ
     pub inside : app < n
@@ -128,7 +128,8 @@ module _ (chart : Chart) (rank : ℕ → ℕ) (ranked : IsRanked chart rank) whe
     | inr t ↦ (t.app, t.inside, t.on, top_zero 8 t)
   ]
 
-  -- with times of at most 16 frames, a chain above rank r sums to at most 16 times (7 - r)
+  -- If times are at most 16 frames, the times along a chain before an application of rank r sum to at most 16 times
+  -- (7 - r).
   pub longest_ranked : ((b : ℕ) → b < chart.apps → chart.time b ≤ 16) → (links a : ℕ) → a < chart.apps → longest chart links a ≤ 112 - 16 * rank a
   longest_ranked few zero a known = omega arith
   longest_ranked few (suc links) a known = greatest_within (time_added chart (longest chart links) a) chart.apps (112 - 16 * rank a) (λ b less.

@@ -5,7 +5,7 @@ use Rattle.scram_types.proofs.Searches.{greatest_same, greatest_within}
 use Rattle.scram_types.specs.Searches.{greatest_below}
 use Rattle.dep_order.specs.Chains.{Chart, longest, offset, time_added}
 
--- charts that agree
+-- Charts that agree have equal offsets.
 
 pub record Agree (one other : Chart) : Type 0 where
   pub apps : one.apps ≡ other.apps
@@ -23,7 +23,7 @@ same_longest one other agree (suc links) a =
 pub same_offset : (one other : Chart) → Agree one other → (a : ℕ) → offset one a ≡ offset other a
 same_offset one other agree a = same_longest one other agree 8 a
 
--- times that are small
+-- Bounds on maximum sums if each time is small.
 
 if_most : (test : Bool) (x most : ℕ) → x ≤ most → (if test then x else 0) ≤ most
 if_most true x most h = h

@@ -7,7 +7,7 @@ use Rattle.scram_types.specs.declared.specification.Policy.TheVariants as policy
 use Rattle.scram_types.specs.Specification.{Parts}
 use Rattle.dep_order.specs.Timetables.{timetable}
 
--- an application in one mode, with these needs, and these halt and init times
+-- An application with one mode, and with these needs, this rank, and these halt and init times.
 app : List ℕ → ℕ → ℕ → ℕ → AppSpec
 app needs rank halt init = record {
   name = [];
@@ -17,7 +17,7 @@ app needs rank halt init = record {
   rank = rank;
 }
 
--- the applications on the one processor, each in its mode, and nothing on in the second configuration
+-- A specification with one processor, these applications and these configurations.
 made : List AppSpec → List Conf → Parts
 made apps confs = record {
   procs = record { name = []; capacity = 0 } ∷ [];
@@ -37,7 +37,8 @@ made apps confs = record {
   window = 1;
 }
 
--- a needs b, b needs c, d needs c
+-- A specification of applications a, b, c and d, in which a needs b, and b and d need c. All are on in the first
+-- configuration, none in the second, and a and c in the third.
 four : Parts
 four = made
     (app (1 ∷ []) 2 2 1 ∷ app (2 ∷ []) 1 1 2 ∷ app [] 0 3 1 ∷ app (2 ∷ []) 1 5 2 ∷ [])
@@ -54,7 +55,7 @@ nothing_on : timetable four (record { 0 = 1 }) ≡ record { halt = replicate 8 0
 unfolding four made app
 nothing_on = refl
 
--- an application that is off between two others breaks the chain
+-- An application that is off between two others breaks the chain.
 broken_chain : timetable four (record { 0 = 2 }) ≡ record { halt = replicate 8 0; init = replicate 8 0; h = 3; p = 1; i = 1 }
 unfolding four made app
 broken_chain = refl

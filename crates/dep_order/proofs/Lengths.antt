@@ -31,7 +31,7 @@ off_zero : (b : Bool) (n : ℕ) → b ≡ nat_lt 0 n → (if b then n else 0) �
 off_zero true n h = refl
 off_zero false n h = not_above n h
 
--- a phase whose times and offsets in an order are listed
+-- A phase of a configuration, given lists of its times and offsets.
 module _ (spec : Parts) (known : IsSpec spec) (c : ConfId) (times offsets : List ℕ) (time : ℕ → ℕ)
     (tests : (a : ℕ) → IsTimed (is_on spec c a) (time a)) (listed : Holds time 8 times) where
   on_test : (a : ℕ) → a < 8 → is_on spec c a ≡ nat_lt 0 (slice_index times a)
@@ -64,7 +64,7 @@ module _ (spec : Parts) (known : IsSpec spec) (c : ConfId) (times offsets : List
       ap (λ b. if b then slice_index offsets a + slice_index times a else 0) (sym (on_test a (omega arith)))
       ∙ if_same (is_on spec c a) (slice_index offsets a + slice_index times a) (value a + time a) (λ on. rw (holds a less, listed a (omega arith)) refl))
 
-  -- if nothing goes before anything, the length is the maximum time
+  -- If no application goes before another, the length of the phase is the maximum time.
   pub length_alone : ((a : ℕ) → a < length spec.apps → slice_index offsets a ≡ 0) → phase_length times offsets (length spec.apps) ≡ greatest_below time (length spec.apps)
   length_alone zeros =
       length_is (λ a. 0) zeros

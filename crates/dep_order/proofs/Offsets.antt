@@ -18,7 +18,7 @@ use Rattle.dep_order.proofs.Modes.{IsTimed, timed}
 abbrev pub rank_of : Parts → ℕ → ℕ
 rank_of spec a = option_map_or (λ (app : AppSpec). app.rank) (slice_get spec.apps a) 0
 
--- application b names application a, so both exist and the rank falls
+-- Application `b` has a rank that is below 8 and higher than that of application `a`, as it does if `b` needs `a`.
 record Rises (spec : Parts) (b a : ℕ) : Type 0 where
   rises : rank_of spec a < rank_of spec b
   few : rank_of spec b < 8
@@ -90,7 +90,7 @@ if_below false n most h = omega arith
 some_time : (on : Bool) (n : ℕ) → IsTimed on n → on ≡ true → 1 ≤ n
 some_time on n time h = let test : nat_lt 0 n ≡ true = sym time.test ∙ h in grind (arith, nat_tests)
 
--- an application that is on has ended its phase by the maximum of such ends
+-- The value of an application that is on is at most the maximum of the values of all that are on.
 ends : (spec : Parts) → IsSpec spec → (c : ConfId) (value : ℕ → ℕ) (a : ℕ) → is_on spec c a ≡ true
     → value a ≤ greatest_below (λ a. where_on spec c a (value a)) (length spec.apps)
 ends spec known c value a on =

@@ -1,4 +1,5 @@
--- Ranks given by needs fall along the needs, so the needs have no cycle.
+-- If each application has the rank that its needs determine, ranks fall along the needs. Therefore the needs have no
+-- cycle.
 use Rattle.std.proofs.Common.{◌≡◌, ℕ, zero, suc, ◌+◌, ◌<◌, refl, arith, ap, sym, ◌∙◌, List, [], ◌∷◌, length, get_or, subst}
 use Rattle.std.specs.Prelude.{All, Option, Some, max, option_and_then, slice_get, slice_index}
 use Rattle.std.proofs.lemmas.Option.{get_or_from_slice_get, slice_get-get_or, slice_get_within}

@@ -1,4 +1,4 @@
--- A cycle of needs, listed from its lowest-numbered application on.
+-- Cycles of needs, listed from the lowest-numbered application on.
 use Rattle.std.proofs.Common.{◌≡◌, ℕ, zero, suc, ◌+◌, ◌-◌, ◌<◌, ◌≤◌, ◌≢◌, refl, arith, ◌⊎◌, ap, sym, ◌∙◌, List, [], ◌∷◌, ◌++◌, length, get_or, drop, take, subst}
 use mathlib.Core.Logic.{inl, inr}
 use Rattle.std.specs.Prelude.{AllPairs}
@@ -28,7 +28,7 @@ turned_closed apps b rest zero d inside turn = subst (λ (l : List AppId). Needs
 turned_closed apps b rest (suc k) d inside turn =
     turn_join apps (drop k rest) b (take k rest) (get_or rest k d) (turn_drop apps (b ∷ rest) (suc k) b turn) (turn_take apps (b ∷ rest) (suc k) d b inside turn)
 
--- the place that an element of the rotated list had before
+-- An element of the rotated list had some place in the list before.
 
 before_or_past : (n k i : ℕ) → (k + i < n) ⊎ (n ≤ k + i)
 before_or_past n k i = grind arith
@@ -97,7 +97,8 @@ drop_differ xs n differ = λ i j d less inside.
     let short = length-drop n xs in
     rw (get_or-drop n xs i d, get_or-drop n xs j d) (differ (n + i) (n + j) d (omega arith) (omega arith))
 
--- a list that ends where it begins is a cycle from its lowest-numbered application on
+-- If each application of a list needs the next, the last needs the first, and no two are the same, the list rotated
+-- to its lowest-numbered application is a cycle of needs.
 turned_is_cycle : (apps : List AppSpec) (xs : List AppId) (b : AppId) (rest : List AppId) (k : ℕ) → xs ≡ b ∷ rest → k < length xs
     → ((j : ℕ) (d : AppId) → j < length xs → (get_or xs k d).0 ≤ (get_or xs j d).0)
     → NeedsInTurn apps xs b → AllPairs (λ (a c : AppId). a.0 ≢ c.0) xs → IsCycle apps (drop k xs ++ take k xs)
@@ -115,7 +116,8 @@ turned_is_cycle apps xs b rest k is inside least turn differ =
           rw (there.same, get_or_default xs k b d inside) (least there.place d there.inside);
     }
 
--- a walk that comes back to one of its places closes a cycle there
+-- If a walk comes back to an application already visited, the path from there on, rotated to its lowest-numbered
+-- application, is a cycle of needs.
 pub closes : (apps : List AppSpec) (path now : List AppId) (at : AppId) (place k : ℕ) (xs items : List AppId) → now ≡ path → place < length now
     → ((d : AppId) → get_or now place d ≡ at) → xs ≡ take (length now - place) (drop place now) → k < length xs
     → ((j : ℕ) (d : AppId) → j < length xs → (get_or xs k d).0 ≤ (get_or xs j d).0) → items ≡ drop k xs ++ take k xs

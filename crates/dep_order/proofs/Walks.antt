@@ -1,4 +1,4 @@
--- A walk along needs: it cannot go on for ever without coming back.
+-- A walk along needs cannot go on for ever without coming back to an application already visited.
 use Rattle.std.proofs.Common.{◌≡◌, ℕ, zero, suc, ◌+◌, ◌<◌, ◌≤◌, ◌≢◌, Bool, true, false, refl, arith, ap, sym, ◌∙◌, List, [], ◌∷◌, ◌++◌, length, get_or}
 use mathlib.Core.Logic.{inl, inr}
 use Rattle.std.specs.Prelude.{Option, Some, None, ◌||◌, ◌==◌, find, if◌then◌else◌, is_none, max, option_and_then, slice_get}
@@ -12,7 +12,7 @@ use Rattle.dep_order.specs.Ranks.{Needs, NeedsInTurn}
 use Rattle.dep_order.specs.Ranking.{is_unranked, rank_in, ready}
 use Rattle.dep_order.specs.Timetables.{is_named}
 
--- if the needs give no rank, one of them has none
+-- If needs determine no rank, one of the needed applications has none.
 
 wait_case : (ranks : List (Option ℕ)) (least : ℕ) (needed : AppId) (needs : List AppId) (rank : Option ℕ)
     → ((more : ℕ) → find (λ (n : AppId). is_unranked ranks n.0) needs ≡ None → ready more ranks needs ≡ None → ⊥)
@@ -43,7 +43,7 @@ none_by (Some r) h = absurd (cc)
 pub is_without : (ranks : List (Option ℕ)) (a : ℕ) → is_unranked ranks a ≡ true → rank_in ranks a ≡ None
 is_without ranks a h = none_by (rank_in ranks a) h
 
--- needs in turn
+-- Lists in which each application needs the next can be extended and joined.
 
 pub turn_push : (apps : List AppSpec) (path : List AppId) (at next : AppId) → NeedsInTurn apps path at → Needs apps at next → NeedsInTurn apps (path ++ at ∷ []) next
 turn_push apps [] at next turn needs = needs
@@ -66,7 +66,7 @@ turn_back apps [] b back end turn = turn
 turn_back apps (a ∷ []) b back end turn = turn.1
 turn_back apps (a ∷ c ∷ rest) b back end turn = turn_back apps (c ∷ rest) b back end turn.1
 
--- the number of numbers below n that a list does not name
+-- The number of numbers below `n` that a list does not name.
 
 pub count_free : List AppId → ℕ → ℕ
 count_free path zero = 0
@@ -80,7 +80,7 @@ named_push : (path : List AppId) (at : AppId) (a : ℕ) → is_named (path ++ at
 named_push [] at a = or-false (at.0 == a)
 named_push (x ∷ xs) at a = ap (λ b. (x.0 == a) || b) (named_push xs at a) ∙ sym (or_assoc (x.0 == a) (is_named xs a) (at.0 == a))
 
--- past the numbers counted, one more name changes nothing
+-- The number of free numbers below `n` stays the same if a number from `n` on is added to the list.
 free_above : (path : List AppId) (at : AppId) (n : ℕ) → n ≤ at.0 → count_free (path ++ at ∷ []) n ≡ count_free path n
 unfolding count_free
 free_above path at zero above = refl
@@ -102,7 +102,7 @@ free_push path at (suc n) inside free = elim (below_or_at at.0 n inside) [
       rw (now, before, rest) (omega arith))
 ]
 
--- the applications of a path differ
+-- No two applications of a path are the same.
 
 pub not_named : (path : List AppId) (a : ℕ) → is_named path a ≡ false → (i : ℕ) (d : AppId) → i < length path → (get_or path i d).0 ≢ a
 not_named [] a free i d inside = absurd (omega arith)

@@ -9,7 +9,7 @@ abbrev pub rank_after : List ℕ → List AppId → ℕ
 rank_after ranks [] = 0
 rank_after ranks (needed ∷ needs) = max (suc (slice_index ranks needed.0)) (rank_after ranks needs)
 
--- Every application has the rank that its needs give.
+-- Each application has the rank that its needs determine.
 pub record IsRanking (apps : List AppSpec) (ranks : List ℕ) : Type 0 where
   pub count : length ranks ≡ length apps
   pub ranked : (a : ℕ) (app : AppSpec) → slice_get apps a ≡ Some app → slice_get ranks a ≡ Some (rank_after ranks app.needs)
@@ -30,13 +30,14 @@ pub record Needs (apps : List AppSpec) (a b : AppId) : Type 0 where
   pub place : ℕ
   pub named : slice_get app.needs place ≡ Some b
 
--- Each of a list of applications needs the next, and the last needs `end`.
+-- Each application of a list needs the next one, and the last needs `end`.
 abbrev pub NeedsInTurn : List AppSpec → List AppId → AppId → Type 0
 NeedsInTurn apps [] end = Unit {0}
 NeedsInTurn apps (a ∷ []) end = Needs apps a end
 NeedsInTurn apps (a ∷ b ∷ rest) end = Needs apps a b × NeedsInTurn apps (b ∷ rest) end
 
--- A list is a cycle of needs, once round: no application occurs twice, and the lowest-numbered application is first.
+-- A list is one round of a cycle of needs: each application needs the next, the last needs the first, no application
+-- occurs twice, and the lowest-numbered application is first.
 pub record IsCycle (apps : List AppSpec) (cycle : List AppId) : Type 0 where
   pub first : AppId
   pub others : List AppId
@@ -45,6 +46,6 @@ pub record IsCycle (apps : List AppSpec) (cycle : List AppId) : Type 0 where
   pub differ : AllPairs (λ (a b : AppId). a.0 ≢ b.0) cycle
   pub least : All (λ (a : AppId). first.0 ≤ a.0) cycle
 
--- If ranks can be given, there is no cycle of needs.
+-- If the applications have ranks that their needs determine, the needs have no cycle.
 abbrev pub RankingExcludesCycles : Type 0
 RankingExcludesCycles = (apps : List AppSpec) (ranks : List ℕ) (cycle : List AppId) → IsRanking apps ranks → IsCycle apps cycle → ⊥

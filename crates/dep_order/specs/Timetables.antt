@@ -1,4 +1,5 @@
--- When the applications of a configuration halt, prepare and initialise, and how long that takes.
+-- The frames at which the applications of a configuration halt, prepare and initialise, and the lengths of these
+-- phases.
 use Rattle.std.specs.Prelude.{◌≡◌, ℕ, ◌+◌, ◌<◌, ◌≤◌, Bool, true, false, ◌==◌, List, length, nat_lt, slice_get, slice_index, if◌then◌else◌}
 use Rattle.std.specs.Option.{option_map_or}
 use Rattle.std.specs.List.{list_any}
@@ -35,19 +36,21 @@ is_named needs a = list_any (λ (needed : AppId). needed.0 == a) needs
 abbrev pub needs : Parts → ℕ → ℕ → Bool
 needs spec b a = option_map_or (λ (app : AppSpec). is_named app.needs a) (slice_get spec.apps b) false
 
--- The chart of the halt phase, in which dependents halt before the applications that they need.
+-- The chart of the halt phase of a configuration, in which dependents halt before the applications that they need.
 abbrev pub halt_chart : Parts → ConfId → Chart
 halt_chart spec c = record { apps = length spec.apps; on = is_on spec c; before = needs spec; time = halt_time spec c }
 
--- The chart of the init phase, in which an application waits for those that it needs.
+-- The chart of the init phase of a configuration, in which each application initialises after those that it needs.
 abbrev pub init_chart : Parts → ConfId → Chart
 init_chart spec c = record { apps = length spec.apps; on = is_on spec c; before = λ b a. needs spec a b; time = init_time spec c }
 
--- The maximum sum of halt times over the chains of dependents of application `a`.
+-- The halt offset of application `a` in a configuration: the maximum sum of halt times along the chains of its
+-- dependents.
 abbrev pub halt_offset : Parts → ConfId → ℕ → ℕ
 halt_offset spec c a = offset (halt_chart spec c) a
 
--- The maximum sum of init times over the chains of applications that application `a` needs.
+-- The init offset of application `a` in a configuration: the maximum sum of init times along the chains of
+-- applications that it needs.
 abbrev pub init_offset : Parts → ConfId → ℕ → ℕ
 init_offset spec c a = offset (init_chart spec c) a
 
@@ -59,27 +62,30 @@ where_on spec c a n = if is_on spec c a then n else 0
 abbrev pub halting_time : Parts → ConfId → ℕ
 halting_time spec c = greatest_below (λ a. where_on spec c a (halt_offset spec c a + halt_time spec c a)) (length spec.apps)
 
--- The number of frames of the prepare phase of a configuration, that of its slowest application.
+-- The number of frames of the prepare phase of a configuration: the maximum prepare time of its applications, or 0 if
+-- nothing is on.
 abbrev pub preparing_time : Parts → ConfId → ℕ
 preparing_time spec c = greatest_below (prepare_time spec c) (length spec.apps)
 
--- The number of frames of the init phase of a configuration, up to the end of the last application's initialisation.
+-- The number of frames of the init phase of a configuration, up to the end of the last application's initialisation,
+-- or 0 if nothing is on.
 abbrev pub initialising_time : Parts → ConfId → ℕ
 initialising_time spec c = greatest_below (λ a. where_on spec c a (init_offset spec c a + init_time spec c a)) (length spec.apps)
 
--- The number of frames that application `a` takes for a phase.
+-- The number of frames that application `a` takes for a phase in a configuration, or 0 if it is off.
 abbrev pub phase_time : Parts → ConfId → Phase → ℕ → ℕ
 phase_time spec c phase.Halt a = halt_time spec c a
 phase_time spec c phase.Prepare a = prepare_time spec c a
 phase_time spec c phase.Init a = init_time spec c a
 
--- Whether application `b` goes before application `a` in a phase. All applications prepare at once.
+-- Whether application `b` goes before application `a` in a phase. In the prepare phase no application goes before
+-- another.
 abbrev pub goes_before : Parts → Phase → ℕ → ℕ → Bool
 goes_before spec phase.Halt b a = needs spec b a
 goes_before spec phase.Prepare b a = false
 goes_before spec phase.Init b a = needs spec a b
 
--- The chart of a phase with listed times. An application is on if its time is above 0.
+-- The chart of a phase, given the time of each application. An application is on if its time is above 0.
 abbrev pub timed_chart : Parts → Phase → List ℕ → Chart
 timed_chart spec phase times = record {
   apps = length spec.apps;
@@ -88,7 +94,8 @@ timed_chart spec phase times = record {
   time = slice_index times;
 }
 
--- The length of a phase by listed times and offsets.
+-- The number of frames of a phase, given the times and offsets of the first `n` applications. It is the maximum sum
+-- of offset and time of an application whose time is above 0.
 abbrev pub phase_length : List ℕ → List ℕ → ℕ → ℕ
 phase_length times offsets n =
     greatest_below (λ a. if nat_lt 0 (slice_index times a) then slice_index offsets a + slice_index times a else 0) n
@@ -115,14 +122,14 @@ timetable spec c = record {
   i = initialising_time spec c;
 }
 
--- Halt and init offsets are maximum sums over chains.
+-- The halt and init offsets of a configuration are maximum sums of times along chains.
 pub record OffsetsAreSums (spec : Parts) (c : ConfId) : Type 0 where
   pub halt : IsOffset (halt_chart spec c)
   pub init : IsOffset (init_chart spec c)
 
--- Each phase of an application that is on ends within the configuration's phase and takes at least one frame. If
--- something is on, something halts at once and something initialises at once. Halting and initialising take at most 128
--- frames, preparing at most 16.
+-- Each phase of an application that is on ends within the configuration's phase and takes at least one frame. If an
+-- application is on, some application has halt offset 0 and some application has init offset 0. The halt phase and
+-- the init phase take at most 128 frames, the prepare phase at most 16.
 pub record IsInTime (spec : Parts) (c : ConfId) : Type 0 where
   pub halts : (a : ℕ) → is_on spec c a ≡ true → halt_offset spec c a + halt_time spec c a ≤ halting_time spec c
   pub prepares : (a : ℕ) → is_on spec c a ≡ true → prepare_time spec c a ≤ preparing_time spec c
@@ -136,10 +143,10 @@ pub record IsInTime (spec : Parts) (c : ConfId) : Type 0 where
   pub prepare_most : preparing_time spec c ≤ 16
   pub init_most : initialising_time spec c ≤ 128
 
--- In every specification, halt and init offsets are maximum sums of times over chains.
+-- In each configuration of every specification, halt and init offsets are maximum sums of times along chains.
 abbrev pub OffsetsAreGreatestSums : Type 0
 OffsetsAreGreatestSums = (spec : Parts) → IsSpec spec → (c : ConfId) → OffsetsAreSums spec c
 
--- In every specification, each phase of an application ends within the phase of its configuration.
+-- In every specification, each phase of an application ends within the same phase of its configuration.
 abbrev pub PhasesEndInTime : Type 0
 PhasesEndInTime = (spec : Parts) → IsSpec spec → (c : ConfId) → IsInTime spec c

@@ -1,23 +1,24 @@
-//! Theorems about the definitions that this crate's contracts use. Each function states one by its contract.
+//! Theorems about the definitions that this crate's contracts use. The contract of each function is a theorem.
 
 ghost use Rattle.dep_order.specs.Ranks.{RankingExcludesCycles};
 ghost use Rattle.dep_order.specs.Timetables.{OffsetsAreGreatestSums, PhasesEndInTime};
 
-/// An application's halt offset is the sum of halt times along some chain of dependents, and no chain has a greater
-/// sum. Its init offset is the same for init times along the applications that it needs. Without a chain an offset is
-/// 0.
+/// States that an application's halt offset is the sum of halt times along some chain of its dependents, and that no
+/// such chain has a greater sum. The same holds for its init offset, with the init times along the chains of
+/// applications that it needs. Without a chain an offset is 0.
 pub fn offsets_are_greatest_sums()
     ensures { OffsetsAreGreatestSums }
 {}
 
-/// Every phase of an application ends within the configuration's phase and takes at least one frame. If something is
-/// on, something halts at once and something initialises at once. Halting and initialising take at most 128 frames,
-/// preparing at most 16.
+/// States that each phase of an application ends within the configuration's phase and takes at least one frame. If an
+/// application is on, some application has halt offset 0 and some application has init offset 0. The halt phase and
+/// the init phase take at most 128 frames, the prepare phase at most 16.
 pub fn phases_end_in_time()
     ensures { PhasesEndInTime }
 {}
 
-/// If ranks can be given, the needs have no cycle, so `rank` returns a cycle whenever one exists.
+/// States that needs which determine a rank for each application have no cycle. Therefore `rank` returns a cycle
+/// whenever one exists.
 pub fn ranking_excludes_cycles()
     ensures { RankingExcludesCycles }
 {}

@@ -1,5 +1,6 @@
-//! The order of applications: ranks or a cycle of needs, and the timetable of a configuration. The timetable says when
-//! applications halt, prepare and initialise, each by the longest chain of applications that go before it.
+//! The order of applications: their ranks or a cycle of their needs, and the timetable of a configuration. The
+//! timetable contains the frames at which applications halt, prepare and initialise. Each application waits for the
+//! longest chain of applications that go before it.
 #![tactic(auto)]
 
 pub mod laws;

@@ -15,8 +15,8 @@ use scram_types::{AppId, AppSpec};
 pub struct Cycle(pub ArrayVec<AppId, 8>);
 
 /// Returns the rank of each application: 0 if it needs none, else one more than the maximum rank of the applications
-/// that it needs. Returns `Cycle` exactly if the needs have a cycle. Ranks that the applications already have are
-/// ignored.
+/// that it needs. Returns a `Cycle` if and only if the needs have a cycle. Ranks that the applications already have
+/// are ignored.
 pub fn rank(apps: &[AppSpec]) -> Result<ArrayVec<u8, 8>, Cycle>
     requires few { length apps.now ≤ 8 }
     requires needs { NeedsInRange apps.now }
@@ -32,10 +32,11 @@ pub fn rank(apps: &[AppSpec]) -> Result<ArrayVec<u8, 8>, Cycle>
     }
 }
 
-// The ranks found so far.
+// The rank of each application, or `None` if it has not been found.
 type Ranks = [Option<u8>; 8];
 
-// Returns the ranks of all applications that do not wait, directly or indirectly, for a cycle.
+// Returns the rank of each application that does not wait, directly or indirectly, for a cycle, and `None` for the
+// others.
 fn ranks_of_unbound(apps: &[AppSpec]) -> Ranks
     requires few { length apps.now ≤ 8 }
     requires needs { NeedsInRange apps.now }
@@ -50,7 +51,8 @@ fn ranks_of_unbound(apps: &[AppSpec]) -> Ranks
     ranks
 }
 
-// Returns the first application without a rank whose needs all have a rank, together with the rank that they give it.
+// Returns the first application without a rank whose needs all have a rank, together with the rank that they
+// determine, or `None` if there is no such application.
 fn find_ready(apps: &[AppSpec], ranks: &Ranks) -> Option<(usize, u8)>
     requires few { length apps.now ≤ 8 }
     requires small { AreSmall ranks.now }
@@ -99,7 +101,8 @@ fn rank_of(ranks: &Ranks, app: AppId) -> Option<u8>
     }
 }
 
-// Returns all ranks, in order, or `Err` with the first application that has none.
+// Returns the ranks of the first `count` applications, in order, or `Err` with the number of the first one that has
+// no rank.
 fn list_ranks(count: usize, ranks: &Ranks) -> Result<ArrayVec<u8, 8>, u8>
     requires { count ≤ 8 }
     ensures count { IfOk result (λ listed. length listed.items ≡ count) }
@@ -117,7 +120,7 @@ fn list_ranks(count: usize, ranks: &Ranks) -> Result<ArrayVec<u8, 8>, u8>
     Ok(listed)
 }
 
-// Returns the first of these applications that has no rank, or `None` if all have one.
+// Returns the first needed application that has no rank, or `None` if all have one.
 fn find_waiting(ranks: &Ranks, needs: &[AppId]) -> Option<AppId>
     ensures { result ≡ find (λ needed. is_unranked ranks.now needed.0) needs.now }
 {
@@ -129,7 +132,7 @@ fn find_waiting(ranks: &Ranks, needs: &[AppId]) -> Option<AppId>
     None
 }
 
-// Returns the first needed application without a rank, for which an application without a rank waits.
+// Returns the first application without a rank that `a` needs. `a` has no rank, and its needs determine none yet.
 fn wait_of(apps: &[AppSpec], ranks: &Ranks, a: AppId) -> AppId
     requires needs { NeedsInRange apps.now }
     requires stuck { IsStuck apps.now ranks.now }
@@ -143,8 +146,8 @@ fn wait_of(apps: &[AppSpec], ranks: &Ranks, a: AppId) -> AppId
     }
 }
 
-// Returns a cycle of needs. It walks from an application without a rank to one that it waits for until the walk comes
-// back to an application already visited.
+// Returns a cycle of needs. The function walks from `start`, which has no rank, to an application without a rank that
+// it needs, and so on, until it comes back to an application already visited.
 fn find_cycle(apps: &[AppSpec], ranks: &Ranks, start: AppId) -> ArrayVec<AppId, 8>
     requires few { length apps.now ≤ 8 }
     requires needs { NeedsInRange apps.now }
@@ -163,7 +166,7 @@ fn find_cycle(apps: &[AppSpec], ranks: &Ranks, start: AppId) -> ArrayVec<AppId, 
     rotated_to(cycle, place_of_least(cycle))
 }
 
-// Returns the index of an application in a list.
+// Returns the index of application `at` in a list that contains it.
 fn place_of(path: &[AppId], at: AppId) -> usize
     requires { is_named path.now at.0 ≡ true }
     ensures inside { result < length path.now }
@@ -176,7 +179,7 @@ fn place_of(path: &[AppId], at: AppId) -> usize
     place
 }
 
-// Returns the index of the lowest-numbered application in a list.
+// Returns the index of the lowest-numbered application in a list that is not empty.
 fn place_of_least(cycle: &[AppId]) -> usize
     requires { 0 < length cycle.now }
     ensures inside { result < length cycle.now }

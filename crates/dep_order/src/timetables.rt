@@ -21,8 +21,8 @@ pub struct Times {
     pub i: u16,
 }
 
-/// A phase of a reconfiguration. Dependents halt before the applications that they need and initialise after them; all
-/// prepare at once.
+/// A phase of a reconfiguration. Dependents halt before the applications that they need, and initialise after them.
+/// All applications prepare at once.
 #[derive(Clone, Copy, Debug, PartialEq, Eq)]
 pub enum Phase {
     Halt,
@@ -30,9 +30,9 @@ pub enum Phase {
     Init,
 }
 
-/// Returns the timetable of configuration `c`. An application's halt offset is the maximum sum of halt times over the
-/// chains of its dependents that are on. Its init offset is the maximum sum of init times over the chains of
-/// applications that it needs.
+/// Returns the timetable of configuration `c`. An application's halt offset is the maximum sum of halt times along
+/// the chains of its dependents that are on. Its init offset is the maximum sum of init times along the chains of
+/// applications that it needs and that are on.
 pub fn timetable(spec: &Spec, c: ConfId) -> Times
     ensures { result ≡ timetable spec.now c }
 {
@@ -51,8 +51,8 @@ pub fn timetable(spec: &Spec, c: ConfId) -> Times
     }
 }
 
-// Returns the offset of each application, or 0 if there is no application of a number. Every round allows chains of one
-// more link.
+// Returns the offset of each application, and 0 for each number without an application. Each round of the loop allows
+// chains of one more application.
 fn offsets_in(spec: &Spec, phase: Phase, times: &[u8; 8]) -> [u16; 8]
     requires { AtMost 16 (length spec.now.apps) times.now }
     ensures offsets { Holds (offset (timed_chart spec.now phase times.now)) (length spec.now.apps) result }
@@ -79,8 +79,8 @@ fn offsets_after(spec: &Spec, phase: Phase, times: &[u8; 8], before: &[u16; 8]) 
     offsets
 }
 
-// Returns the frame at which the last application that goes before application `a` has ended its phase, by these
-// offsets.
+// Returns the number of frames after which all applications that go before application `a` have ended the phase,
+// given their offsets. It is 0 if none goes before `a`.
 fn offset_after(spec: &Spec, phase: Phase, times: &[u8; 8], offsets: &[u16; 8], a: usize) -> u16
     requires times { AtMost 16 (length spec.now.apps) times.now }
     requires offsets { AtMost 112 (length spec.now.apps) offsets.now }
@@ -95,7 +95,7 @@ fn offset_after(spec: &Spec, phase: Phase, times: &[u8; 8], offsets: &[u16; 8], 
     last
 }
 
-// Returns whether application `b` goes before application `a` in a phase.
+// Returns `true` if application `b` goes before application `a` in a phase.
 fn precedes(spec: &Spec, phase: Phase, b: usize, a: usize) -> bool
     ensures { result ≡ goes_before spec.now phase b a }
 {
@@ -106,7 +106,7 @@ fn precedes(spec: &Spec, phase: Phase, b: usize, a: usize) -> bool
     }
 }
 
-// Returns whether application `b` needs application `a`.
+// Returns `true` if application `b` needs application `a`.
 fn depends(spec: &Spec, b: usize, a: usize) -> bool
     ensures { result ≡ needs spec.now b a }
 {

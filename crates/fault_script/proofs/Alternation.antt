@@ -32,7 +32,7 @@ two_of p (x ∷ xs) (suc i) (suc j) y z less e f same_y same_z =
 abbrev pub Again : List RestartAt → HaltAt → HaltAt → Type 0
 Again restarts a b = a.proc.0 ≡ b.proc.0 → RestartsBy restarts b.proc.0 b.frame
 
--- an earlier halt of the processor, and so a restart
+-- If a processor has an earlier halt and may halt again, it has restarted by then.
 again_by : (restarts : List RestartAt) (n : ℕ) (p f : ℕ) → 1 ≤ n → (n == 0 || (n == 1 && list_any (is_restart_by p f) restarts)) ≡ true → RestartsBy restarts p f
 again_by restarts n p f some may = elim (or_cases (n == 0) (n == 1 && list_any (is_restart_by p f) restarts) may) [
   | inl none ↦ absurd (grind (arith, nat_tests, none, some))

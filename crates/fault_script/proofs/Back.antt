@@ -42,7 +42,7 @@ restart_back : (spec : Parts) (frames : ℕ) (at : List ℕ) (r : RestartAt) →
 restart_back spec frames at r is fits =
     rw (proc_found_back spec r.proc is fits.proc, whole_back 2 frames r.frame fits.least fits.most) refl
 
--- each item, with the preceding and the following items of the whole list
+-- Each item of a list satisfies a fact together with the items before it and after it.
 abbrev pub EachSplit : {A : Type 0} → (List A → A → List A → Type 0) → List A → Type 0
 EachSplit {A} Fact whole = (xs : List A) (x : A) (ys : List A) → xs ++ x ∷ ys ≡ whole → Fact xs x ys
 

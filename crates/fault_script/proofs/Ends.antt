@@ -6,7 +6,7 @@ use Rattle.scram_types.specs.Specification.{Each}
 use Rattle.fault_script.specs.Fits.{EachLater, EachNext}
 use Rattle.fault_script.specs.Orders.{last_of}
 
--- the items of a list after an item is appended
+-- An item of a list to which an item was appended is an earlier item or the appended one.
 pub data Place {A : Type 0} (xs : List A) (x : A) (i : ℕ) (y : A) : Type 0 where
   before : slice_get xs i ≡ Some y → i < length xs → Place xs x i y
   end : i ≡ length xs → y ≡ x → Place xs x i y

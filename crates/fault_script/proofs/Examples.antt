@@ -10,7 +10,7 @@ use Rattle.scram_types.specs.Specification.{Parts}
 use Rattle.fault_script.specs.declared.assumption.OutsideKind.TheVariants as kind
 use Rattle.fault_script.specs.Assumption.{first_outside}
 
--- two processors, a factor, one further change in a window
+-- A specification with two processors and one factor. A window may have two change frames.
 abbrev assumed : ℕ → ℕ → Parts
 assumed halts window = record {
   procs = replicate 2 (record { name = []; capacity = 0 });
@@ -39,26 +39,26 @@ halt p frame = record { proc = record { 0 = p }; frame = frame; step = 0 }
 abbrev script : ℕ → List Change → List HaltAt → List RestartAt → ScriptParts
 script frames changes halts restarts = record { frames = frames; changes = changes; halts = halts; restarts = restarts }
 
--- the window is longer than the script, and its third change is one too many
+-- In a window that is longer than the script, the third change is one too many.
 changes_again : first_outside (assumed 0 40) (script 20 (change 1 1 ∷ change 3 0 ∷ change 5 1 ∷ []) [] []) ≡ Some (record { frame = 5; kind = kind.Changes })
 changes_again = refl
 
--- the same value again is no change
+-- A change to the same value again does not change the environment.
 stays : first_outside (assumed 0 40) (script 20 (change 1 1 ∷ change 3 1 ∷ change 5 0 ∷ []) [] []) ≡ None
 stays = refl
 
--- the first change is no longer in a window of four frames
+-- The window of four frames that ends with the third change does not contain the first.
 far_apart : first_outside (assumed 0 4) (script 20 (change 1 1 ∷ change 3 0 ∷ change 5 1 ∷ []) [] []) ≡ None
 far_apart = refl
 
--- a halt in the last frame counts
+-- A halt in the last frame counts.
 halts_last : first_outside (assumed 1 40) (script 6 [] (halt 1 2 ∷ halt 0 5 ∷ []) []) ≡ Some (record { frame = 5; kind = kind.Halts })
 halts_last = refl
 
--- and is a change of the frame after it
+-- A third change of the environment, by a halt in the last frame, counts in the frame after it.
 changes_last : first_outside (assumed 1 40) (script 6 (change 1 1 ∷ change 3 0 ∷ []) (halt 1 5 ∷ []) []) ≡ Some (record { frame = 6; kind = kind.Changes })
 changes_last = refl
 
--- a processor that has restarted is up
+-- A processor that has restarted is up.
 restarts : first_outside (assumed 1 5) (script 20 [] (halt 1 2 ∷ halt 0 12 ∷ []) (record { proc = record { 0 = 1 }; frame = 8 } ∷ [])) ≡ None
 restarts = refl

@@ -103,7 +103,7 @@ pub record Read {A : Type 0} (Good : List A → Type 0) (count : ℕ) (xs : List
   pub good : Good xs
   pub count_is : length xs ≡ count
 
--- if each element keeps a property that the preceding ones have, the whole list has it
+-- If each element that is read keeps a property of the elements before it, the whole list has the property.
 elements_ok : {A : Type 0} (Good : List A → Type 0) (read : List ℕ → List A → Data → Result A DocFault)
     → ((at : List ℕ) (before : List A) (x : A) (d : Data) → Good before → read at before d ≡ Ok x → Good (before ++ x ∷ []))
     → (at : List ℕ) (i : ℕ) (before xs : List A) (ds : Items) → Good before → elements_from read at i before ds ≡ Ok xs → Read Good (length before + items_len ds) xs
@@ -116,7 +116,7 @@ elements_ok Good read more at i before xs (item d ds) good e =
     let long = length-append before (x ∷ []) in let count = next.count_is in
     record { good = next.good; count_is = omega (arith, long, count) })
 
--- the items that are read from a list, and its maximum length
+-- A list that was read has the property `Good` and at most `most` items.
 pub record Listed {A : Type 0} (Good : List A → Type 0) (most : ℕ) (xs : List A) : Type 0 where
   pub good : Good xs
   pub few : length xs ≤ most
@@ -314,7 +314,7 @@ script_values_ok spec version m script e =
 pub script_in_fits : (spec : Parts) (d : Data) (script : ScriptParts) → script_in spec d ≡ Ok script → Fits spec script
 script_in_fits spec d script e = chain_ok (find_members (version_of d) d) _ script e (λ m _ rest. script_values_ok spec _ m script rest)
 
--- whatever document it is
+-- Whatever the bytes are, a script that is read from them fits the specification.
 pub script_of_fits : (spec : Parts) (bytes : List ℕ) (script : ScriptParts) → script_of spec bytes ≡ Ok script → Fits spec script
 script_of_fits spec bytes script e =
     chain_ok (parsed bytes) _ script (if_ok (nat_le (length bytes) MAX_SCRIPT_BYTES) _ _ _ script e) (λ d _ rest. script_in_fits spec d script rest)

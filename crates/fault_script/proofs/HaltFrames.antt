@@ -26,7 +26,7 @@ use Rattle.fault_script.proofs.Assuming.{start_up, two_tests}
 use Rattle.fault_script.proofs.Halts.{between, between_test, up_by_lists}
 use Rattle.fault_script.proofs.Losses.{later_frame}
 
--- a processor that is up and does not halt stays up
+-- A processor that is up and does not halt stays up.
 
 restarted_later : (script : ScriptParts) (p h f : ℕ) → restarted script p h f ≡ true → restarted script p h (suc f) ≡ true
 restarted_later script p h f t =
@@ -45,7 +45,7 @@ up_stays script p f quiet up = rw (quiet) (up_stays_since script p f (latest_hal
 falls : (script : ScriptParts) (p f : ℕ) → is_up script p f ≡ true → is_up script p (suc f) ≡ false → halts_in script p f ≡ true
 falls script p f up down = by_bool (halts_in script p f) (λ t. t) (λ quiet. true_false (is_up script p (suc f)) (up_stays script p f quiet up) down)
 
--- the frame that is returned
+-- The frame that `first_outside` returns.
 
 -- The way in which a frame leaves the assumption, by its two tests.
 abbrev left_by : Bool → Bool → ℕ → Option Outside
@@ -56,7 +56,7 @@ by_kind true b k f e = (refl, ap (λ (o : Outside). o.frame) (same_some _ _ e))
 by_kind false true k f e = absurd (let clash = ap (λ (o : Outside). o.kind) (same_some _ _ e) in cc)
 by_kind false false k f e = none_some _ e
 
--- From one frame to the next too many processors go down.
+-- In frame `f` the allowed number of processors are down at most, and in the next frame more are down.
 record Sinks (spec : Parts) (script : ScriptParts) (f : ℕ) : Type 0 where
   before : down_below script f (length spec.procs) ≤ spec.halts
   after : spec.halts < down_below script (suc f) (length spec.procs)
@@ -85,7 +85,7 @@ who_halts spec script f s =
     let found = count_rises (λ p. not (is_up script p f)) (λ p. not (is_up script p (suc f))) (length spec.procs) (omega arith) in
     (found.0, found.1, falls script found.0 f (not-false (is_up script found.0 f) found.2) (not-true (is_up script found.0 (suc f)) found.3))
 
--- without restarts, a processor that is down has halted
+-- Without restarts, a processor that is down has halted.
 
 abbrev has_gone : ℕ → ℕ → HaltAt → Bool
 has_gone p g halt = halt.proc.0 == p && nat_lt halt.frame g
@@ -104,7 +104,7 @@ over_any script none p g (halt ∷ halts) =
 down_is : (script : ScriptParts) → script.restarts ≡ [] → (p g : ℕ) → not (is_up script p g) ≡ list_any (has_gone p g) script.halts
 down_is script none p g = ap not (sym (up_by_lists script p g)) ∙ over_any script none p g script.halts
 
--- The number of halts of a list in frames before g.
+-- The number of halts of a list in frames before `g`.
 halts_before : List HaltAt → ℕ → ℕ
 halts_before [] g = 0
 halts_before (halt ∷ halts) g = halts_before halts g + bit_of (nat_lt halt.frame g)

@@ -12,11 +12,11 @@ use Rattle.scram_types.specs.Scripts.{ScriptParts}
 use Rattle.fault_script.specs.Times.{halts_in, is_halt_in, is_over, is_restart_between, is_up, is_up_since, latest_halt, restarted}
 use Rattle.fault_script.specs.Laws.{UpAfterEachHalt}
 
--- tests
+-- Tests.
 
--- lists
+-- Lists.
 
--- a restart between two frames
+-- A restart is of processor `p`, after frame `h`, and in frame `f` or an earlier one.
 
 pub record IsBetween (p h f : ℕ) (restart : RestartAt) : Type 0 where
   pub proc : restart.proc.0 ≡ p
@@ -36,7 +36,7 @@ pub between_test : (p h f : ℕ) (restart : RestartAt) → IsBetween p h f resta
 between_test p h f restart b =
     rw (equal_test restart.proc.0 p b.proc, below_test h restart.frame b.after, at_most_test restart.frame f b.by) refl
 
--- a processor that has restarted since a frame has restarted since each earlier one
+-- A processor that has restarted since a frame has restarted since each earlier one.
 restarted_earlier : (script : ScriptParts) (p h g f : ℕ) → h ≤ g → restarted script p g f ≡ true → restarted script p h f ≡ true
 restarted_earlier script p h g f earlier t =
     let found = any_found (is_restart_between p g f) script.restarts t in
@@ -44,7 +44,7 @@ restarted_earlier script p h g f earlier t =
     any_is (is_restart_between p h f) script.restarts found.0 found.1 found.2
     (between_test p h f found.1 (let after = b.after in record { proc = b.proc; after = omega arith; by = b.by }))
 
--- the latest halt below n decides on each halt below n
+-- Processor `p` has restarted, by frame `f`, since each of its halts in a frame below `n`.
 EachOver : ScriptParts → ℕ → ℕ → ℕ → Type 0
 EachOver script p f n = (h : ℕ) → h < n → halts_in script p h ≡ true → restarted script p h f ≡ true
 
@@ -76,7 +76,7 @@ pub up_after_each_halt : UpAfterEachHalt
 unfolding EachOver
 up_after_each_halt script p f = (each_over script p f f, over_up script p f f)
 
--- the same by the lists
+-- The same condition, stated for the lists of halts and restarts.
 
 over_of : (a b r : Bool) → (a ≡ true → b ≡ true → r ≡ true) → not (a && b && not r) ≡ true
 over_of true true true h = refl

@@ -20,7 +20,7 @@ use Rattle.fault_script.specs.Fits.{EachNext, Fits, HaltBefore}
 use Rattle.fault_script.specs.Laws.{HaltsShow, LossesShow}
 use Rattle.fault_script.proofs.Halts.{between, up_after_each_halt}
 
--- the halts of a list are in the order of frames
+-- The halts of a list are in the order of frames.
 next_frame : (a b : HaltAt) → HaltBefore a b → a.frame ≤ b.frame
 next_frame a b before = elim before [ inl less ↦ omega arith | inr same ↦ (let e = same.0 in omega arith) ]
 
@@ -38,7 +38,7 @@ later_frame halts ordered i (suc d) x y first second =
     let after = next_frame (get_or halts (i + d) x) y (ordered (i + d) (get_or halts (i + d) x) y middle (ap (slice_get halts) (sym past) ∙ second)) in
     omega arith
 
--- of two halts, the one in the earlier frame is the first in the list
+-- Of two halts in different frames, the halt in the earlier frame comes first in the list.
 stands_first : (halts : List HaltAt) → EachNext HaltBefore halts → (i j : ℕ) (x y : HaltAt) → slice_get halts i ≡ Some x → slice_get halts j ≡ Some y → x.frame < y.frame → i < j
 stands_first halts ordered i j x y first second less = elim (low_or_high i j) [
   | inl fine ↦ fine
@@ -48,7 +48,7 @@ stands_first halts ordered i j x y first second less = elim (low_or_high i j) [
       absurd (omega arith))
 ]
 
--- a processor restarts once: two restarts of it are in one frame
+-- A processor restarts at most once: two restarts of it are in the same frame.
 one_restart : (spec : Parts) (script : ScriptParts) → Fits spec script → (i j : ℕ) (x y : RestartAt)
     → slice_get script.restarts i ≡ Some x → slice_get script.restarts j ≡ Some y → x.proc.0 ≡ y.proc.0 → x.frame ≡ y.frame
 one_restart spec script fits i j x y first second proc = elim (low_or_high i j) [

@@ -1,4 +1,4 @@
--- A script's value has no float and is not deep.
+-- The value of a script contains no float and is not deeply nested.
 use Rattle.std.proofs.Common.{◌≡◌, ◌≤◌, false, List, [], ◌∷◌, arith, refl}
 use Rattle.serde_json.specs.Data.{depth}
 use Rattle.serde_json.specs.Read.{max_depth}

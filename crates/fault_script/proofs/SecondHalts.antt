@@ -20,7 +20,7 @@ one_at : {P : Type 0} (p : ℕ) (here : Bool) (x : HaltAt) (xs : List HaltAt) �
 one_at p true x xs is many later first = first (grind (arith, nat_tests, is))
 one_at p false x xs is many later first = later (omega (arith, many))
 
--- a processor that has a halt in a list has one at some index
+-- A processor that has a halt in a list has one at some index.
 one_there : {P : Type 0} (p : ℕ) (xs : List HaltAt) → 1 ≤ halts_of p xs → ((i : ℕ) (x : HaltAt) → slice_get xs i ≡ Some x → x.proc.0 ≡ p → P) → P
 one_there p [] many then = absurd (omega (arith, many))
 one_there p (x ∷ xs) many then =
@@ -91,7 +91,7 @@ procs_below n (x ∷ xs) below q some = elim (or_cases (q == x.proc.0) (list_any
   | inr rest ↦ procs_below n xs (λ i y there. below (suc i) y there) q rest
 ]
 
--- at most as many halts as processors, if each halts once
+-- If each processor halts at most once, there are at most `n` halts of the first `n` processors.
 pub halts_few : (n : ℕ) (xs : List HaltAt) → EachLater Apart xs → Each (λ (h : HaltAt). h.proc.0 < n) xs → length xs ≤ n
 halts_few n xs apart below =
     let few = length-le_from_distinct_below (map proc_of xs) n (procs_distinct xs apart) (procs_below n xs below) in

@@ -13,7 +13,8 @@ use Rattle.fault_script.specs.Times.{is_up, value_after}
 use Rattle.fault_script.specs.Fits.{IsChange}
 use Rattle.fault_script.specs.Laws.{EnvironmentsShow}
 
--- the value after changes has a property that the first value has and each change of the factor gives
+-- If the value before a change has a property, and the change sets a value with that property, so does the value
+-- after it.
 keeps : (P : ℕ → Type 0) (b : Bool) (new old : ℕ) → (b ≡ true → P new) → P old → P (if b then new else old)
 keeps P true new old made had = made refl
 keeps P false new old made had = had

@@ -1,4 +1,4 @@
--- The laws of a list for an item and the preceding ones.
+-- Relations between the items of a list, for an item and the preceding ones.
 use Rattle.std.proofs.Common.{◌≡◌, ◌+◌, ◌-◌, ℕ, zero, suc, Bool, true, false, ◌||◌, List, [], ◌∷◌, ◌++◌, length, arith, refl, ap, sym, ◌∙◌, inl, inr}
 use Rattle.std.specs.Prelude.{Option, Some, None, slice_get}
 use Rattle.std.specs.List.{list_any}
@@ -21,14 +21,14 @@ pub seam : {A : Type 0} (xs ys : List A) (x : A) → slice_get (xs ++ x ∷ ys) 
 seam [] ys x = refl
 seam (z ∷ zs) ys x = seam zs ys x
 
--- the item that precedes an item, and the item
+-- If a relation holds for each item and the next one, it holds for the item before an item and the item.
 pub next_at : {A : Type 0} (R : A → A → Type 0) (xs ys : List A) (x l : A) → EachNext R (xs ++ x ∷ ys) → last_of xs ≡ Some l → R l x
 next_at R xs ys x l each last =
     let within = slice_get_within xs (length xs - 1) l last in
     let place : length xs ≡ (length xs - 1) + 1 = omega (arith, within) in
     each (length xs - 1) l x (front xs (x ∷ ys) (length xs - 1) l last) (ap (slice_get (xs ++ x ∷ ys)) (sym place) ∙ seam xs ys x)
 
--- an earlier one, and the item
+-- If a relation holds for each item and each later one, it holds for each earlier item and the item.
 pub later_at : {A : Type 0} (R : A → A → Type 0) (xs ys : List A) (x y : A) (i : ℕ) → EachLater R (xs ++ x ∷ ys) → slice_get xs i ≡ Some y → R y x
 later_at R xs ys x y i each there =
     each i (length xs) y x (slice_get_within xs i y there) (front xs (x ∷ ys) i y there) (seam xs ys x)

@@ -1,4 +1,4 @@
--- The facts that follow from a step that gave a value.
+-- Facts that follow from a step that returned a value.
 use Rattle.std.proofs.Common.{◌≡◌, ◌≤◌, ◌<◌, ◌+◌, ℕ, zero, suc, Bool, true, false, ◌&&◌, ◌||◌, List, [], ◌∷◌, length, arith, refl, ap, sym, ◌∙◌, nat_lt, inl, inr}
 use Rattle.std.specs.Prelude.{Option, Some, None, Result, Ok, Err, nat_le, option_and_then, bytes_eq, cond, slice_get, ⊤}
 use Rattle.std.proofs.lemmas.Bool.{and_parts, or_cases}
@@ -73,13 +73,13 @@ or_none : (a b : Bool) → (a || b) ≡ false → (a ≡ false) × (b ≡ false)
 or_none true b e = absurd cc
 or_none false b e = (refl, e)
 
--- if no item passes a test, the item at an index does not
+-- If no item of a list passes a test, the item at each index fails it.
 pub none_passes : {A : Type 0} (p : A → Bool) (xs : List A) (i : ℕ) (y : A) → list_any p xs ≡ false → slice_get xs i ≡ Some y → p y ≡ false
 none_passes p [] i y none e = absurd cc
 none_passes p (x ∷ xs) zero y none e = let parts = or_none (p x) (list_any p xs) none in ap p (sym (same_Some x y e)) ∙ parts.0
 none_passes p (x ∷ xs) (suc i) y none e = let parts = or_none (p x) (list_any p xs) none in none_passes p xs i y parts.1 e
 
--- if some item passes a test, there is an index of such an item
+-- If some item of a list passes a test, there is an index of such an item.
 pub some_passes : {A P : Type 0} (p : A → Bool) (xs : List A) → list_any p xs ≡ true → ((i : ℕ) (y : A) → slice_get xs i ≡ Some y → p y ≡ true → P) → P
 some_passes p [] some then = absurd cc
 some_passes p (x ∷ xs) some then =

@@ -41,7 +41,7 @@ value_more (first ∷ changes) x zero value change there =
     taken_none changes x (newest first x value) ∙ ap (λ (c : Change). newest c x value) is
 value_more (first ∷ changes) x (suc n) value change there = value_more changes x n (newest first x value) change there
 
--- two lists of six numbers that are equal one by one
+-- Two lists of six numbers that agree at each index are equal.
 pub six_same : (a b c d e f g h i j k l : ℕ) → a ≡ g → b ≡ h → c ≡ i → d ≡ j → e ≡ k → f ≡ l
     → ◌≡◌ {A = List ℕ} (a ∷ b ∷ c ∷ d ∷ e ∷ f ∷ []) (g ∷ h ∷ i ∷ j ∷ k ∷ l ∷ [])
 six_same a b c d e f g h i j k l p q r s t u = rw (p, q, r, s, t, u) refl
@@ -52,7 +52,7 @@ values_more changes n change there = ap (values_taken changes) (sym (plus_one n)
     (value_more changes 0 n 0 change there) (value_more changes 1 n 0 change there) (value_more changes 2 n 0 change there)
     (value_more changes 3 n 0 change there) (value_more changes 4 n 0 change there) (value_more changes 5 n 0 change there)
 
--- changes of later frames are not seen
+-- Each change from index `n` on is in a frame after `f`.
 IsLater : List Change → ℕ → ℕ → Type 0
 IsLater changes f n = (k : ℕ) (change : Change) → n ≤ k → slice_get changes k ≡ Some change → f < change.frame
 
@@ -95,7 +95,7 @@ ascend_step changes later k x y at_k before (Some z) e =
     let after = ordered z y (later k z y e (ap (slice_get changes) (sym (plus_one k)) ∙ at_k)) in
     omega arith
 
--- changes are in the order of frames
+-- The changes of a list are in the order of frames.
 ascending : (changes : List Change) → EachNext ChangeBefore changes → (k n : ℕ) (x y : Change) → n ≤ k → slice_get changes n ≡ Some x → slice_get changes k ≡ Some y → x.frame ≤ y.frame
 ascending changes later zero n x y h at_n at_k = same_item changes n zero x y (omega arith) at_n at_k
 ascending changes later (suc k) n x y h at_n at_k = elim (at_or_below n k h) [
@@ -128,7 +128,7 @@ values_are script f n next taken whole =
 pub taken_later : (changes : List Change) (f n : ℕ) → HaveCome changes f n → HaveCome changes (f + 1) n
 taken_later changes f n taken = λ k change less there. (let by = taken k change less there in omega arith)
 
--- nothing is taken at first: each change is in a frame after the first
+-- At frame 0 no change has been taken, since each change is in a frame after the first.
 pub none_taken : (changes : List Change) (f : ℕ) → HaveCome changes f 0
 none_taken changes f = λ k change less there. absurd (omega arith)
 
@@ -139,7 +139,7 @@ nothing_taken (change ∷ changes) = refl
 pub first_later : (spec : Parts) (script : ScriptParts) → Fits spec script → IsWhole script.changes 0 0
 first_later spec script fits = λ change there. (let least = (fits.changes 0 change there).least in omega arith)
 
--- walks
+-- Walks along the frames.
 
 env_whole : (spec : Parts) (script : ScriptParts) (f : ℕ) (env : Env) → env.up ≡ bits_below (λ p. is_up script p f) (length spec.procs) → env.factors ≡ factors_at script f
     → env ≡ env_at spec script f
@@ -169,14 +169,14 @@ walk_moves spec script fits f after at taken values whole up = record {
   env = env_whole spec script (f + 1) after.env up (values ∙ values_are script (f + 1) after.taken fits.changes_ordered taken whole);
 }
 
--- a walk is at its own frame
+-- A walk is at the frame that it holds.
 pub stands_there : (spec : Parts) (script : ScriptParts) (f : ℕ) (walk : Walk) → IsWalk spec script f walk → IsWalk spec script walk.frame walk
 stands_there spec script f walk is = subst (λ g. IsWalk spec script g walk) (sym is.frame) is
 
 pub stands_next : (spec : Parts) (script : ScriptParts) (f : ℕ) (walk after : Walk) → IsWalk spec script f walk → IsWalk spec script (walk.frame + 1) after → IsWalk spec script (f + 1) after
 stands_next spec script f walk after is there = subst (λ g. IsWalk spec script (g + 1) after) is.frame there
 
--- windows
+-- Windows that count change frames.
 
 pub changes_more : (spec : Parts) (script : ScriptParts) (f : ℕ) (walk after : Walk) (changed : Bool) → IsWalk spec script f walk → IsWalk spec script (f + 1) after
     → changed ≡ not (is_same_env walk.env after.env) → changed ≡ is_change_frame spec script (f + 1)
@@ -231,7 +231,7 @@ upto_ordered spec script f (suc g) h = elim (at_or_below f g h) [
   | inr same ↦ rw (same) (omega arith)
 ]
 
--- the frame that leaves a window was counted in it
+-- A change frame that leaves a window was counted in it.
 pub left_counted : (spec : Parts) (script : ScriptParts) (f : ℕ) (window : Window) (lead trail : Walk) (changed left : Bool) → spec.window ≤ f → IsWindow spec script f window
     → IsWalk spec script (f + 1) lead → IsWalk spec script (f - spec.window + 1) trail
     → changed ≡ not (is_same_env window.lead.env lead.env) → left ≡ not (is_same_env window.trail.env trail.env)
@@ -262,7 +262,7 @@ window_moves spec script f window after left late is leads trails c l changes =
       changes = rw (← apart) (omega arith);
     }
 
--- what a window shows of its frame
+-- A window shows whether its last frame is a change frame too many.
 pub window_tells : (spec : Parts) (script : ScriptParts) (f : ℕ) (window : Window) → IsWindow spec script f window
     → (window.changed && nat_lt (spec.changes + 1) window.changes) ≡ is_change_too_many spec script f
 window_tells spec script f window is =
@@ -270,7 +270,7 @@ window_tells spec script f window is =
     let held : window.changes ≡ changes_in_window spec script f = omega arith in
     rw (is.changed, held) refl
 
--- the entry that is read past the end of a list of changes
+-- The change that is read past the end of a list of changes.
 abbrev pub blank : Change
 blank = record { frame = 0; factor = record { 0 = 0 }; value = 0 }
 

@@ -15,7 +15,7 @@ use Rattle.fault_script.specs.Environments.{env_at}
 abbrev pub down_below : ScriptParts → ℕ → ℕ → ℕ
 down_below script f n = count_below (λ p. not (is_up script p f)) n
 
--- More processors are down in frame `f` than the specification assumes.
+-- More processors are down in frame `f` than the failure assumption allows.
 abbrev pub has_too_many_down : Parts → ScriptParts → ℕ → Bool
 has_too_many_down spec script f = nat_lt spec.halts (down_below script f (length spec.procs))
 
@@ -41,23 +41,25 @@ changes_in_window spec script f = changes_upto spec script f - changes_upto spec
 abbrev pub is_change_too_many : Parts → ScriptParts → ℕ → Bool
 is_change_too_many spec script f = is_change_frame spec script f && nat_lt (spec.changes + 1) (changes_in_window spec script f)
 
--- Too many processors are down in the frame after `f`, and `f` is not the number of frames. A processor that halts in
--- frame `f` is down in the next frame.
+-- Too many processors are down in the frame after `f`, and `f` is not the script's number of frames. A processor that
+-- halts in frame `f` is down in the next frame.
 abbrev pub brings_too_many_down : Parts → ScriptParts → ℕ → Bool
 brings_too_many_down spec script f = not (f == script.frames) && has_too_many_down spec script (f + 1)
 
--- The way in which frame `f` leaves the assumption, or none if it does not.
+-- The way in which frame `f` leaves the assumption, or `None` if it does not.
 abbrev pub outside_at : Parts → ScriptParts → ℕ → Option Outside
 outside_at spec script f =
     if brings_too_many_down spec script f then Some (record { frame = f; kind = kind.Halts })
     else (if is_change_too_many spec script f then Some (record { frame = f; kind = kind.Changes }) else None)
 
--- The first frame that leaves the assumption, of the frames from 0 to the number of frames, inclusive.
+-- The first frame from 0 to the number of frames, inclusive, that leaves the assumption, with the way in which it
+-- does, or `None` if there is no such frame.
 abbrev pub first_outside : Parts → ScriptParts → Option Outside
 first_outside spec script = first_below (outside_at spec script) (suc script.frames)
 
--- A script keeps to the failure assumption. A window has at most one change frame more than the assumed number of
--- changes. It may begin before the first frame and end after the last one.
+-- A script keeps to the failure assumption. In each frame at most the assumed number of processors are down, and each
+-- window has at most one change frame more than the assumed number of changes. A window may begin before the first
+-- frame and end after the last one.
 pub record IsWithin (spec : Parts) (script : ScriptParts) : Type 0 where
   pub scope : (f : ℕ) → f ≤ script.frames → down_below script f (length spec.procs) ≤ spec.halts
   pub few : (f : ℕ) → f ≤ script.frames → changes_upto spec script f ≤ changes_upto spec script (f - spec.window) + spec.changes + 1

@@ -17,7 +17,8 @@ pub record IsChange (spec : Parts) (frames : ℕ) (change : Change) : Type 0 whe
   pub there : slice_get spec.factors change.factor.0 ≡ Some factor
   pub value : change.value < length factor.values
 
--- A halt is of a processor that exists, after a number of its stores or after its mark.
+-- A halt is of a processor that exists, in a frame of the script. Its step is a number of stores, at most the number
+-- of words of an image, or one more for a halt after the mark.
 pub record IsHalt (spec : Parts) (frames : ℕ) (halt : HaltAt) : Type 0 where
   pub proc : halt.proc.0 < length spec.procs
   pub frame : halt.frame < frames

@@ -6,8 +6,8 @@ use Rattle.scram_types.specs.Specification.{Parts}
 use Rattle.fault_script.specs.declared.inputs.Input.{Input}
 use Rattle.fault_script.specs.Times.{factors_at, halts_after_mark, halts_before_mark, restarts_in}
 
--- The input of frame `f`: the factors' values, and the sets of processors that halt in it before the mark, halt in it
--- after the mark, and restart in it.
+-- The input of frame `f`: the values of the factors, and the sets of processors that halt in the frame before the
+-- mark, that halt in it after the mark, and that restart in it.
 abbrev pub input_at : Parts → ScriptParts → ℕ → Input
 input_at spec script f = record {
   factors = factors_at script f;

@@ -29,8 +29,8 @@ UpAfterEachHalt = (script : ScriptParts) (p f : ℕ) →
     (is_up script p f ≡ true → (h : ℕ) → h < f → halts_in script p h ≡ true → restarted script p h f ≡ true)
     × (((h : ℕ) → h < f → halts_in script p h ≡ true → restarted script p h f ≡ true) → is_up script p f ≡ true)
 
--- A processor's bit in the environment of frame `f` says whether it is up, and no bit past the last processor is set.
--- Each factor has one of its values, and the entries past the last factor are zero.
+-- A processor's bit in the environment of frame `f` is set if and only if the processor is up, and no bit past the
+-- last processor is set. Each factor has one of its values, and the entries past the last factor are zero.
 pub record Shows (spec : Parts) (script : ScriptParts) (f : ℕ) : Type 0 where
   pub up : (p : ℕ) → p < length spec.procs → is_up script p f ≡ true → bit_at (env_at spec script f).up p ≡ 1
   pub down : (p : ℕ) → p < length spec.procs → is_up script p f ≡ false → bit_at (env_at spec script f).up p ≡ 0
@@ -54,8 +54,8 @@ abbrev pub LaterIsUnseen : Type 0
 LaterIsUnseen = (spec : Parts) (one other : ScriptParts) (f : ℕ) → AgreeUpTo f one other
     → (env_at spec one f ≡ env_at spec other f) × ((p : ℕ) → commits spec one p f ≡ commits spec other p f)
 
--- If too many processors are down, a processor halts in the frame that is returned. Without restarts it is the frame of
--- halt number `halts + 1` in the script's order.
+-- If the first frame that leaves the failure assumption has too many processors down after it, a processor halts in
+-- that frame. Without restarts it is the frame of halt number `halts + 1` in the script's order.
 abbrev pub TooManyDownShowsAHalt : Type 0
 TooManyDownShowsAHalt = (spec : Parts) (script : ScriptParts) → Fits spec script
     → (f : ℕ) → first_outside spec script ≡ Some (record { frame = f; kind = kind.Halts })

@@ -8,11 +8,11 @@ use Rattle.fault_script.specs.declared.version.Version.{Version}
 use Rattle.fault_script.specs.declared.version.Version.TheVariants.{First, Second}
 use Rattle.fault_script.specs.Times.{is_halt_of, is_restart_of}
 
--- A frame and a number come after the last ones, by frame and then by number.
+-- A frame and a number come after the last frame and number, ordered by frame and then by number.
 abbrev pub comes_after : ℕ → ℕ → ℕ → ℕ → Bool
 comes_after last_frame last_number frame number = nat_lt last_frame frame || (last_frame == frame && nat_lt last_number number)
 
--- The last item of a list.
+-- The last item of a list, or `None` if the list is empty.
 abbrev pub last_of : {A : Type 0} → List A → Option A
 last_of xs = slice_get xs (length xs - 1)
 
@@ -30,7 +30,7 @@ abbrev pub halt_after : Option HaltAt → HaltAt → Bool
 halt_after None halt = true
 halt_after (Some last) halt = comes_after last.frame last.proc.0 halt.frame halt.proc.0
 
--- A halt comes after the preceding ones. In the first version, no processor halts twice.
+-- A halt comes after the preceding ones. In the first version, its processor has not halted before.
 abbrev pub halt_follows : Version → List HaltAt → HaltAt → Bool
 halt_follows First before halt = halt_after (last_of before) halt && not (list_any (is_halt_of halt.proc.0) before)
 halt_follows Second before halt = halt_after (last_of before) halt
@@ -61,7 +61,8 @@ halts_of p (halt ∷ halts) = (if halt.proc.0 == p then 1 else 0) + halts_of p h
 abbrev pub is_restart_by : ℕ → ℕ → RestartAt → Bool
 is_restart_by p f restart = restart.proc.0 == p && nat_le restart.frame f
 
--- A processor may halt once, and a second time if it has restarted by then.
+-- A processor may have a halt after the halts `before`: it has none among them, or it has one and has restarted by
+-- then.
 abbrev pub may_halt : List RestartAt → List HaltAt → HaltAt → Bool
 may_halt restarts before halt =
     halts_of halt.proc.0 before == 0

@@ -26,27 +26,27 @@ use Rattle.fault_script.specs.Orders.{change_follows, halt_follows, may_halt, re
 use Rattle.fault_script.specs.Times.{words}
 use Rattle.fault_script.specs.Versions.{halts_limit, member_count, version_of}
 
--- Success if the test passes, else the fault of a rule at a path.
+-- `Ok` if a test passes, else the fault of a rule at a path.
 abbrev pub keep : Bool → ℕ → List ℕ → Result ⊤ DocFault
 keep test rule at = if test then Ok tt else broken rule at
 
--- Checks that the value is 1 or 2. Its range is checked first.
+-- `Ok` if the value at a path is 1 or 2, else the first broken rule. The range 0 to 1,000 is checked first.
 abbrev pub read_scram : List ℕ → Data → Result ⊤ DocFault
 read_scram at d = chain (whole_at 0 1001 at d) (λ (n : ℕ). keep (n == 1 || n == 2) UNKNOWN_VERSION at)
 
--- The processor that a text names.
+-- The processor that the text at a path names, or the first broken rule.
 abbrev pub read_named_proc : Parts → List ℕ → Data → Result ProcId DocFault
 read_named_proc spec at d = chain (text_at at d) (λ (text : List ℕ). or_broken UNKNOWN_NAME at (proc_named spec text))
 
--- The factor that a text names.
+-- The factor that the text at a path names, or the first broken rule.
 abbrev pub read_named_factor : Parts → List ℕ → Data → Result FactorId DocFault
 read_named_factor spec at d = chain (text_at at d) (λ (text : List ℕ). or_broken UNKNOWN_NAME at (factor_named spec text))
 
--- The number of the factor's value with this name, or none.
+-- The number of the value of factor `x` that has this name, or `None` if there is no such factor or value.
 abbrev pub find_value : Parts → FactorId → List ℕ → Option ℕ
 find_value spec x text = option_and_then (λ (factor : Factor). value_named factor text) (slice_get spec.factors x.0)
 
--- The value of a factor that a text names.
+-- The value of factor `x` that the text at a path names, or the first broken rule.
 abbrev pub read_named_value : Parts → FactorId → List ℕ → Data → Result ℕ DocFault
 read_named_value spec x at d = chain (text_at at d) (λ (text : List ℕ). or_broken UNKNOWN_NAME at (find_value spec x text))
 
@@ -54,7 +54,8 @@ read_named_value spec x at d = chain (text_at at d) (λ (text : List ℕ). or_br
 abbrev pub make_change : ℕ → FactorId → ℕ → Change
 make_change frame factor value = record { frame = frame; factor = factor; value = value }
 
--- The change whose members have these values, read in the order frame, factor, value.
+-- The change whose members have these values, or the first broken rule. The members are read in the order frame,
+-- factor, value.
 abbrev pub change_values : Parts → ℕ → List ℕ → Data → Data → Data → Result Change DocFault
 change_values spec frames at frame factor value =
     chain (whole_at 1 frames (member_path at (codes "frame")) frame) (λ (frame : ℕ).
@@ -62,7 +63,7 @@ change_values spec frames at frame factor value =
     chain (read_named_value spec factor (member_path at (codes "value")) value) (λ (value : ℕ).
     Ok (make_change frame factor value))))
 
--- The change that the value at a path encodes.
+-- The change that the value at a path encodes, or the first broken rule.
 abbrev pub read_change : Parts → ℕ → List ℕ → Data → Result Change DocFault
 read_change spec frames at d =
     chain (object_at at d) (λ (_ : ⊤).
@@ -72,13 +73,13 @@ read_change spec frames at d =
     chain (no_more_than 3 at d) (λ (_ : ⊤).
     change_values spec frames at frame factor value)))))
 
--- The change that a value encodes, which must come after the preceding ones.
+-- The change that a value encodes, or the first broken rule. The change must come after the preceding ones.
 abbrev pub read_next_change : Parts → ℕ → List ℕ → List Change → Data → Result Change DocFault
 read_next_change spec frames at before d =
     chain (read_change spec frames at d) (λ (change : Change).
     chain (keep (change_follows before change) OUT_OF_ORDER at) (λ (_ : ⊤). Ok change))
 
--- The changes of a script, each of which must come after the preceding ones.
+-- The changes of a script, or the first broken rule. Each change must come after the preceding ones.
 abbrev pub read_changes : Parts → ℕ → List ℕ → Data → Result (List Change) DocFault
 read_changes spec frames at d = elements_at (read_next_change spec frames) 0 MAX_CHANGES at d
 
@@ -86,7 +87,8 @@ read_changes spec frames at d = elements_at (read_next_change spec frames) 0 MAX
 abbrev pub make_halt : ProcId → ℕ → ℕ → HaltAt
 make_halt proc frame step = record { proc = proc; frame = frame; step = step }
 
--- The halt whose members have these values, read in the order processor, frame, step.
+-- The halt whose members have these values, or the first broken rule. The members are read in the order processor,
+-- frame, step.
 abbrev pub halt_values : Parts → ℕ → List ℕ → Data → Data → Data → Result HaltAt DocFault
 halt_values spec frames at proc frame step =
     chain (read_named_proc spec (member_path at (codes "processor")) proc) (λ (proc : ProcId).
@@ -94,7 +96,7 @@ halt_values spec frames at proc frame step =
     chain (whole_at 0 (words spec + 2) (member_path at (codes "step")) step) (λ (step : ℕ).
     Ok (make_halt proc frame step))))
 
--- The halt that the value at a path encodes.
+-- The halt that the value at a path encodes, or the first broken rule.
 abbrev pub read_halt : Parts → ℕ → List ℕ → Data → Result HaltAt DocFault
 read_halt spec frames at d =
     chain (object_at at d) (λ (_ : ⊤).
@@ -104,13 +106,13 @@ read_halt spec frames at d =
     chain (no_more_than 3 at d) (λ (_ : ⊤).
     halt_values spec frames at proc frame step)))))
 
--- The halt that a value encodes, which must come after the preceding ones.
+-- The halt that a value encodes, or the first broken rule. The halt must come after the preceding ones.
 abbrev pub read_next_halt : Parts → Version → ℕ → List ℕ → List HaltAt → Data → Result HaltAt DocFault
 read_next_halt spec version frames at before d =
     chain (read_halt spec frames at d) (λ (halt : HaltAt).
     chain (keep (halt_follows version before halt) OUT_OF_ORDER at) (λ (_ : ⊤). Ok halt))
 
--- The halts of a script, each of which must come after the preceding ones.
+-- The halts of a script, or the first broken rule. Each halt must come after the preceding ones.
 abbrev pub read_halts : Parts → Version → ℕ → List ℕ → Data → Result (List HaltAt) DocFault
 read_halts spec version frames at d = elements_at (read_next_halt spec version frames) 0 (halts_limit version) at d
 
@@ -118,14 +120,15 @@ read_halts spec version frames at d = elements_at (read_next_halt spec version f
 abbrev pub make_restart : ProcId → ℕ → RestartAt
 make_restart proc frame = record { proc = proc; frame = frame }
 
--- The restart whose members have these values, read in the order processor, frame.
+-- The restart whose members have these values, or the first broken rule. The members are read in the order processor,
+-- frame.
 abbrev pub restart_values : Parts → ℕ → List ℕ → Data → Data → Result RestartAt DocFault
 restart_values spec frames at proc frame =
     chain (read_named_proc spec (member_path at (codes "processor")) proc) (λ (proc : ProcId).
     chain (whole_at 2 frames (member_path at (codes "frame")) frame) (λ (frame : ℕ).
     Ok (make_restart proc frame)))
 
--- The restart that the value at a path encodes.
+-- The restart that the value at a path encodes, or the first broken rule.
 abbrev pub read_restart : Parts → ℕ → List ℕ → Data → Result RestartAt DocFault
 read_restart spec frames at d =
     chain (object_at at d) (λ (_ : ⊤).
@@ -134,18 +137,19 @@ read_restart spec frames at d =
     chain (no_more_than 2 at d) (λ (_ : ⊤).
     restart_values spec frames at proc frame))))
 
--- The restart that a value encodes, which must come after the preceding ones.
+-- The restart that a value encodes, or the first broken rule. The restart must come after the preceding ones.
 abbrev pub read_next_restart : Parts → ℕ → List HaltAt → List ℕ → List RestartAt → Data → Result RestartAt DocFault
 read_next_restart spec frames halts at before d =
     chain (read_restart spec frames at d) (λ (restart : RestartAt).
     chain (keep (restart_follows halts before restart) WRONG_RESTART at) (λ (_ : ⊤). Ok restart))
 
--- The restarts of a script. The first version has none.
+-- The restarts of a script, or the first broken rule. The list is empty in the first version.
 abbrev pub read_restarts : Parts → ℕ → List HaltAt → List ℕ → Option Data → Result (List RestartAt) DocFault
 read_restarts spec frames halts at None = Ok []
 read_restarts spec frames halts at (Some d) = elements_at (read_next_restart spec frames halts) 0 8 at d
 
--- Checks that each halt, the first of which has index `i`, is one that its processor may have after the preceding ones.
+-- `Ok` if each halt of a list is one that its processor may have after the preceding ones, else the fault of the
+-- first halt that is not. The first halt of the list has index `i` in the script.
 abbrev pub keep_halts : List RestartAt → List ℕ → ℕ → List HaltAt → List HaltAt → Result ⊤ DocFault
 keep_halts restarts at i before [] = Ok tt
 keep_halts restarts at i before (halt ∷ halts) =
@@ -165,13 +169,14 @@ abbrev pub make_members : Data → Data → Data → Data → Option Data → Sc
 make_members scram frames changes halts restarts =
     record { scram = scram; frames = frames; changes = changes; halts = halts; restarts = restarts }
 
--- The value of the member `restarts`, which a script of the second version must have and a script of the first must not
--- have.
+-- The value of the member `restarts` in the second version, which must have it, or `None` in the first version, which
+-- must not have it.
 abbrev pub need_restarts : Version → Data → Result (Option Data) DocFault
 need_restarts First d = Ok None
 need_restarts Second d = ok_map (λ (restarts : Data). Some restarts) (needed (codes "restarts") [] d)
 
--- The values of the members of a script document, which has exactly those of its version.
+-- The values of the members of a script document, or the first broken rule. The document must have exactly the
+-- members of its version.
 abbrev pub find_members : Version → Data → Result ScriptMembers DocFault
 find_members version d =
     chain (object_at [] d) (λ (_ : ⊤).
@@ -183,7 +188,7 @@ find_members version d =
     chain (no_more_than (member_count version) [] d) (λ (_ : ⊤).
     Ok (make_members scram frames changes halts restarts))))))))
 
--- The number of frames of a script, read after its version is checked.
+-- The number of frames of a script, or the first broken rule. The version is checked first.
 abbrev pub read_frames : Data → Data → Result ℕ DocFault
 read_frames scram frames =
     chain (read_scram (member_path [] (codes "scram")) scram) (λ (_ : ⊤).
@@ -194,7 +199,8 @@ abbrev pub make_script : ℕ → List Change → List HaltAt → List RestartAt 
 make_script frames changes halts restarts =
     record { frames = frames; changes = changes; halts = halts; restarts = restarts }
 
--- The script whose members have these values, each read and checked in the order of the members.
+-- The script whose members have these values, or the first broken rule. The values are read and checked in the order
+-- of the members.
 abbrev pub read_values : Parts → Version → ScriptMembers → Result ScriptParts DocFault
 read_values spec version m =
     chain (read_frames m.scram m.frames) (λ (frames : ℕ).

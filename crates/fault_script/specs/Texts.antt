@@ -1,4 +1,4 @@
--- The canonical text of a script: the compact JSON text of its value, whose members are in byte order.
+-- The canonical text of a script: the compact JSON text of its value, whose members are sorted by their bytes.
 use Rattle.std.specs.Prelude.{List, ℕ, [], ◌∷◌, codes, slice_get}
 use Rattle.std.specs.Option.{option_map_or}
 use Rattle.serde_json.specs.Data.{Data, string, object, no_members, member}
@@ -12,7 +12,7 @@ use Rattle.scram_types.specs.Scripts.{ScriptParts}
 use Rattle.scram_doc.specs.Canonical.{count_data, list_data}
 use Rattle.scram_types.specs.Specification.{Parts}
 
--- The name of the value that a change sets.
+-- The name of the value that a change sets, or the empty name if its factor does not exist.
 abbrev pub new_value_name : Parts → Change → List ℕ
 new_value_name spec change =
     option_map_or (λ (factor : Factor). value_name factor change.value) (slice_get spec.factors change.factor.0) []
@@ -54,7 +54,8 @@ data_with_restarts spec script = object
     (member (codes "restarts") (list_data (restart_data spec) script.restarts)
     (member (codes "scram") (count_data 2) no_members)))))
 
--- The canonical value of a script: in the first version if the list of restarts is empty, else in the second.
+-- The canonical value of a script, given its list of restarts: in the first version if the list is empty, else in the
+-- second.
 abbrev pub script_data_by : List RestartAt → Parts → ScriptParts → Data
 script_data_by [] spec script = data_without_restarts spec script
 script_data_by (_ ∷ _) spec script = data_with_restarts spec script

@@ -7,13 +7,14 @@ use Rattle.scram_types.specs.declared.scripts.RestartAt.{RestartAt}
 use Rattle.scram_types.specs.Scripts.{ScriptParts}
 use Rattle.scram_types.specs.Specification.{Parts}
 
--- The value of factor `x` in frame `f` after these changes, starting from a given value.
+-- The value of factor `x` in frame `f` after these changes, given the value before them.
 abbrev pub value_after : List Change → ℕ → ℕ → ℕ → ℕ
 value_after [] x f value = value
 value_after (change ∷ changes) x f value =
     value_after changes x f (if change.factor.0 == x && nat_le change.frame f then change.value else value)
 
--- The value of factor `x` in frame `f`: that of its last change up to `f`, or its first value if there is none.
+-- The value of factor `x` in frame `f`: the value of its last change up to `f`, or 0, its first value, if there is
+-- none.
 abbrev pub factor_at : ScriptParts → ℕ → ℕ → ℕ
 factor_at script x f = value_after script.changes x f 0
 
@@ -38,15 +39,15 @@ is_restart_of p restart = restart.proc.0 == p
 abbrev pub is_restart_between : ℕ → ℕ → ℕ → RestartAt → Bool
 is_restart_between p h f restart = restart.proc.0 == p && nat_lt h restart.frame && nat_le restart.frame f
 
--- The first halt of processor `p`, or none.
+-- The first halt of processor `p`, or `None` if it never halts.
 abbrev pub halt_of : ScriptParts → ℕ → Option HaltAt
 halt_of script p = find (is_halt_of p) script.halts
 
--- The halt of processor `p` in frame `f`, or none.
+-- The halt of processor `p` in frame `f`, or `None` if it does not halt in `f`.
 abbrev pub halt_in : ScriptParts → ℕ → ℕ → Option HaltAt
 halt_in script p f = find (is_halt_in p f) script.halts
 
--- The frame in which processor `p` restarts, or none.
+-- The frame in which processor `p` restarts, or `None` if it never does.
 abbrev pub restart_of : ScriptParts → ℕ → Option ℕ
 restart_of script p = option_map (λ (restart : RestartAt). restart.frame) (find (is_restart_of p) script.restarts)
 
@@ -54,7 +55,7 @@ restart_of script p = option_map (λ (restart : RestartAt). restart.frame) (find
 abbrev pub halts_in : ScriptParts → ℕ → ℕ → Bool
 halts_in script p f = list_any (is_halt_in p f) script.halts
 
--- The latest frame below `f` in which processor `p` halts, or none.
+-- The latest frame below `f` in which processor `p` halts, or `None` if there is no such frame.
 abbrev pub latest_halt : ScriptParts → ℕ → ℕ → Option ℕ
 latest_halt script p zero = None
 latest_halt script p (suc f) = if halts_in script p f then Some f else latest_halt script p f
@@ -72,16 +73,16 @@ abbrev pub is_up_since : ScriptParts → ℕ → ℕ → Option ℕ → Bool
 is_up_since script p f None = true
 is_up_since script p f (Some h) = restarted script p h f
 
--- Processor `p` is up in frame `f`. It has no halt in a frame below `f`, or has restarted since the latest such halt.
+-- Processor `p` is up in frame `f`: it has no halt in a frame below `f`, or has restarted since the latest such halt.
 abbrev pub is_up : ScriptParts → ℕ → ℕ → Bool
 is_up script p f = is_up_since script p f (latest_halt script p f)
 
--- A halt does not keep processor `p` down in frame `f`. It is not of `p`, or not in a frame below `f`, or `p` has
+-- A halt does not keep processor `p` down in frame `f`: it is not of `p`, or not in a frame below `f`, or `p` has
 -- restarted since.
 abbrev pub is_over : ScriptParts → ℕ → ℕ → HaltAt → Bool
 is_over script p f halt = not (halt.proc.0 == p && nat_lt halt.frame f && not (restarted script p halt.frame f))
 
--- The number of words of an image: eight for each application.
+-- The number of words of an image, which is eight for each application.
 abbrev pub words : Parts → ℕ
 words spec = 8 * length spec.apps
 
@@ -93,6 +94,6 @@ halts_before_mark spec script p f = list_any (λ (halt : HaltAt). is_halt_in p f
 abbrev pub halts_after_mark : Parts → ScriptParts → ℕ → ℕ → Bool
 halts_after_mark spec script p f = halts_in script p f && not (halts_before_mark spec script p f)
 
--- Processor `p` commits frame `f`. It is up in `f`, and does not halt in `f` before its mark.
+-- Processor `p` commits frame `f`: it is up in `f`, and does not halt in `f` before its mark.
 abbrev pub commits : Parts → ScriptParts → ℕ → ℕ → Bool
 commits spec script p f = is_up script p f && not (halts_before_mark spec script p f)

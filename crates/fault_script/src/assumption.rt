@@ -1,4 +1,5 @@
-//! The failure assumption: how many processors may be down at once, and how often the environment may change.
+//! The failure assumption: how many processors may be down at the same time, and how often the environment may
+//! change.
 
 ghost use Rattle.std.specs.Prelude.{◌≡◌, ◌≤◌, ◌+◌, ◌&&◌, nat_lt, None, Some, IfErr, OnOk};
 ghost use Rattle.fault_script.specs.Fits.{Fits};
@@ -17,7 +18,7 @@ pub enum OutsideKind {
     Changes,
 }
 
-/// The first frame with which a script leaves the failure assumption.
+/// The first frame with which a script leaves the failure assumption, and the way in which it does.
 #[derive(Clone, Copy, Debug, PartialEq, Eq)]
 pub struct Outside {
     pub frame: u32,
@@ -30,8 +31,9 @@ pub struct Outside {
 ///
 /// # Errors
 ///
-/// The first frame that leaves the assumption. It has a halt that brings too many processors down, or else it changes
-/// the environment once too often for the window that ends with it.
+/// Returns an error with the first frame that leaves the assumption. A processor halts in that frame, which brings
+/// too many processors down, or else the frame changes the environment once too often for the window that ends with
+/// it.
 pub fn within(spec: &Spec, script: &Script) -> Result<(), Outside>
     requires { Fits spec.now script.now }
     ensures within { OnOk result (first_outside spec.now script.now ≡ None) }
@@ -50,8 +52,8 @@ pub fn within(spec: &Spec, script: &Script) -> Result<(), Outside>
     }
 }
 
-// Returns how a frame leaves the assumption, or `None` if it keeps to it. `window` is the window that ends with the
-// frame.
+// Returns a frame with the way in which it leaves the assumption, or `None` if it does not. `window` is the window
+// that ends with the frame.
 fn outside_at(spec: &Spec, script: &Script, window: &Window, frame: u32) -> Option<Outside>
     requires window { IsWindow spec.now script.now frame window.now }
     requires frame { frame ≤ script.now.frames }
@@ -72,8 +74,8 @@ fn outside_at(spec: &Spec, script: &Script, window: &Window, frame: u32) -> Opti
     None
 }
 
-// Returns whether too many processors are down in the frame after this one. After frame number `frames` none is
-// considered.
+// Returns `true` if too many processors are down in the frame after `frame`. Returns `false` if `frame` is the
+// script's number of frames.
 fn brings_too_many_down(spec: &Spec, script: &Script, frame: u32) -> bool
     requires { frame ≤ script.now.frames }
     ensures { result ≡ brings_too_many_down spec.now script.now frame }
@@ -107,7 +109,7 @@ fn is_change_too_many(spec: &Spec, window: &Window) -> bool
     window.changed && u32::from(spec.changes) + 1 < window.changes
 }
 
-/// A script keeps to the failure assumption if and only if no frame leaves it.
+/// States that a script keeps to the failure assumption if and only if no frame of it leaves the assumption.
 pub fn within_where_nowhere_outside()
     ensures { WithinWhereNowhereOutside }
 {}

@@ -7,8 +7,9 @@ ghost use Rattle.fault_script.specs.Times.{factors_at, halts_before_mark, halts_
 
 use scram_types::{HaltAt, Script, Spec};
 
-/// The input of a frame: the values of the factors in it, and three sets of processors, as bits. They are those that
-/// halt in it before their mark, those that halt in it after their mark, and those that are up again from it on.
+/// The input of a frame: the values of the factors in it, and three sets of processors, as bits. `early` contains the
+/// processors that halt in the frame before their mark, and `late` those that halt in it after their mark. `back`
+/// contains those that restart in the frame and are up again from it on.
 #[derive(Clone, Copy, Debug, PartialEq, Eq)]
 pub struct Input {
     pub factors: [u8; 6],
@@ -17,7 +18,7 @@ pub struct Input {
     pub back: u8,
 }
 
-// Returns the input of a frame in which the factors have these values.
+// Returns the input of a frame, given the values of the factors in it.
 pub(crate) fn input_at(spec: &Spec, script: &Script, frame: u32, factors: &[u8; 6]) -> Input
     requires { factors.now ≡ factors_at script.now frame }
     ensures input { result ≡ input_at spec.now script.now frame }
@@ -39,7 +40,7 @@ pub(crate) fn input_at(spec: &Spec, script: &Script, frame: u32, factors: &[u8; 
     input
 }
 
-// Returns the set of processors below `p`, with `p` added if `is_in` is `true`.
+// Returns a set of processors below `p`, with processor `p` added if `is_in` is `true`.
 fn with(set: u8, p: u8, is_in: bool) -> u8
     requires p { p < 8 }
     requires set { set < 2 ^ p }

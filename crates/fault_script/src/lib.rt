@@ -1,7 +1,7 @@
 //! Fault scripts. A document is read as exactly the script that it encodes, which fits the specification, or it is
 //! refused at the first rule that it breaks. A script is written as its canonical text, from which the same script is
-//! read back. For each frame a script gives the factors' values and the processors that are up, and so the environment
-//! by which the kernel chooses.
+//! read back. For each frame a script determines the factors' values and the processors that are up. They form the
+//! environment by which the kernel chooses a configuration.
 #![tactic(auto)]
 
 pub mod assumption;

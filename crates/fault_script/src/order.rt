@@ -12,7 +12,7 @@ fn comes_after(last_frame: u32, last_number: u8, frame: u32, number: u8) -> bool
     last_frame < frame || last_frame == frame && last_number < number
 }
 
-/// Returns whether a change comes after the preceding ones, by frame and then by the factor's number.
+/// Returns `true` if a change comes after the preceding ones, by frame and then by the factor's number.
 pub fn change_follows(before: &[Change], change: &Change) -> bool
     ensures { result ≡ change_follows before.now change.now }
 {
@@ -37,8 +37,8 @@ fn has_halted(before: &[HaltAt], proc: ProcId) -> bool
     before.iter().any(|halt| halt.proc.0 == proc.0)
 }
 
-/// Returns whether a halt comes after the preceding ones, by frame and then by the processor's number. In the first
-/// version no processor halts twice.
+/// Returns `true` if a halt comes after the preceding ones, by frame and then by the processor's number. In the first
+/// version the processor must not have halted before.
 pub fn halt_follows(version: Version, before: &[HaltAt], halt: &HaltAt) -> bool
     ensures { result ≡ halt_follows version before.now halt.now }
 {
@@ -69,8 +69,8 @@ fn has_halted_before(halts: &[HaltAt], proc: ProcId, frame: u32) -> bool
     halts.iter().any(|halt| halt.proc.0 == proc.0 && u64::from(halt.frame) + 2 <= u64::from(frame))
 }
 
-/// Returns whether a restart comes after the preceding ones, by frame and then by the processor's number. It must be
-/// the first of its processor, two frames or more after a halt of it.
+/// Returns `true` if a restart comes after the preceding ones, by frame and then by the processor's number. It must
+/// be the first restart of its processor, and two frames or more after a halt of the processor.
 pub fn restart_follows(halts: &[HaltAt], before: &[RestartAt], restart: &RestartAt) -> bool
     ensures { result ≡ restart_follows halts.now before.now restart.now }
 {
@@ -97,7 +97,7 @@ fn count_halts(halts: &[HaltAt], proc: ProcId) -> usize
     count
 }
 
-/// Returns whether a halt is the first of its processor, or the second and not before the processor's restart.
+/// Returns `true` if a halt is the first of its processor, or the second and not before the processor's restart.
 pub fn may_halt(restarts: &[RestartAt], before: &[HaltAt], halt: &HaltAt) -> bool
     ensures { result ≡ may_halt restarts.now before.now halt.now }
 {

@@ -16,7 +16,7 @@ use scram_types::{Change, FactorId, HaltAt, List, ProcId, RestartAt, Script, Spe
 use serde_json::Value;
 use std::alloc::Global;
 
-// Checks that a rule is kept, and returns the fault if it is not.
+// Returns the fault of a rule at a path if the test fails.
 fn keep(test: bool, rule: u8, at: &Path) -> Result<(), ScriptFault>
     ensures { result ≡ keep test rule at.now }
 {
@@ -52,7 +52,7 @@ fn read_named_factor(spec: &Spec, v: &Value, at: &Path) -> Result<FactorId, Scri
     }
 }
 
-/// Returns the number of the factor's value with this name, or `None` if there is no such factor or value.
+/// Returns the number of the factor's value that has this name, or `None` if there is no such factor or value.
 pub fn find_value(spec: &Spec, factor: FactorId, text: &[u8]) -> Option<u8>
     ensures { result ≡ find_value spec.now factor text.now }
 {
@@ -90,7 +90,7 @@ fn read_change(spec: &Spec, frames: u32, v: &Value, at: &Path) -> Result<Change,
     })
 }
 
-/// The changes of a script with `frames` frames, each of which comes after the preceding ones.
+/// A reader of the changes of a script with `frames` frames. Each change must come after the preceding ones.
 #[derive(Clone, Copy)]
 struct Changes<'a> {
     spec: &'a Spec,
@@ -159,7 +159,7 @@ fn read_halt(spec: &Spec, frames: u32, v: &Value, at: &Path) -> Result<HaltAt, S
     })
 }
 
-/// The halts of a script with `frames` frames, each of which comes after the preceding ones.
+/// A reader of the halts of a script with `frames` frames. Each halt must come after the preceding ones.
 #[derive(Clone, Copy)]
 struct Halts<'a> {
     spec: &'a Spec,
@@ -226,7 +226,7 @@ fn read_restart(spec: &Spec, frames: u32, v: &Value, at: &Path) -> Result<Restar
     Ok(RestartAt { proc, frame })
 }
 
-/// The restarts of a script with `frames` frames, each of which comes after the preceding ones.
+/// A reader of the restarts of a script with `frames` frames. Each restart must come after the preceding ones.
 #[derive(Clone, Copy)]
 struct Restarts<'a> {
     spec: &'a Spec,
@@ -260,7 +260,7 @@ impl Elements<RestartAt> for Restarts<'_> {
     }
 }
 
-// Returns the restarts of a document, which are none if it has no list of them.
+// Returns the restarts of a document. The list is empty if the document has no member `restarts`.
 fn read_restarts(
     alloc: Global,
     restarts: &Restarts<'_>,
@@ -280,7 +280,7 @@ fn read_restarts(
     }
 }
 
-// Checks that each halt is one that its processor may have.
+// Checks that each halt is one that its processor may have after the preceding ones.
 fn keep_halts(restarts: &[RestartAt], halts: &[HaltAt], at: &Path) -> Result<(), ScriptFault>
     requires path { length at.now ≤ 30 }
     requires few { length halts.now ≤ 16 }
@@ -296,7 +296,7 @@ fn keep_halts(restarts: &[RestartAt], halts: &[HaltAt], at: &Path) -> Result<(),
     Ok(())
 }
 
-// The members of a script document.
+// The values of the members of a script document.
 #[derive(Drop)]
 struct Members<'a> {
     scram: &'a Value,
@@ -392,8 +392,12 @@ fn read_document(alloc: Global, spec: &Spec, v: &Value) -> Result<Script, Script
     read_values(alloc, spec, version, &members)
 }
 
-/// Returns the script that a document encodes, for a specification, or the first rule that it breaks, with the path at
-/// which it breaks it.
+/// Returns the script that a document encodes. The script fits the specification.
+///
+/// # Errors
+///
+/// Returns an error with the first rule that the document breaks and the path at which it breaks it, and `NoMemory` if
+/// memory runs out.
 pub fn read_script(alloc: Global, bytes: &[u8], spec: &Spec) -> Result<Script, ScriptError>
     ensures script { Answers (script_of spec.now bytes.now) (λ script. script) result }
     ensures fits { IfOk result (λ script. Fits spec.now script) }

@@ -69,15 +69,15 @@ pub fn restart_of(script: &Script, proc: ProcId) -> Option<u32>
     None
 }
 
-/// Returns whether a processor is up in a frame. It is up if it has no halt in an earlier frame, or has restarted since
-/// the latest such halt and up to this frame.
+/// Returns `true` if a processor is up in a frame: it has no halt in an earlier frame, or it has restarted since the
+/// latest such halt, in this frame or an earlier one.
 pub fn up_at(script: &Script, proc: ProcId, frame: u32) -> bool
     ensures { result ≡ is_up script.now proc.0 frame }
 {
     are_halts_over(script, proc, frame)
 }
 
-// Returns whether a processor has restarted since each of its halts in a frame before this one.
+// Returns `true` if a processor has restarted since each of its halts in a frame before this one.
 fn are_halts_over(script: &Script, proc: ProcId, frame: u32) -> bool
     ensures { result ≡ list_all (is_over script.now proc.0 frame) script.now.halts }
 {
@@ -92,7 +92,7 @@ fn are_halts_over(script: &Script, proc: ProcId, frame: u32) -> bool
     true
 }
 
-// Returns whether a processor restarts after frame `after` and in a frame up to `frame`.
+// Returns `true` if a processor restarts in a frame after `after` and up to `frame`.
 fn has_restarted(script: &Script, proc: ProcId, after: u32, frame: u32) -> bool
     ensures { result ≡ restarted script.now proc.0 after frame }
 {

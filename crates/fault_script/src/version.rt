@@ -26,7 +26,7 @@ pub fn version_of(v: &Value) -> Version
 }
 
 impl Version {
-    /// Returns the number of members of a script document.
+    /// Returns the number of members of a script document of this version.
     pub fn member_count(self) -> usize
         ensures { result ≡ member_count self }
     {
@@ -36,7 +36,7 @@ impl Version {
         }
     }
 
-    /// Returns the maximum number of halts in a script.
+    /// Returns the maximum number of halts in a script document of this version.
     pub fn halts_limit(self) -> usize
         ensures count { result ≡ halts_limit self }
         ensures most { result ≤ 16 }

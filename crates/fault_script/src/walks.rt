@@ -1,4 +1,4 @@
-//! Walks along the frames of a script, with the changes of a window counted.
+//! Walks along the frames of a script, and windows that count change frames.
 
 ghost use Rattle.std.specs.Prelude.{◌≡◌, ◌+◌, ◌<◌, length, not};
 ghost use Rattle.scram_types.specs.Bits.{bits_below};
@@ -11,8 +11,8 @@ use crate::inputs::{Input, input_at};
 use crate::times::up_at;
 use scram_types::{Change, Env, ProcId, Script, Spec};
 
-/// A walk along the frames of a script, which visits each change once. It has the frame at which it is, and the
-/// environment of that frame.
+/// A walk along the frames of a script, which visits each change once. It has its current frame and the environment
+/// of that frame.
 #[derive(Clone, Copy, Debug)]
 pub struct Walk {
     pub frame: u32,
@@ -42,7 +42,7 @@ impl Walk {
         }
     }
 
-    /// Returns the walk at the next frame. The last possible frame is the one after the script's last frame.
+    /// Returns the walk at the next frame. A walk goes no further than the frame after the script's last frame.
     pub fn next(&self, spec: &Spec, script: &Script) -> Walk
         requires fits { Fits spec.now script.now }
         requires walk { IsWalk spec.now script.now self.now.frame self.now }
@@ -66,7 +66,7 @@ impl Walk {
         }
     }
 
-    /// Returns the input of the frame at which the walk is.
+    /// Returns the input of the walk's current frame.
     pub fn input(&self, spec: &Spec, script: &Script) -> Input
         requires { IsWalk spec.now script.now self.now.frame self.now }
         ensures input { result ≡ input_at spec.now script.now self.now.frame }
@@ -77,8 +77,8 @@ impl Walk {
     }
 }
 
-// A window that ends with a frame. It has the number of frames in it that changed the environment, and whether its last
-// frame did. One of its two walks is at its last frame, the other at the frame before the window.
+// A window that ends with a frame. It has the number of frames in it that change the environment, and whether its
+// last frame does. The walk `lead` is at its last frame, and the walk `trail` at the frame before the window.
 #[derive(Clone, Copy)]
 pub(crate) struct Window {
     lead: Walk,
@@ -100,7 +100,7 @@ pub(crate) fn opening_window(spec: &Spec, script: &Script) -> Window
     }
 }
 
-// Returns the window that ends with the next frame.
+// Returns the window that ends with the frame after `frame`, given the window that ends with `frame`.
 pub(crate) fn next_window(spec: &Spec, script: &Script, window: &Window, frame: u32) -> Window
     requires fits { Fits spec.now script.now }
     requires window { IsWindow spec.now script.now frame window.now }
@@ -128,8 +128,8 @@ pub(crate) fn next_window(spec: &Spec, script: &Script, window: &Window, frame: 
     }
 }
 
-// Returns the number of changes up to a frame, and the factors' values after them, given the number and the values of
-// an earlier frame.
+// Returns the number of changes up to a frame, and the factors' values after them, given the same for an earlier
+// frame.
 fn take_changes(
     changes: &[Change],
     before: usize,

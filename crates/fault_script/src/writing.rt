@@ -12,7 +12,7 @@ use scram_types::{Change, HaltAt, NoMemory, RestartAt, Script, Spec};
 use serde_json::{Value, json};
 use std::alloc::{AllocError, Global};
 
-/// A writer of the lists of a script.
+/// A writer of the items of a script's lists.
 #[derive(Clone, Copy)]
 struct Writer<'a> {
     spec: &'a Spec,
@@ -85,6 +85,10 @@ fn make_script(alloc: Global, spec: &Spec, script: &Script) -> Result<Value, All
 
 /// Returns the canonical text of a script: compact JSON, in the first version if the script has no restart, else in the
 /// second. If the script fits the specification, the same script is read back from the text.
+///
+/// # Errors
+///
+/// Returns `NoMemory` if memory runs out.
 pub fn write_script(alloc: Global, script: &Script, spec: &Spec) -> Result<Vec<u8>, NoMemory>
     ensures text { IfOk result (λ text. text.items ≡ script_text spec.now script.now) }
     ensures value { IfOk result (λ text. read text.items ≡ Some (script_data spec.now script.now)) }

@@ -9,14 +9,14 @@ use Rattle.mission_gen.specs.Turns.{turns_to}
 abbrev change : ℕ → ℕ → ℕ → Change
 change frame factor value = record { frame = frame; factor = record { 0 = factor }; value = value }
 
--- the changes of the first blocks
+-- The changes of the first `k` blocks of mission `n`.
 abbrev first_changes : ℕ → ℕ → List Change
 first_changes n k = changes_by (replicate 6 0) (turns_to n k)
 
 randoms_0 : random 0 1 ∷ random 0 2 ∷ random 0 3 ∷ random 0 4 ∷ random 0 5 ∷ [] ≡ 12345 ∷ 1406932606 ∷ 654583775 ∷ 1449466924 ∷ 229283573 ∷ []
 randoms_0 = refl
 
--- nothing changes in the fifth block
+-- No change is in the fifth block.
 changes_0 : first_changes 0 6
     ≡ change 60 0 1 ∷ change 126 0 0 ∷ change 187 0 1 ∷ change 187 3 1 ∷ change 244 1 1 ∷ change 364 1 0 ∷ change 364 4 1 ∷ change 366 0 0 ∷ []
 changes_0 = refl
@@ -31,7 +31,7 @@ changes_1 = refl
 halt_999999 : generated_halt 999999 ≡ record { proc = record { 0 = 1 }; frame = 307; step = 22 }
 halt_999999 = refl
 
--- the shortest script has 16 blocks
+-- The shortest script has 16 blocks, and the longest has 316.
 shortest : frames_of 0 ∷ last_block (frames_of 0) ∷ frames_of 18 ∷ last_block (frames_of 18) ∷ [] ≡ 1000 ∷ 16 ∷ 19000 ∷ 316 ∷ []
 shortest = refl
 

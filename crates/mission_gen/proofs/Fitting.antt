@@ -1,4 +1,4 @@
--- The script of a mission fits each specification with the factors and processors that it names.
+-- The script of a mission fits each specification that has the factors and processors that the script names.
 use Rattle.std.proofs.Common.{◌≡◌, refl, ap, sym, ◌∙◌, ℕ, zero, suc, ◌+◌, ◌*◌, ◌<◌, ◌≤◌, arith, List, [], ◌∷◌, length, subst, replicate}
 use Rattle.std.specs.Prelude.{Bool, true, false, Some, if◌then◌else◌, map, nat_lt, slice_get}
 use Rattle.std.proofs.Math.Nat.{mod-lt}
@@ -13,8 +13,8 @@ use Rattle.mission_gen.specs.Changes.{change_by, changes_by, count_of_values, fr
 use Rattle.mission_gen.specs.Turns.{Turn, turns_to}
 use Rattle.mission_gen.proofs.Ordering.{AreTurns, IsTurn, Precedes, Sorted, turns_kept}
 
--- The counts that a generated script requires of a specification: two processors, three applications, a failure
--- assumption, and two factors of two values and four of four.
+-- A specification has the counts that a generated script requires: two processors, three applications, the failure
+-- assumption, two factors of two values, and four of four.
 pub record HasCounts (spec : Parts) : Type 0 where
   pub procs : length spec.procs ≡ 2
   pub apps : length spec.apps ≡ 3
@@ -93,7 +93,7 @@ changes_counted : (values : List ℕ) (ts : List Turn) → length (changes_by va
 changes_counted values [] = refl
 changes_counted values (t ∷ ts) = ap suc (changes_counted (values_by values t) ts)
 
--- a list of one has no second
+-- A list of one item has no later item.
 later_of_one : {A : Type 0} (R : A → A → Type 0) (x : A) → EachLater R (x ∷ [])
 later_of_one R x i zero y z less p q = absurd (omega (arith, less))
 later_of_one R x i (suc j) y z less p q = absurd cc

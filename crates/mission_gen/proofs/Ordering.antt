@@ -5,7 +5,7 @@ use Rattle.fault_script.specs.Fits.{Before}
 use Rattle.mission_gen.specs.Blocks.{alternator, delay, first_frame, random, turns_both}
 use Rattle.mission_gen.specs.Turns.{Turn, turn, turns_in, turns_to}
 
--- A turn of a factor that exists, in a frame from low on and below high.
+-- A turn is of a factor that exists, in a frame from `low` on and below `high`.
 pub record IsTurn (low high : ℕ) (t : Turn) : Type 0 where
   pub from : low ≤ t.frame
   pub below : t.frame < high
@@ -15,7 +15,7 @@ abbrev pub AreTurns : ℕ → ℕ → List Turn → Type 0
 AreTurns low high [] = Unit {0}
 AreTurns low high (t ∷ ts) = IsTurn low high t × AreTurns low high ts
 
--- The first of some turns comes after this one.
+-- The first turn of a list comes after turn `t`, or the list is empty.
 abbrev pub Precedes : Turn → List Turn → Type 0
 Precedes t [] = Unit {0}
 Precedes t (u ∷ us) = Before t.frame t.factor u.frame u.factor
@@ -24,7 +24,7 @@ abbrev pub Sorted : List Turn → Type 0
 Sorted [] = Unit {0}
 Sorted (t ∷ ts) = Precedes t ts × Sorted ts
 
--- The invariant of a list of turns.
+-- A list of at most `most` turns is sorted, and its turns are in frames from `low` on and below `high`.
 pub record Kept (low high most : ℕ) (ts : List Turn) : Type 0 where
   pub turns : AreTurns low high ts
   pub sorted : Sorted ts
@@ -55,7 +55,7 @@ length_more : (xs ys : List Turn) → length (xs ++ ys) ≡ length xs + length y
 length_more [] ys = omega arith
 length_more (x ∷ xs) ys = let known = length_more xs ys in omega (arith, known)
 
--- the turns of a block, by the results of its three tests
+-- The turns of a block, given the results of its three tests, are sorted and number at most three.
 block_kept : (k x : ℕ) (fifth third other : Bool) →
     Kept (60 * k) (60 * k + 16) 3
     (if fifth then []

@@ -1,4 +1,4 @@
--- The texts of the specifications are read by computing.
+-- The texts of the specifications are read by computation.
 use Rattle.std.proofs.Common.{◌≡◌, refl, ap, sym, ◌∙◌, ℕ, List, [], ◌∷◌, length}
 use Rattle.std.specs.Prelude.{Bool, true, false, ◌&&◌, drop, slice_index, nat_le, nat_lt, Option, Some, None, Result, Ok, Err, IfOk, map}
 use Rattle.std.specs.Fmt.{digits}
@@ -29,7 +29,7 @@ use Rattle.reconf_spec.specs.Documents.{spec_in, spec_of}
 use Rattle.mission_gen.specs.Specifications.{GivesSpecification, generated_text, uav_text, with_further_factors}
 use Rattle.mission_gen.proofs.Fitting.{HasCounts}
 
--- the reading of a text that is known to be short and UTF-8
+-- The result of reading a text that is known to be short and UTF-8.
 abbrev pub reading : List ℕ → Result Parts DocFault
 reading text = chain (or_broken NO_JSON_TEXT [] (read text)) (λ (d : Data). spec_in d)
 
@@ -37,7 +37,8 @@ abbrev pub is_ok : {A E : Type 0} → Result A E → Bool
 is_ok (Ok a) = true
 is_ok (Err e) = false
 
--- the numbers of processors and applications, the failure assumption, and the number of values of each factor
+-- The number of processors, the number of applications, the failure assumption, and the number of values of each
+-- factor.
 abbrev pub counts_in : Parts → List ℕ
 counts_in spec = length spec.procs ∷ length spec.apps ∷ spec.halts ∷ spec.changes ∷ spec.window ∷ map (λ (factor : Factor). length factor.values) spec.factors
 
@@ -107,7 +108,7 @@ generated_counts spec given =
     let read : counts (Ok spec) ≡ counts (reading generated_text) = ap counts (sym given ∙ plain_read generated_text generated_is_plain) in
     has_counts spec (same_Some _ _ (read ∙ generated_reads))
 
--- the canonical text of the specification that was read
+-- The canonical text of the specification that was read, or the empty text if it was refused.
 abbrev canonical : Result Parts DocFault → List ℕ
 canonical (Ok spec) = spec_text spec
 canonical (Err fault) = []

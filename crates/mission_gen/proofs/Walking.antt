@@ -1,4 +1,4 @@
--- Turns after other turns, and blocks after other blocks.
+-- A walk makes the turns of a list after other turns, and of a block after other blocks.
 use Rattle.std.proofs.Common.{◌≡◌, refl, ap, sym, ◌∙◌, ℕ, suc, ◌+◌, add-one, subst, List, [], ◌∷◌, ◌++◌, append_assoc, replicate}
 use Rattle.scram_types.specs.declared.scripts.Change.{Change}
 use Rattle.mission_gen.specs.declared.walks.Walk.{Walk}
@@ -28,7 +28,7 @@ turned_more a b c xs ys first second = record {
       ∙ sym (ap (λ (changes : List Change). a.changes.items ++ changes) (changes_more a.values xs ys));
 }
 
--- The walk has passed the blocks 1 to k.
+-- A walk of mission `n` has passed the blocks 1 to `k`.
 pub record Walked (n k : ℕ) (walk : Walk) : Type 0 where
   pub random : walk.random ≡ random n k
   pub values : walk.values ≡ values_after (replicate 6 0) (turns_to n k)

@@ -1,5 +1,5 @@
 -- A generated script keeps to the failure assumption of its specification: at most one processor is down, and forty
--- frames hold the changes of one block alone.
+-- consecutive frames contain the changes of one block alone.
 use Rattle.std.proofs.Common.{◌≡◌, refl, ap, sym, ◌∙◌, ℕ, zero, suc, ◌+◌, ◌-◌, ◌*◌, ◌/◌, ◌%◌, ◌<◌, ◌≤◌, ◌⊎◌, Bool, true, false, not, arith, List, [], ◌∷◌, ◌++◌, length, inl, inr, replicate, subst}
 use Rattle.std.specs.Prelude.{◌&&◌, ◌||◌, ◌==◌, if◌then◌else◌, nat_le, nat_lt}
 use Rattle.std.specs.List.{list_any}
@@ -23,7 +23,7 @@ use Rattle.mission_gen.specs.Changes.{changes_by, changes_of, frames_of, generat
 use Rattle.mission_gen.specs.Turns.{Turn, turn, turns_in, turns_to}
 use Rattle.mission_gen.proofs.Fitting.{HasCounts}
 
--- In a block there are two frames in which the environment may change; in the fifth block, only the frame after the
+-- In a block the environment may change in two frames. In the fifth block it may change only in the frame after the
 -- halt.
 
 abbrev first_event : ℕ → ℕ → ℕ
@@ -96,7 +96,7 @@ value_kept values (t ∷ ts) x f v none =
     ∙ value_kept (values_by values t) ts x f (if t.factor == x && nat_le t.frame (suc f) then value_by values t else v)
     (no_right (t.frame == suc f) (turns_at (suc f) ts) none)
 
--- A script with one halt and no restart.
+-- A script with one halt and without restarts.
 
 abbrev with_halt : ℕ → List Change → HaltAt → ScriptParts
 with_halt frames changes h = record { frames = frames; changes = changes; halts = h ∷ []; restarts = [] }
@@ -115,7 +115,7 @@ up_kept : (frames : ℕ) (changes : List Change) (h : HaltAt) (p f : ℕ) → (h
 up_kept frames changes h p f other =
     up_is frames changes h p f ∙ ap (is_up_of h p) (gone_alike h.frame f other) ∙ sym (up_is frames changes h p (suc f))
 
--- of two processors at most one is down
+-- At most one of two processors is down, since there is only one halt.
 one_down : (first second gone : Bool) → (first ≡ true → second ≡ true → ⊥) →
     (0 + (if not (not (first && gone && true) && true) then 1 else 0)) + (if not (not (second && gone && true) && true) then 1 else 0) ≤ 1
 one_down true true gone apart = absurd (apart refl refl)
@@ -190,7 +190,7 @@ changed_is_event spec n (suc f) changed = by_tests (turns_at (suc f) ts) refl ((
         let both : false ≡ true = sym kept ∙ changed in
         absurd cc
 
--- Of frames in a row that hold two events, at most two are change frames.
+-- If consecutive frames contain two events, at most two of the frames are change frames.
 
 abbrev reached : ℕ → ℕ → ℕ
 reached event f = if nat_le event f then 1 else 0
@@ -245,7 +245,7 @@ two_changes spec script first second g (suc m) only =
           omega (arith, before, was, came, p))
     ]
 
--- Forty frames hold events of only one block.
+-- Forty consecutive frames contain the events of only one block.
 
 delay_few : (x : ℕ) (fifth : Bool) → (if fifth then 1 else delay x) ≤ 8
 delay_few x true = omega arith

@@ -1,31 +1,32 @@
--- The generator's random numbers, and the events of a block of sixty frames that follow from each.
+-- The random numbers of the generator, and the events in a block of sixty frames that each determines.
 use Rattle.std.specs.Prelude.{ℕ, zero, suc, ◌+◌, ◌*◌, ◌/◌, ◌%◌, ◌^◌, Bool, nat_le}
 
--- The random number that follows x.
+-- The random number that follows `x`.
 abbrev pub next_random : ℕ → ℕ
 next_random x = (1103515245 * x + 12345) % 2 ^ 31
 
--- The random number of block k of mission n, where block 0 has the number n.
+-- The random number of block `k` of mission `n`. The random number of block 0 is `n`.
 abbrev pub random : ℕ → ℕ → ℕ
 random n zero = n
 random n (suc k) = next_random (random n k)
 
--- The frame of the first event in block k.
+-- The frame of the first event in block `k`, given the block's random number `x`.
 abbrev pub first_frame : ℕ → ℕ → ℕ
 first_frame k x = 60 * k + (x / 256) % 8
 
--- The number of frames after which the other alternator changes.
+-- The number of frames from the change of the first alternator to that of the other, given the block's random number
+-- `x`.
 abbrev pub delay : ℕ → ℕ
 delay x = 1 + (x / 4096) % 8
 
--- One of four ways in which alternators change.
+-- One of four ways in which alternators change in a block, as a number from 0 to 3.
 abbrev pub choice : ℕ → ℕ
 choice x = (x / 65536) % 4
 
--- The number of the alternator that changes first.
+-- The number of the alternator that changes first in a block.
 abbrev pub alternator : ℕ → ℕ
 alternator x = choice x % 2
 
--- The other alternator changes too.
+-- The other alternator changes too in the block with random number `x`.
 abbrev pub turns_both : ℕ → Bool
 turns_both x = nat_le 2 (choice x)

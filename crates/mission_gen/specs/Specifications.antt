@@ -1,4 +1,4 @@
--- The texts of the specifications and of missions, and the specifications that texts give.
+-- The texts of specifications and missions, and the specifications that texts encode.
 use Rattle.std.specs.Prelude.{◌≡◌, ℕ, List, [], ◌∷◌, ◌++◌, Ok, codes}
 use Rattle.scram_types.specs.declared.specification.Factor.{Factor}
 use Rattle.scram_types.specs.Scripts.{ScriptParts}
@@ -16,20 +16,20 @@ uav_text = UAV.now
 unfoldable pub generated_text : List ℕ
 generated_text = GENERATED.now
 
--- The canonical texts of a specification and of a script, a line each.
+-- The canonical texts of a specification and of a script, one line each.
 abbrev pub mission_text : Parts → ScriptParts → List ℕ
 mission_text spec script = spec_text spec ++ codes "\n" ++ script_text spec script ++ codes "\n"
 
--- The text is the text of a specification.
+-- A text encodes a specification.
 pub record GivesSpecification (text : List ℕ) : Type 0 where
   pub spec : Parts
   pub given : spec_of text ≡ Ok spec
 
--- A further factor, which has four values.
+-- A further factor with this name, which has four values.
 abbrev pub further_factor : List ℕ → Factor
 further_factor name = record { name = name; values = codes "v0" ∷ codes "v1" ∷ codes "v2" ∷ codes "v3" ∷ [] }
 
--- The specification with four further factors after its own.
+-- A specification with four further factors after its own factors.
 abbrev pub with_further_factors : Parts → Parts
 with_further_factors spec = record {
   procs = spec.procs;

@@ -1,8 +1,8 @@
--- The turns of a mission's blocks: which factors change, and in which frames.
+-- The turns of a mission's blocks: the factors that change, and the frames in which they do.
 use Rattle.std.specs.Prelude.{ℕ, zero, suc, ◌+◌, ◌-◌, ◌/◌, ◌%◌, ◌==◌, List, [], ◌∷◌, ◌++◌, if◌then◌else◌}
 use Rattle.mission_gen.specs.Blocks.{alternator, delay, first_frame, random, turns_both}
 
--- A turn: in this frame, the factor changes to its next value.
+-- A turn, which changes a factor to its next value in a frame.
 pub record Turn : Type 0 where
   pub frame : ℕ
   pub factor : ℕ
@@ -11,21 +11,22 @@ pub record Turn : Type 0 where
 abbrev pub turn : ℕ → ℕ → Turn
 turn frame factor = record { frame = frame; factor = factor }
 
--- The turn of one of the four further factors, in every third block.
+-- The turn of one of the four further factors in a frame, if the number of the block is a multiple of three.
 abbrev pub aux_turns : ℕ → ℕ → List Turn
 aux_turns k frame = if k % 3 == 0 then turn frame (2 + (k / 3) % 4) ∷ [] else []
 
--- The turn of the other alternator after a delay, if the block turns both.
+-- The turn of the other alternator some frames after `frame`, if the block with random number `x` turns both
+-- alternators.
 abbrev pub other_turns : ℕ → ℕ → List Turn
 other_turns frame x = if turns_both x then turn (frame + delay x) (1 - alternator x) ∷ [] else []
 
--- The turns of block k, whose random number is x. In the fifth block a processor halts and nothing turns.
+-- The turns of block `k`, whose random number is `x`. In the fifth block a processor halts and no factor turns.
 abbrev pub turns_in : ℕ → ℕ → List Turn
 turns_in k x =
     if k == 5 then []
     else (turn (first_frame k x) (alternator x) ∷ aux_turns k (first_frame k x) ++ other_turns (first_frame k x) x)
 
--- The turns of the blocks 1 to k.
+-- The turns of the blocks 1 to `k` of mission `n`.
 abbrev pub turns_to : ℕ → ℕ → List Turn
 turns_to n zero = []
 turns_to n (suc k) = turns_to n k ++ turns_in (suc k) (random n (suc k))

@@ -5,13 +5,14 @@ use Rattle.mission_gen.specs.Blocks.{next_random}
 use Rattle.mission_gen.specs.Changes.{changes_by, values_after}
 use Rattle.mission_gen.specs.Turns.{Turn, turns_in}
 
--- The turns were made, and their changes added.
+-- A list of turns was made, and their changes were added to the walk.
 pub record Turned (before after : Walk) (turns : List Turn) : Type 0 where
   pub random : after.random ≡ before.random
   pub values : after.values ≡ values_after before.values turns
   pub changes : after.changes.items ≡ before.changes.items ++ changes_by before.values turns
 
--- The turns of block k, by the next random number, were made, and their changes added.
+-- The turns of block `k`, as the next random number determines them, were made, and their changes were added to the
+-- walk.
 pub record WalkedBlock (k : ℕ) (before after : Walk) : Type 0 where
   pub random : after.random ≡ next_random before.random
   pub values : after.values ≡ values_after before.values (turns_in k (next_random before.random))

@@ -1,5 +1,6 @@
-//! Missions made from a number: one specification for all of them, and a script that depends on the number alone, fits
-//! the specification and keeps to its failure assumption. A mission is written as its two canonical texts.
+//! Missions that are generated from a number. All missions have the same specification, and a script that depends on
+//! the number alone, fits the specification and keeps to its failure assumption. A mission is written as its two
+//! canonical texts.
 #![tactic(auto)]
 
 mod missions;

@@ -1,4 +1,4 @@
-//! The aircraft's specification, and missions made from a number.
+//! The aircraft's specification, and missions that are generated from a number.
 
 ghost use Rattle.std.specs.Prelude.{◌≡◌, Ok, IfOk};
 ghost use Rattle.scram_doc.specs.Chain.{ok_map};
@@ -17,7 +17,7 @@ use reconf_spec::{SpecError, read_spec, write_spec};
 use scram_types::{HaltAt, List, NoMemory, ProcId, Script, Spec};
 use std::alloc::Global;
 
-/// Returns the specification that a text gives.
+/// Returns the specification that a text encodes.
 fn read_text(alloc: Global, text: &str) -> Result<Spec, NoMemory>
     requires { GivesSpecification text.now }
     ensures { IfOk result (λ spec. spec_of text.now ≡ Ok spec) }
@@ -29,12 +29,12 @@ fn read_text(alloc: Global, text: &str) -> Result<Spec, NoMemory>
     }
 }
 
-/// Returns the specification of the aircraft: an autopilot that needs a flight control, a power monitor, two computers,
-/// and two alternators that may fail.
+/// Returns the specification of the aircraft. It has an autopilot that needs a flight control, a power monitor, two
+/// computers, and two alternators that may fail.
 ///
 /// # Errors
 ///
-/// Out of memory.
+/// Returns `NoMemory` if memory runs out.
 pub fn uav(alloc: Global) -> Result<Spec, NoMemory>
     ensures text { IfOk result (λ spec. spec_of uav_text ≡ Ok spec) }
     ensures canonical { IfOk result (λ spec. spec_text spec ≡ uav_text) }
@@ -48,7 +48,7 @@ fn count_frames(n: u32) -> u32
     1000 + 1000 * (n % 19)
 }
 
-/// Returns the halt in the fifth block.
+/// Returns the halt of mission `n`, which is in the fifth block.
 fn generated_halt(n: u32) -> HaltAt
     ensures { result ≡ generated_halt n }
 {
@@ -75,12 +75,12 @@ fn make_script(alloc: Global, n: u32) -> Result<Script, NoMemory>
     })
 }
 
-/// Returns mission `n`: the aircraft with four further factors, and a script of 1,000 to 19,000 frames, which fits that
-/// specification and keeps to its failure assumption.
+/// Returns mission `n`: the specification of the aircraft with four further factors, and a script of 1,000 to 19,000
+/// frames. The script fits the specification and keeps to its failure assumption.
 ///
 /// # Errors
 ///
-/// Out of memory.
+/// Returns `NoMemory` if memory runs out.
 pub fn generate(alloc: Global, n: u32) -> Result<(Spec, Script), NoMemory>
     ensures specification { IfOk result (λ made. ok_map with_further_factors (spec_of uav_text) ≡ Ok made.0) }
     ensures text { IfOk result (λ made. spec_of generated_text ≡ Ok made.0) }
@@ -94,11 +94,11 @@ pub fn generate(alloc: Global, n: u32) -> Result<(Spec, Script), NoMemory>
     Ok((spec, script))
 }
 
-/// Returns the canonical texts of a specification and of a script for it, a line each.
+/// Returns the canonical texts of a specification and of a script for it, one line each.
 ///
 /// # Errors
 ///
-/// Out of memory.
+/// Returns `NoMemory` if memory runs out.
 pub fn write_mission(alloc: Global, spec: &Spec, script: &Script) -> Result<Vec<u8>, NoMemory>
     ensures { IfOk result (λ text. text.items ≡ mission_text spec.now script.now) }
 {

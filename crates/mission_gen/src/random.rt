@@ -1,9 +1,9 @@
-//! The generator's random numbers, and the events of a block that follow from each.
+//! The random numbers of the generator, and the events in a block that each determines.
 
 ghost use Rattle.std.specs.Prelude.{◌≡◌, ◌<◌, ◌≤◌, ◌^◌};
 ghost use Rattle.mission_gen.specs.Blocks.{alternator, choice, delay, first_frame, next_random, random, turns_both};
 
-/// Returns the random number that follows `x`, below 2^31.
+/// Returns the random number that follows `x`, which is below 2^31.
 pub(crate) fn next_random(x: u32) -> u32
     ensures value { result ≡ next_random x }
     ensures small { result < 2 ^ 31 }
@@ -11,7 +11,7 @@ pub(crate) fn next_random(x: u32) -> u32
     ((1_103_515_245 * u64::from(x) + 12_345) % 2_147_483_648) as u32
 }
 
-/// Returns the random number of block `k` of mission `n`.
+/// Returns the random number of block `k` of mission `n`. The random number of block 0 is `n`.
 pub(crate) fn random(n: u32, k: u32) -> u32
     ensures { result ≡ random n k }
 {
@@ -30,7 +30,7 @@ pub(crate) fn first_frame(k: u32, x: u32) -> u32
     60 * k + x / 256 % 8
 }
 
-/// Returns the number of frames after which the other alternator changes.
+/// Returns the number of frames, 1 to 8, from the change of the first alternator to that of the other.
 pub(crate) fn delay(x: u32) -> u32
     ensures value { result ≡ delay x }
     ensures most { result ≤ 8 }
@@ -45,7 +45,7 @@ fn choice(x: u32) -> u32
     x / 65_536 % 4
 }
 
-/// Returns the number of the alternator that changes first.
+/// Returns the number of the alternator that changes first, 0 or 1, given the block's random number `x`.
 pub(crate) fn alternator(x: u32) -> u8
     ensures value { result ≡ alternator x }
     ensures two { result < 2 }
@@ -53,7 +53,7 @@ pub(crate) fn alternator(x: u32) -> u8
     (choice(x) % 2) as u8
 }
 
-/// Returns whether the other alternator changes too.
+/// Returns `true` if the other alternator changes too in the block with random number `x`.
 pub(crate) fn turns_both(x: u32) -> bool
     ensures { result ≡ turns_both x }
 {

@@ -4,7 +4,7 @@
 ghost use Rattle.std.specs.Prelude.{◌≡◌};
 ghost use Rattle.mission_gen.specs.Specifications.{generated_text, uav_text};
 
-/// The text of an aircraft with two alternators and two computers, with these further factors after the alternators.
+/// The text of an aircraft with two alternators and two computers. These further factors follow the alternators.
 macro_rules! aircraft {
     ($($further:literal),*) => {
         concat!(

@@ -1,4 +1,4 @@
-//! The changes of a generated script, block by block.
+//! The changes of a generated script, made block by block.
 
 ghost use Rattle.std.specs.Prelude.{◌≡◌, ◌<◌, ◌≤◌, ◌∷◌, [], IfOk, OnOk};
 ghost use Rattle.scram_types.specs.declared.limits.TheConstants.{MAX_FRAMES};
@@ -11,7 +11,8 @@ use crate::random::{alternator, delay, first_frame, next_random, turns_both};
 use scram_types::{Change, FactorId, NoMemory};
 use std::alloc::Global;
 
-/// The state of the generator: the random number of its last block, the current values, and the changes so far.
+/// The state of the generator: the random number of its last block, the current values of the factors, and the
+/// changes so far.
 #[derive(Drop)]
 pub(crate) struct Walk {
     random: u32,
@@ -19,8 +20,8 @@ pub(crate) struct Walk {
     changes: Vec<Change>,
 }
 
-/// Returns the value after `value`, or the first value after the last. Alternators have two values, the further factors
-/// four.
+/// Returns the value of a factor that follows `value`, or the first value if `value` is the last. Alternators have
+/// two values, the further factors four.
 fn next_value(factor: u8, value: u8) -> u8
     ensures { result ≡ next_value factor value }
 {
@@ -43,7 +44,7 @@ fn add_turn(walk: &mut Walk, frame: u32, factor: u8) -> Result<(), NoMemory>
     Ok(())
 }
 
-/// Adds the change of one of the further factors in every third block.
+/// Adds the change of one of the further factors in a frame, if the number of the block is a multiple of three.
 fn add_aux_turn(walk: &mut Walk, k: u32, frame: u32) -> Result<(), NoMemory>
     ensures { OnOk result (Turned walk.old walk.new (aux_turns k frame)) }
 {
@@ -54,7 +55,7 @@ fn add_aux_turn(walk: &mut Walk, k: u32, frame: u32) -> Result<(), NoMemory>
     }
 }
 
-/// Adds the later change of the other alternator if the block with random number `x` turns both.
+/// Adds the later change of the other alternator, if the block with random number `x` turns both alternators.
 fn add_other_turn(walk: &mut Walk, frame: u32, x: u32) -> Result<(), NoMemory>
     requires { frame ≤ 100000 }
     ensures { OnOk result (Turned walk.old walk.new (other_turns frame x)) }
@@ -66,7 +67,7 @@ fn add_other_turn(walk: &mut Walk, frame: u32, x: u32) -> Result<(), NoMemory>
     }
 }
 
-/// Adds the changes of block `k`, whose random number is the walk's.
+/// Adds the changes of block `k`. The walk has the block's random number.
 fn add_turns(walk: &mut Walk, k: u32) -> Result<(), NoMemory>
     requires { k ≤ 1000 }
     ensures { OnOk result (Turned walk.old walk.new (turns_in k walk.old.random)) }
@@ -81,7 +82,7 @@ fn add_turns(walk: &mut Walk, k: u32) -> Result<(), NoMemory>
     add_other_turn(walk, frame, x)
 }
 
-/// Advances by a block: draws the next random number and adds the changes of block `k`.
+/// Advances the walk by a block: draws the next random number and adds the changes of block `k`.
 fn add_block(walk: &mut Walk, k: u32) -> Result<(), NoMemory>
     requires { k ≤ 1000 }
     ensures { OnOk result (WalkedBlock k walk.old walk.new) }
@@ -90,7 +91,7 @@ fn add_block(walk: &mut Walk, k: u32) -> Result<(), NoMemory>
     add_turns(walk, k)
 }
 
-/// Returns the changes of a script with `frames` frames.
+/// Returns the changes of the script of mission `n`, which has `frames` frames.
 pub(crate) fn make_changes(alloc: Global, n: u32, frames: u32) -> Result<Vec<Change>, NoMemory>
     requires { frames ≤ MAX_FRAMES }
     ensures { IfOk result (λ changes. changes.items ≡ changes_of n frames) }
@@ -106,7 +107,8 @@ pub(crate) fn make_changes(alloc: Global, n: u32, frames: u32) -> Result<Vec<Cha
     Ok(walk.changes)
 }
 
-/// Returns the last block of a script with `frames` frames: the last that begins at least 20 frames before the end.
+/// Returns the number of the last block of a script with `frames` frames, which is the last block that begins at
+/// least 20 frames before the end.
 fn last_block(frames: u32) -> u32
     requires { frames ≤ MAX_FRAMES }
     ensures value { result ≡ last_block frames }

@@ -28,7 +28,7 @@ use Rattle.reconf_spec.proofs.Lookups.{all_new, number_back}
 use Rattle.spec_apps.proofs.LongestChains.{all_small, ranks_are}
 use Rattle.scram_doc.proofs.ReadBack.{elements_given, items_back, list_back, whole_back}
 
--- a fact that each processor keeps with the processors before it
+-- A processor has a valid name that no processor before it has.
 record NewProc (done : List Proc) (proc : Proc) : Type 0 where
   new : number_from name_of_proc 0 done proc.name ≡ None
   spelled : is_name proc.name ≡ true
@@ -82,7 +82,7 @@ modes_back : (kind : ℕ) → kind < 6 → (at : List ℕ) (modes : List ModeSpe
 modes_back kind below at modes count each new =
     list_back (NewMode kind) (read_mode kind) (mode_data kind) (mode_back kind below) 1 3 at modes count.enough count.few (λ i x e. record { new = new i x e; is = each i x e })
 
--- an application without its needs and its rank, and one without its rank
+-- An application without its needs and its rank, and an application without its rank.
 abbrev pub bare : AppSpec → AppSpec
 bare app = record { name = app.name; kind = app.kind; needs = []; modes = app.modes; rank = 0 }
 
@@ -141,7 +141,7 @@ ranked_back : (apps : List AppSpec) → with_ranks (map unranked apps) (map rank
 ranked_back [] = refl
 ranked_back (app ∷ apps) = ap (λ (xs : List AppSpec). app ∷ xs) (ranked_back apps)
 
--- ranks are those of the needs alone
+-- A value of each application that does not depend on its rank is the same without ranks.
 over_unranked : (of : AppSpec → ℕ) (apps : List AppSpec) → ((app : AppSpec) → of (unranked app) ≡ of app) → map of (map unranked apps) ≡ map of apps
 over_unranked of [] same = refl
 over_unranked of (app ∷ apps) same = rw (same app, over_unranked of apps same) refl

@@ -28,7 +28,7 @@ use Rattle.reconf_spec.proofs.Lookups.{all_new, number_back}
 use Rattle.scram_types.proofs.Items.{next_part}
 use Rattle.scram_doc.proofs.ReadBack.{list_back, within_back}
 
--- a mode that an application lists is one of its kind
+-- A mode that an application lists is a mode of its kind.
 pub record OfKind (kind mode : ℕ) : Type 0 where
   pub first : 1 ≤ mode
   pub last : mode ≤ modes_of_kind kind
@@ -46,7 +46,7 @@ listed_of_kind kind mode (listed ∷ modes) each some =
     of_kind_by (listed.mode.0 == mode) listed mode kind (mode_in modes mode) (λ e. eqb-true listed.mode.0 mode e) (each zero listed refl)
     (listed_of_kind kind mode modes (λ i x e. each (suc i) x e)) some
 
--- a place is read back if its application has none yet
+-- A place is read back if its application has no place yet.
 place_back : (spec : Parts) → IsSpec spec → (at : List ℕ) (made : List (Option Place)) (a : ℕ) (place : Place) → IsPlace spec.procs spec.apps a place → slice_get made a ≡ Some None
     → read_place spec.procs spec.apps at made (place_data spec a place) ≡ Ok (set made a (Some place))
 place_back spec is at made a place fits free =

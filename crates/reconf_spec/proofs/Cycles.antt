@@ -1,4 +1,4 @@
--- A document that breaks a rule after its names has no cycle of needs.
+-- A document that breaks a rule after its applications have been ranked has no cycle of needs.
 use Rattle.std.proofs.Common.{◌≡◌, [], refl, List}
 use Rattle.std.specs.Prelude.{Result, Ok, Err, ⊤}
 use Rattle.serde_json.specs.Data.{Data}

@@ -22,7 +22,7 @@ not_so : (test : Bool) (P : Type 0) → Decides test P → (P → ⊥) → test 
 not_so true P decides apart = absurd (apart (decides.0 refl))
 not_so false P decides apart = refl
 
--- the name of an element is not that of an element before it
+-- No element before an element has its name.
 none_before : {A : Type 0} (name : A → List ℕ) (k : ℕ) (xs : List A) (x : A) (after : List A) → NamesDiffer name (xs ++ x ∷ after) → number_from name k xs (name x) ≡ None
 none_before name k [] x after differ = refl
 none_before name k (y ∷ ys) x after differ =
@@ -36,11 +36,11 @@ cut [] i x P e then = absurd (let none : None ≡ Some x = e in cc)
 cut (y ∷ ys) zero x P e then = then ys (ap (λ z. z ∷ ys) (sym (same_some y x e)))
 cut (y ∷ ys) (suc i) x P e then = cut ys i x P e (λ after is. then after (ap (λ zs. y ∷ zs) is))
 
--- names that differ are new as they are read
+-- If the names of a list differ, each name is new as it is read.
 pub all_new : {A : Type 0} (name : A → List ℕ) (xs : List A) → NamesDiffer name xs → AllAfter (λ (done : List A) (x : A). number_from name 0 done (name x) ≡ None) xs
 all_new {A} name xs differ i x e = cut xs i x _ e (λ after is.
     none_before name 0 (take i xs) x after (subst (NamesDiffer name) (sym is) differ))
 
--- two facts that each element keeps
+-- If each element of a list satisfies two facts together with the elements before it, it satisfies both at once.
 pub both_after : {A : Type 0} (F G : List A → A → Type 0) (xs : List A) → AllAfter F xs → AllAfter G xs → AllAfter (λ (done : List A) (x : A). F done x × G done x) xs
 both_after F G xs f g i x e = (f i x e, g i x e)

@@ -45,7 +45,7 @@ use Rattle.scram_types.proofs.Items.{some_item}
 use Rattle.scram_doc.proofs.ReadBack.{list_back, whole_back}
 use Rattle.reconf_spec.proofs.Sets.{all_free, set_back}
 
--- the name of a configuration is not `*`
+-- The name of a configuration is not `*`.
 no_star_by : (b : Bool) (text : List ℕ) → (b ≡ true → text ≡ codes "*") → is_name text ≡ true → b ≡ false
 no_star_by true text same named = absurd (let wrong : false ≡ true = subst (λ (t : List ℕ). is_name t ≡ true) (same refl) named in cc)
 no_star_by false text same named = refl
@@ -118,7 +118,7 @@ bounds_back spec is new at =
     list_back (NewBound spec.confs) (read_bound spec.confs) (bound_data spec.confs) (bound_back spec.confs is.confs_differ) 0 144 at spec.bounds (omega arith) is.bounds_count
     (λ i x e. record { new = new i x e; is = is.bounds i x e })
 
--- a whole number is read back
+-- A whole number of at most 1,000,000,000 is read back as it was written.
 number_small : (n : ℤ) → n ≤ℤ pos 1000000000 → as_i64 (of_integer n) ≡ Some n
 number_small (pos n) small = let below : n < 2 ^ 63 = omega (arith, ints, small) in rw (lt-ltb n (2 ^ 63) below) refl
 number_small (negsuc n) small = refl
@@ -148,7 +148,7 @@ variable_back apps app a variable there below is =
     let named : number_in (variable_names app.kind.0) is.text ≡ Some variable = subst (λ (x : AppSpec). number_in (variable_names x.kind.0) is.text ≡ Some variable) same is.named in
     rw (agree.spelled variable is.text named) named
 
--- the common part of invariants and preconditions, as it is read back
+-- The common part of invariants and preconditions is read back as it was written.
 interval_back : (spec : Parts) → IsSpec spec → (at : List ℕ) (app : AppId) (variable : ℕ) (least greatest : ℤ) → IsInterval spec.apps app variable least greatest → IsWritableInterval spec.apps app variable least greatest
     → read_interval spec.apps at (string (name_of_item name_of_app spec.apps app.0)) (string (name_of_variable spec.apps app.0 variable)) (integer_data least) (integer_data greatest)
     ≡ Ok (record { app = app; variable = variable; ends = record { least = least; greatest = greatest } })

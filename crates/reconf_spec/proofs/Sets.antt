@@ -27,7 +27,7 @@ pow_positive (suc k) = let rest = pow_positive k in omega (arith, rest)
 low_part : (n k : ℕ) → n % 2 ^ k < 2 ^ k
 low_part n k = let positive = pow_positive k in omega (arith, positive)
 
--- the bits below k + 1 are bit k and those below it
+-- The bits of a number below k + 1 are bit k and the bits below it.
 one_bit_more : (n k : ℕ) → n % 2 ^ suc k ≡ bit_at n k * 2 ^ k + n % 2 ^ k
 one_bit_more n k = let next : suc k ≡ 1 + k = omega arith in rw (next) (mod-pow-add n 1 k)
 
@@ -57,7 +57,7 @@ bit_cases zero below P off on = off refl
 bit_cases (suc zero) below P off on = on refl
 bit_cases (suc (suc b)) below P off on = absurd (omega (arith, below))
 
--- no number of a set is barred
+-- No number of a set is among the barred numbers.
 abbrev pub IsFree : ℕ → ℕ → Type 0
 IsFree set barred = (p : ℕ) → has_bit set p ≡ true → has_bit barred p ≡ false
 
@@ -94,6 +94,6 @@ set_back name xs unknown barred most at set few differ below free =
     (subst (λ (n : ℕ). folded_from (read_into name xs unknown barred) at 0 n (items_of (names_data name set 0 xs)) ≡ Ok set) none
     (names_back name xs [] xs unknown barred at 0 set differ refl below free))
 
--- no number is barred
+-- If no numbers are barred, no number of a set is barred.
 pub all_free : (set : ℕ) → IsFree set 0
 all_free set p is = rw (bit_at-zero p) refl

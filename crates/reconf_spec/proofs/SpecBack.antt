@@ -1,4 +1,4 @@
--- The value of a specification that can be written is read back to it.
+-- If a specification can be written, its value is read back as the same specification.
 use Rattle.std.proofs.Common.{◌≡◌, ◌≤◌, ℕ, List, [], ◌∷◌, length, map, arith, refl}
 use Rattle.std.specs.Prelude.{Ok, Some, IsUtf8, codes}
 use Rattle.std.proofs.lemmas.Bool.{le-leb}
@@ -48,7 +48,7 @@ assumption_back spec is at =
 abbrev names_of : Parts → Names
 names_of spec = record { procs = spec.procs; apps = spec.apps; confs = spec.confs; factors = spec.factors }
 
--- the lists to which the rest of a document refers, as they are read back
+-- The processors, applications, configurations and factors are read back as they were written.
 record NamesAreBack (spec : Parts) : Type 0 where
   procs : read_procs (member_path [] (codes "processors")) (list_data proc_data spec.procs) ≡ Ok spec.procs
   apps : read_unranked (member_path [] (codes "apps")) (list_data (app_data spec.apps) spec.apps) ≡ Ok (map unranked spec.apps)
@@ -70,7 +70,7 @@ names_back [] Retarget spec back = rw (back.procs, back.apps, back.ranks, back.c
 names_back [] Settle spec back = rw (back.procs, back.apps, back.ranks, back.confs, back.factors) refl
 names_back (demand ∷ demands) policy spec back = rw (back.procs, back.apps, back.ranks, back.confs, back.factors) refl
 
--- the specification with these demands and this policy
+-- The specification with these demands and this policy in place of its own.
 abbrev with_choice : List Demand → Policy → Parts → Parts
 with_choice demands policy spec = record {
   procs = spec.procs;
@@ -90,7 +90,7 @@ with_choice demands policy spec = record {
   window = spec.window;
 }
 
--- the rest of a document as it is read back, without its policy and its demands
+-- The rest of a document, without its policy and its demands, is read back as it was written.
 record RestIsBack (spec : Parts) : Type 0 where
   rules : read_choices spec.procs spec.confs spec.factors (member_path [] (codes "rules")) (list_data (choice_data spec) spec.rules) ≡ Ok spec.rules
   bounds : read_bounds spec.confs (member_path [] (codes "bounds")) (list_data (bound_data spec.confs) spec.bounds) ≡ Ok spec.bounds
@@ -111,7 +111,7 @@ rest_is_back spec is writable = record {
   assumption = assumption_back spec is (member_path [] (codes "assumption"));
 }
 
--- the demands as they are read back
+-- The demands of a specification are read back as they were written.
 abbrev AreBack : Parts → List Demand → Type 0
 AreBack spec demands =
     read_demands spec.procs spec.apps spec.confs spec.factors (member_path [] (codes "demands")) (list_data (demand_data spec) demands) ≡ Ok demands

@@ -39,7 +39,7 @@ use Rattle.spec_table.specs.Demands.{read_demands}
 use Rattle.spec_table.specs.Intervals.{read_invariants, read_preconditions}
 use Rattle.spec_table.specs.Vocabulary.{Names}
 
--- The goal of the mission.
+-- The goal of the mission that the value at a path encodes, or the first broken rule.
 abbrev pub read_goal : List ℕ → Data → Result Goal DocFault
 read_goal at d =
     chain (object_at at d) (λ (_ : ⊤).
@@ -50,7 +50,7 @@ read_goal at d =
     chain (int_at (pos 0) (pos 3599) (member_path at (codes "heading")) heading) (λ (heading : ℤ).
     Ok (record { altitude = altitude; heading = heading })))))))
 
--- The failure assumption.
+-- The failure assumption that the value at a path encodes, or the first broken rule.
 abbrev pub read_assumption : List ℕ → Data → Result Assumption DocFault
 read_assumption at d =
     chain (object_at at d) (λ (_ : ⊤).
@@ -63,46 +63,48 @@ read_assumption at d =
     chain (whole_at 1 1001 (member_path at (codes "window")) window) (λ (window : ℕ).
     Ok (record { halts = halts; changes = changes; window = window })))))))))
 
--- The policy with this name.
+-- The policy with this name, or the fault of an unknown policy.
 abbrev pub policy_named : List ℕ → List ℕ → Result Policy DocFault
 policy_named at text =
     if bytes_eq text (codes "retarget") then Ok Retarget
     else (if bytes_eq text (codes "settle") then Ok Settle else broken UNKNOWN_POLICY at)
 
--- The policy that a value names.
+-- The policy that the text at a path names, or the first broken rule.
 abbrev pub read_policy : List ℕ → Data → Result Policy DocFault
 read_policy at d = chain (text_at at d) (λ (text : List ℕ). policy_named at text)
 
--- The value is the number of a version.
+-- `Ok` if the value at a path is the number of a version, else the first broken rule.
 abbrev pub check_version : List ℕ → Data → Result ⊤ DocFault
 check_version at d =
     chain (whole_at 0 1001 at d) (λ (version : ℕ).
     if nat_le 1 version && nat_le version 3 then Ok tt else broken UNKNOWN_VERSION at)
 
--- The policy of a document. A document of version 1 has none, and retargets.
+-- The policy of a document, or the first broken rule. A document of version 1 has no policy, which means to retarget.
 abbrev pub policy_in : Data → Result Policy DocFault
 policy_in d = if has_policy d then member_in (codes "policy") read_policy d else Ok Retarget
 
--- The demands of a document. The list is empty if its version has no demands.
+-- The demands of a document, or the first broken rule. The list is empty if the document's version has no demands.
 abbrev pub demands_in : Names → Data → Result (List Demand) DocFault
 demands_in names d =
     if has_demands d then member_in (codes "demands") (read_demands names.procs names.apps names.confs names.factors) d else Ok []
 
--- The names with the configurations and factors, given the processors and applications.
+-- The items to which the rest of a document refers, given its processors and applications, or the first broken rule
+-- of its configurations and factors.
 abbrev pub names_with : List Proc → List AppSpec → Data → Result Names DocFault
 names_with procs apps d =
     chain (member_in (codes "configurations") (read_confs procs apps) d) (λ (confs : List Conf).
     chain (member_in (codes "factors") read_factors d) (λ (factors : List Factor).
     Ok (record { procs = procs; apps = apps; confs = confs; factors = factors })))
 
--- The items to which the rest of a document refers: its processors, applications, configurations and factors.
+-- The items to which the rest of a document refers, or the first broken rule. They are its processors, applications,
+-- configurations and factors.
 abbrev pub names_in : Data → Result Names DocFault
 names_in d =
     chain (member_in (codes "scram") check_version d) (λ (_ : ⊤).
     chain (member_in (codes "processors") read_procs d) (λ (procs : List Proc).
     chain (apps_in d) (λ (apps : List AppSpec). names_with procs apps d)))
 
--- The specification with these names and the rest of its document.
+-- The specification of these items and the rest of its document.
 abbrev pub with_rest : Names → Rest → Parts
 with_rest names rest = record {
   procs = names.procs;
@@ -122,7 +124,8 @@ with_rest names rest = record {
   window = rest.assumed.window;
 }
 
--- The specification, given its names.
+-- The specification that a document encodes, given the items to which the rest of the document refers, or the first
+-- broken rule.
 abbrev pub rest_in : Names → Data → Result Parts DocFault
 rest_in names d =
     chain (member_in (codes "rules") (read_choices names.procs names.confs names.factors) d) (λ (rules : List Choice).
@@ -152,29 +155,31 @@ rest_in names d =
       window = assumed.window;
     }))))))))))
 
--- The specification that a document encodes.
+-- The specification that a document encodes, or the first broken rule.
 abbrev pub spec_in : Data → Result Parts DocFault
 spec_in d =
     chain (members_tested d) (λ (_ : ⊤).
     chain (names_in d) (λ (names : Names). rest_in names d))
 
--- The specification that the bytes encode. Their number is checked first.
+-- The specification that the bytes encode, or the first broken rule. The number of bytes is checked first.
 abbrev pub spec_of : List ℕ → Result Parts DocFault
 spec_of bytes =
     if nat_le (length bytes) MAX_SPECIFICATION_BYTES then chain (parsed bytes) (λ (d : Data). spec_in d) else broken TOO_LONG []
 
--- The applications with their needs, before they are ranked.
+-- The applications of a document with their needs, before they are ranked, or the first broken rule. The version and
+-- the processors are checked first.
 abbrev pub unranked_names_in : Data → Result (List AppSpec) DocFault
 unranked_names_in d =
     chain (member_in (codes "scram") check_version d) (λ (_ : ⊤).
     chain (member_in (codes "processors") read_procs d) (λ (_ : List Proc).
     member_in (codes "apps") read_unranked d))
 
--- The applications of a document that is an object with the right members, before they are ranked.
+-- The applications of a document before they are ranked, or the first broken rule. The members of the document are
+-- checked first.
 abbrev pub unranked_in : Data → Result (List AppSpec) DocFault
 unranked_in d = chain (members_tested d) (λ (_ : ⊤). unranked_names_in d)
 
--- The applications of the document that the bytes encode, before they are ranked.
+-- The applications of the document that the bytes encode, before they are ranked, or the first broken rule.
 abbrev pub unranked_of : List ℕ → Result (List AppSpec) DocFault
 unranked_of bytes =
     if nat_le (length bytes) MAX_SPECIFICATION_BYTES then chain (parsed bytes) (λ (d : Data). unranked_in d) else broken TOO_LONG []

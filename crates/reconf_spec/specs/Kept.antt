@@ -10,14 +10,14 @@ use Rattle.reconf_spec.specs.declared.documents.Rest.{Rest}
 use Rattle.scram_doc.specs.Lists.{AllAfter}
 use Rattle.spec_table.specs.Facts.{FitsChoice, IsNewBound, FitsInvariant, FitsPrecondition, IsNewDemand}
 
--- A failure assumption within its limits.
+-- A failure assumption is within its limits.
 pub record FitsAssumption (assumed : Assumption) : Type 0 where
   pub halts : assumed.halts ≤ 8
   pub changes : assumed.changes ≤ 16
   pub window_least : 1 ≤ assumed.window
   pub window_most : assumed.window ≤ 1000
 
--- The rest of a document fits its names.
+-- The rest of a document fits its processors, applications, configurations and factors.
 pub record FitsRest (procs : List Proc) (apps : List AppSpec) (confs : List Conf) (factors : List Factor) (rest : Rest) : Type 0 where
   pub few_rules : length rest.rules ≤ 64
   pub rules : AllAfter (λ _. FitsChoice procs confs factors) rest.rules

@@ -1,4 +1,4 @@
--- The properties of a specification that a document can express, in addition to its invariant.
+-- The properties that a specification needs to be written as a document, in addition to its invariant.
 use Rattle.std.specs.Prelude.{◌≤ℤ◌, ℕ, ℤ, Bool, List, map, is_some, slice_get}
 use Rattle.scram_types.specs.declared.ids.AppId.{AppId}
 use Rattle.scram_types.specs.declared.specification.AppSpec.{AppSpec}
@@ -14,21 +14,21 @@ use Rattle.spec_table.specs.Choices.{wants_factor}
 use Rattle.spec_table.specs.Facts.{IsVariable}
 use Rattle.spec_members.specs.Kept.{IsWritableApp, NoDuplicates, rank_of}
 
--- An earlier entry requires a value of the same factor.
+-- An earlier entry of a list requires a value of the same factor.
 abbrev pub lists_want : List Want → Want → Bool
 lists_want done want = wants_factor done want.factor.0
 
--- The pair already has a bound.
+-- An earlier entry of a list is a bound for the same pair of configurations.
 abbrev pub lists_pair : List Bound → Bound → Bool
 lists_pair done bound = is_some (bound_in done bound.from.0 bound.to.0)
 
--- A non-empty interval for a variable that has a name.
+-- An interval is not empty, and its variable has a name.
 pub record IsWritableInterval (apps : List AppSpec) (app : AppId) (variable : ℕ) (least greatest : ℤ) : Type 0 where
   pub named : IsVariable (slice_get apps app.0) variable
   pub in_order : least ≤ℤ greatest
 
--- No list names an item twice, each application has the rank that its needs determine, and each interval is non-empty
--- and for a variable that has a name.
+-- No list names an item twice, each application has the rank that its needs determine, and each interval is not empty
+-- and belongs to a variable that has a name.
 pub record IsWritable (spec : Parts) : Type 0 where
   pub apps : Each IsWritableApp spec.apps
   pub ranks : IsRanking spec.apps (map rank_of spec.apps)

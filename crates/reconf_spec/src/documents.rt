@@ -1,4 +1,4 @@
-//! Whole documents.
+//! How the parts of a document are read and joined to a specification.
 
 ghost use Rattle.std.specs.Prelude.{◌≡◌, ◌≤◌, length, IfOk};
 ghost use Rattle.serde_json.specs.View.{view};
@@ -42,7 +42,7 @@ fn read_goal(v: &Value, at: &Path) -> Result<Goal, DocFault>
     Ok(Goal { altitude, heading })
 }
 
-/// The failure assumption.
+/// The failure assumption of a document.
 #[derive(Clone, Copy)]
 struct Assumption {
     halts: u8,
@@ -111,7 +111,7 @@ fn read_policy_of(members: &Members<'_>) -> Result<Policy, DocFault>
     }
 }
 
-/// Returns the demands of a document. The list is empty if its version has no demands.
+/// Returns the demands of a document. The list is empty if the document's version has no demands.
 fn read_demands_of(
     alloc: Global,
     vocabulary: &Vocabulary,
@@ -128,7 +128,7 @@ fn read_demands_of(
     }
 }
 
-/// The part of a document after its names.
+/// The part of a document that follows its processors, applications, configurations and factors.
 #[derive(Drop)]
 struct Rest {
     rules: List<Choice>,
@@ -174,7 +174,7 @@ fn read_after_names(
     })
 }
 
-/// Creates the specification of these names and the rest of its document.
+/// Creates the specification of these items and the rest of its document.
 fn join(vocabulary: Vocabulary, rest: Rest) -> Spec
     requires fits { FitsRest vocabulary.procs vocabulary.apps vocabulary.confs vocabulary.factors rest }
     ensures value { result ≡ with_rest vocabulary rest }
@@ -199,7 +199,7 @@ fn join(vocabulary: Vocabulary, rest: Rest) -> Spec
     }
 }
 
-/// Reads the specification, given its names.
+/// Reads the rest of a document, and returns the specification that it forms with the items read before.
 pub(crate) fn read_rest(
     alloc: Global,
     vocabulary: Vocabulary,

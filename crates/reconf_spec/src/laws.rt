@@ -1,8 +1,8 @@
-//! The common properties of the crates below, as laws. Each function's contract is a law.
+//! Properties that the crates below have in common, as laws. The contract of each function is a law.
 
 ghost use Rattle.reconf_spec.specs.Laws.{NamesAreOne};
 
-/// States that the rule for names is the same in a document and in a specification.
+/// States that the rule for names is the same in documents and in specifications.
 pub fn names_are_one()
     ensures { NamesAreOne }
 {}

@@ -1,5 +1,5 @@
 //! Specification documents. `read_spec` returns the specification that the bytes encode, or the first rule that they
-//! break with its path, exactly as its definition says.
+//! break with its path, exactly as its definition states.
 #![tactic(auto)]
 
 mod documents;

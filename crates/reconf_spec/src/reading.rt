@@ -1,4 +1,4 @@
-//! The reading of specifications.
+//! How specifications are read.
 
 ghost use Rattle.std.specs.Prelude.{[], IfErr, IfOk, OnOk};
 ghost use Rattle.serde_json.specs.View.{view};
@@ -27,7 +27,7 @@ use spec_table::configurations::read_confs;
 use spec_table::vocabulary::Vocabulary;
 use std::alloc::Global;
 
-/// Reads the configurations and factors, given the processors and applications.
+/// Reads the configurations and factors of a document, given its processors and applications.
 fn read_more_names(
     alloc: Global,
     procs: Numbered<Proc, ByName>,
@@ -74,9 +74,12 @@ fn read_document(alloc: Global, document: &Value) -> Result<Spec, SpecError>
     Ok(spec)
 }
 
-/// Returns the specification that the bytes encode, or the first rule that they break with its path. A fault has a
-/// cycle of needs if and only if the applications are read and their needs have one. A specification that is read can
-/// be written again.
+/// Returns the specification that the bytes encode. A specification that is read can be written again.
+///
+/// # Errors
+///
+/// Returns an error with the first rule that the bytes break and its path, and `NoMemory` if memory runs out. A fault
+/// contains a cycle of needs if and only if the applications are read and their needs have a cycle.
 pub fn read_spec(alloc: Global, bytes: &[u8]) -> Result<Spec, SpecError>
     ensures value { AnswersSpec (spec_of bytes.now) result }
     ensures cycle { IfErr result (λ error. ShowsCycle (unranked_of bytes.now) error) }

@@ -1,4 +1,4 @@
-//! The writing of specifications.
+//! How specifications are written.
 
 ghost use Rattle.std.specs.Prelude.{◌≡◌, Ok, Some, IfOk};
 ghost use Rattle.serde_json.specs.Read.{read};
@@ -13,7 +13,11 @@ use std::alloc::Global;
 /// Returns the canonical text of a specification, which is compact JSON. With demands it is of version 3. Without
 /// demands it is of version 1 if the policy is to retarget, and of version 2 if it is to settle. The places of a
 /// configuration, the applications of a demand, and sets of processors, applications and configurations are in the
-/// order of their items. Every other list keeps its order.
+/// order in which the specification lists them. Every other list keeps its order.
+///
+/// # Errors
+///
+/// Returns `NoMemory` if memory runs out.
 pub fn write_spec(alloc: Global, spec: &Spec) -> Result<Vec<u8>, NoMemory>
     ensures text { IfOk result (λ text. text.items ≡ spec_text spec.now) }
     ensures value { IfOk result (λ text. read text.items ≡ Some (spec_data spec.now)) }

@@ -1,4 +1,4 @@
--- Needs and ranks that are set in the applications from the last one on.
+-- Needs and ranks are set in the applications one by one, from the last application on.
 use Rattle.std.proofs.Common.{◌≡◌, ◌<◌, ℕ, List, [], ◌∷◌, ◌++◌, length, slice_index_or, slice_set, arith, refl, ap}
 use Rattle.scram_types.specs.declared.ids.AppId.{AppId}
 use Rattle.scram_types.specs.declared.specification.AppSpec.{AppSpec}

@@ -17,7 +17,7 @@ use Rattle.spec_members.specs.Kept.{AreApps, IsWritableApp, rank_of}
 use Rattle.spec_apps.specs.Unranked.{IsUnranked, AreUnranked}
 use Rattle.spec_members.proofs.Distinct.{each_of, new_differ}
 
--- an application with its needs, and the origins of both
+-- An application with its needs has its other parts from `apps` and its needs from `needs`.
 record Joined (apps : List AppSpec) (needs : List (List AppId)) (a : ℕ) (whole : AppSpec) : Type 0 where
   app : AppSpec
   named : List AppId
@@ -73,7 +73,7 @@ unranked_fit apps needs least most same fits named =
       each = λ i x e. rw (count) (unranked apps needs x i (joined apps needs i x same e) fits named);
     }
 
--- needs and ranks do not change the names
+-- Setting needs and ranks does not change the names of applications.
 pub joined_names : (apps : List AppSpec) (needs : List (List AppId)) → map name_of_app (with_needs apps needs) ≡ map name_of_app apps
 joined_names [] needs = refl
 joined_names (app ∷ apps) [] = refl
@@ -84,7 +84,7 @@ graded_names [] ranks = refl
 graded_names (app ∷ apps) [] = refl
 graded_names (app ∷ apps) (rank ∷ ranks) = ap (λ (names : List (List ℕ)). name_of_app app ∷ names) (graded_names apps ranks)
 
--- an application with its rank, and the origins of both
+-- An application with its rank has its other parts from `apps` and its rank from `ranks`.
 record Graded (apps : List AppSpec) (ranks : List ℕ) (a : ℕ) (whole : AppSpec) : Type 0 where
   app : AppSpec
   there : slice_get apps a ≡ Some app
@@ -182,6 +182,6 @@ ranked_fit apps ranks is small fall fits =
 pub needs_in_range : (apps : List AppSpec) → AreUnranked apps → NeedsInRange apps
 needs_in_range apps fits = λ a app e. (fits.each a app e).needs
 
--- a whole list that was written in place
+-- If a list of length `len` is written over the front of another list, the first `len` elements are that list.
 pub written_whole : (len : ℕ) (new old : List AppSpec) → length new ≡ len → take len (new ++ drop (length new) old) ≡ new
 written_whole len new old same = rw (← same) (take-append_seam new (drop (length new) old))

@@ -1,4 +1,4 @@
--- Ranks are the lengths of the longest chains of needs, and a cycle has chains of any length.
+-- Ranks are the lengths of the longest chains of needs. A cycle of needs has chains of every length.
 use Rattle.std.proofs.Common.{◌≡◌, ◌<◌, ◌≤◌, ℕ, zero, suc, min, Bool, true, false, List, [], ◌∷◌, length, map, arith, refl, sym, ap, subst, ◌&&◌, ◌∙◌}
 use Rattle.std.specs.Prelude.{Some, None, slice_get, slice_index, nat_lt, All}
 use Rattle.std.specs.List.{list_all}
@@ -25,7 +25,7 @@ and_false : (b : Bool) → b && false ≡ false
 and_false true = refl
 and_false false = refl
 
--- each application's rank, as its needs determine it
+-- If each application has the rank that its needs determine, the list of ranks is the list of these values.
 ranks_map : (whole : List ℕ) (apps : List AppSpec) (ranks : List ℕ) → length ranks ≡ length apps
     → ((a : ℕ) (app : AppSpec) → slice_get apps a ≡ Some app → slice_get ranks a ≡ Some (rank_after whole app.needs))
     → ranks ≡ map (λ (app : AppSpec). rank_after whole app.needs) apps
@@ -72,7 +72,7 @@ mapped_at f [] a app e = absurd (let none : None ≡ Some app = e in cc)
 mapped_at f (x ∷ apps) zero app e = let is : x ≡ app = cc in ap f is
 mapped_at f (x ∷ apps) (suc a) app e = mapped_at f apps a app e
 
--- if a needs b, a chain from a is longer by one link than the longest from b
+-- If `a` needs `b`, the longest chain from `a` is at least one link longer than the longest chain from `b`.
 one_more_link : (links : ℕ) (apps : List AppSpec) (a b : AppId) → Needs apps a b → links ≤ slice_index (longest_chains links apps) b.0 → suc links ≤ slice_index (longest_chains (suc links) apps) a.0
 one_more_link links apps a b is long =
     let here = mapped_at (λ (app : AppSpec). rank_after (longest_chains links apps) app.needs) apps a.0 is.app is.there in
@@ -106,7 +106,7 @@ not_all [] n high = absurd (omega (arith, high))
 not_all (r ∷ rs) zero high = let no_rank : nat_lt r 8 ≡ false = grind (arith, nat_tests, high) in rw (no_rank) refl
 not_all (r ∷ rs) (suc n) high = rw (not_all rs n high) (and_false (nat_lt r 8))
 
--- a cycle of needs cannot be ranked
+-- Applications with a cycle of needs cannot be ranked.
 pub cycle_unranked : (apps : List AppSpec) (cycle : List AppId) → IsCycle apps cycle → are_ranked apps ≡ false
 cycle_unranked apps cycle is =
     let closed : NeedsInTurn apps (is.first ∷ is.others) is.first = subst (λ (xs : List AppId). NeedsInTurn apps xs is.first) is.is is.closed in
@@ -119,7 +119,7 @@ all_small (r ∷ rs) small =
     let is : nat_lt r 8 ≡ true = grind (arith, nat_tests, low) in
     rw (is, all_small rs (All-tail (λ (rank : ℕ). rank < 8) r rs small)) refl
 
--- ranks are the lengths of the longest chains
+-- If ranks are those that needs determine, they are the lengths of the longest chains.
 pub ranks_are : (apps : List AppSpec) (ranks : List ℕ) → IsRanking apps ranks → All (λ (rank : ℕ). rank < 8) ranks → longest_chains 8 apps ≡ ranks
 ranks_are apps ranks is small = capped apps ranks is 8 ∙ uncapped ranks small
 

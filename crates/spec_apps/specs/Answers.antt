@@ -1,4 +1,4 @@
--- The results of a reading that may run out of memory.
+-- The results of a reading that may run out of memory, and the cycles that they contain.
 use Rattle.std.specs.Prelude.{◌≡◌, ℕ, List, [], map, Some, option_map, slice_get, Result, Ok, Err, ⊤, Bool, true, false}
 use Rattle.scram_types.specs.declared.ids.AppId.{AppId}
 use Rattle.scram_types.specs.declared.specification.AppSpec.{AppSpec}
@@ -11,44 +11,44 @@ use Rattle.spec_apps.specs.declared.fault.SpecError.TheVariants.{Fault, NoMemory
 use Rattle.spec_members.specs.Names.{name_of_app}
 use Rattle.spec_apps.specs.Needs.{are_ranked}
 
--- The answer is the result of the reading, or out of memory.
+-- A result is that of the reading, without the cycle of a fault, or `NoMemory`.
 abbrev pub AnswersSpec : {A : Type 0} → Result A DocFault → Result A SpecError → Type 0
 AnswersSpec reading (Ok a) = reading ≡ Ok a
 AnswersSpec reading (Err (Fault fault)) = reading ≡ Err (record { rule = fault.rule; path = fault.path })
 AnswersSpec reading (Err NoMemory) = ⊤
 
--- The cycle is one of these applications if they cannot be ranked, and empty otherwise.
+-- A cycle is a cycle of needs of these applications if they cannot be ranked, and is empty otherwise.
 abbrev pub CycleIf : Bool → List AppSpec → List AppId → Type 0
 CycleIf true apps cycle = cycle ≡ []
 CycleIf false apps cycle = IsCycle apps cycle
 
--- The cycle is one of these applications if they were read and cannot be ranked, and empty otherwise.
+-- A cycle is a cycle of needs of these applications if they were read and cannot be ranked, and is empty otherwise.
 abbrev pub CycleAmong : Result (List AppSpec) DocFault → List AppId → Type 0
 CycleAmong (Err fault) cycle = cycle ≡ []
 CycleAmong (Ok apps) cycle = CycleIf (are_ranked apps) apps cycle
 
--- Each name is that of the application at the same index in a list.
+-- Each name is the name of the application at the same index in a list of applications.
 abbrev pub AreNamed : List AppSpec → List AppId → List (List ℕ) → Type 0
 AreNamed apps named names =
     map (λ (a : AppId). option_map name_of_app (slice_get apps a.0)) named ≡ map (λ (name : List ℕ). Some name) names
 
--- The names are those of the listed applications if the applications were read, and there are none otherwise.
+-- The names are those of the listed applications if the applications were read, and are empty otherwise.
 abbrev pub NamedAmong : Result (List AppSpec) DocFault → List AppId → List (List ℕ) → Type 0
 NamedAmong (Err fault) named names = names ≡ []
 NamedAmong (Ok apps) named names = AreNamed apps named names
 
--- The cycle of a fault is one of the applications as they were read, with their names. There is none if they were not
--- read or have no cycle.
+-- A fault contains a cycle of needs of the applications as they were read, with the names of the applications in it.
+-- The cycle is empty if the applications were not read or have no cycle.
 abbrev pub ShowsCycle : Result (List AppSpec) DocFault → SpecError → Type 0
 ShowsCycle unranked (Fault fault) =
     CycleAmong unranked fault.cycle.items × NamedAmong unranked fault.cycle.items fault.names.items
 ShowsCycle unranked NoMemory = ⊤
 
--- A broken rule, without a cycle.
+-- The error of a broken rule, without a cycle.
 abbrev pub plain_fault : DocFault → SpecError
 plain_fault fault = Fault (record { rule = fault.rule; path = fault.path; cycle = record { items = [] }; names = record { items = [] } })
 
--- The reason why a part of a document was not read, without a cycle.
+-- The error of a part of a document that was not read, without a cycle.
 abbrev pub plain_error : DocError → SpecError
 plain_error (doc.Fault fault) = plain_fault fault
 plain_error doc.NoMemory = NoMemory

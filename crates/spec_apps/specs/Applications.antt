@@ -1,4 +1,4 @@
--- The reading of applications, before the needs are looked up by name.
+-- How applications are read, before the needs are looked up by name.
 use Rattle.std.specs.Prelude.{ℕ, List, [], codes, is_some, Result, Ok, ⊤, if◌then◌else◌}
 use Rattle.serde_json.specs.Data.{Data, Items}
 use Rattle.scram_types.specs.declared.specification.ModeSpec.{ModeSpec}
@@ -16,16 +16,17 @@ use Rattle.scram_doc.specs.Lists.{elements_at, folded_from}
 use Rattle.spec_members.specs.Names.{read_new_name, name_of_app}
 use Rattle.spec_members.specs.Modes.{read_kind_mode}
 
--- A mode of a kind that is not listed yet.
+-- The mode that the text at a path names, which the modes `done` must not contain, or the first broken rule.
 abbrev pub read_new_mode : ℕ → List ModeSpec → List ℕ → Data → Result ℕ DocFault
 read_new_mode kind done at d =
     chain (read_kind_mode kind at d) (λ (mode : ℕ). if is_some (mode_in done mode) then broken MODE_TWICE at else Ok mode)
 
--- The number of frames of a phase.
+-- The number of frames of a phase, 1 to 16, or the first broken rule.
 abbrev pub read_phase : List ℕ → Data → Result ℕ DocFault
 read_phase at d = whole_at 1 17 at d
 
--- A mode that an application lists, after the modes before it.
+-- The mode that the value at a path encodes, with its load and phases, or the first broken rule. It must not be among
+-- the modes `done`.
 abbrev pub read_mode : ℕ → List ℕ → List ModeSpec → Data → Result ModeSpec DocFault
 read_mode kind at done d =
     chain (object_at at d) (λ (_ : ⊤).
@@ -42,23 +43,24 @@ read_mode kind at done d =
     chain (read_phase (member_path at (codes "init")) init) (λ (init : ℕ).
     Ok (record { mode = record { 0 = mode }; load = load; halt = halt; prepare = prepare; init = init })))))))))))))
 
--- The modes that an application lists, 1 to 3 of them.
+-- The 1 to 3 modes that an application lists, or the first broken rule.
 abbrev pub read_modes : ℕ → List ℕ → Data → Result (List ModeSpec) DocFault
 read_modes kind at d = elements_at (read_mode kind) 1 3 at d
 
--- A kind of application, from its name.
+-- The kind of application that the text at a path names, or the first broken rule.
 abbrev pub read_kind : List ℕ → Data → Result ℕ DocFault
 read_kind at d = chain (text_at at d) (λ (text : List ℕ). or_broken UNKNOWN_KIND at (number_in kind_names text))
 
--- The value at a path is a text.
+-- `Ok` if the value at a path is a text, else the first broken rule.
 abbrev pub check_text : List ℕ → ⊤ → Data → Result ⊤ DocFault
 check_text at made d = chain (text_at at d) (λ (_ : List ℕ). Ok tt)
 
--- The value at a path is a list of 0 to 8 texts.
+-- `Ok` if the value at a path is a list of 0 to 8 texts, else the first broken rule.
 abbrev pub check_text_list : List ℕ → Data → Result ⊤ DocFault
 check_text_list at d = chain (list_at 0 8 at d) (λ (ds : Items). folded_from check_text at 0 tt ds)
 
--- An application without its needs and its rank.
+-- The application that the value at a path encodes, without its needs and its rank, or the first broken rule. No
+-- application of `done` may have its name.
 abbrev pub read_app : List ℕ → List AppSpec → Data → Result AppSpec DocFault
 read_app at done d =
     chain (object_at at d) (λ (_ : ⊤).

@@ -1,4 +1,4 @@
-//! Applications and their modes, before the needs are looked up by name.
+//! Applications and their modes, before their needs are looked up by name.
 
 ghost use Rattle.std.specs.Prelude.{◌≡◌, ◌≤◌, ◌<◌, None, length, is_some, IfOk};
 ghost use Rattle.serde_json.specs.View.{view};
@@ -107,7 +107,7 @@ fn read_kind(v: &Value, at: &Path) -> Result<KindId, DocFault>
     }
 }
 
-/// Checks that the value is a list of 0 to 8 texts.
+/// Checks that a value is a list of 0 to 8 texts.
 fn check_text_list(v: &Value, at: &Path) -> Result<(), DocFault>
     requires room { length at.now ≤ 40 }
     ensures { result ≡ check_text_list at.now (view v.now) }
@@ -119,7 +119,7 @@ fn check_text_list(v: &Value, at: &Path) -> Result<(), DocFault>
     Ok(())
 }
 
-/// A reader of applications without their needs and ranks.
+/// A reader of applications, without their needs and their ranks.
 pub struct Apps;
 
 impl NamedElements<AppSpec, ByName> for Apps {

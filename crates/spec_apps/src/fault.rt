@@ -1,4 +1,4 @@
-//! The reasons why a specification is not read.
+//! The errors of reading a specification.
 
 ghost use Rattle.std.specs.Prelude.{◌≡◌};
 ghost use Rattle.spec_apps.specs.Answers.{plain_fault, plain_error};
@@ -7,8 +7,8 @@ use arrayvec::ArrayVec;
 use scram_doc::{DocError, DocFault, Path};
 use scram_types::{AppId, Name};
 
-/// The first rule that a document breaks, with the path of the value where it is broken. `cycle` is a cycle of needs if
-/// there is one, and empty otherwise. `names` are the names of its applications, in order.
+/// The first rule that a document breaks, with the path of the value that breaks it. `cycle` is a cycle of needs, or
+/// is empty if there is none. `names` contains the names of the applications in `cycle`, in order.
 #[derive(Debug, Drop)]
 pub struct SpecFault {
     pub rule: u8,
@@ -23,11 +23,11 @@ pub enum SpecError {
     /// The document breaks a rule.
     Fault(SpecFault),
 
-    /// Out of memory.
+    /// Memory ran out.
     NoMemory,
 }
 
-/// Converts a broken rule, without a cycle.
+/// Converts a broken rule to an error without a cycle.
 impl From<DocFault> for SpecError {
     ghost from_gives = { λ fault error. error ≡ plain_fault fault };
 
@@ -41,7 +41,7 @@ impl From<DocFault> for SpecError {
     }
 }
 
-/// Converts the reason why a part of the document was not read, without a cycle.
+/// Converts the error of a part of the document to an error without a cycle.
 impl From<DocError> for SpecError {
     ghost from_gives = { λ why error. error ≡ plain_error why };
 

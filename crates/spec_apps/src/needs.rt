@@ -1,4 +1,4 @@
-//! The needs of applications.
+//! The needs of applications, read by name and ranked.
 
 ghost use Rattle.std.specs.Prelude.{◌≡◌, ◌≤◌, ◌<◌, ℕ, [], length, All, Ok, Some, codes, option_map, slice_get, IfErr, IfOk, OnOk, true};
 ghost use Rattle.serde_json.specs.View.{view};
@@ -38,7 +38,7 @@ fn is_needed(needs: &[AppId], app: AppId) -> bool
     needs.iter().any(|needed| needed.0 == app.0)
 }
 
-/// A reader of needs among these applications.
+/// A reader of the needs of an application, which name these applications.
 #[derive(Clone, Copy)]
 struct Needs<'a> {
     apps: &'a Numbered<AppSpec, ByName>,
@@ -96,7 +96,7 @@ impl Elements<List<AppId>> for Needs<'_> {
     }
 }
 
-/// Sets the needs of each application.
+/// Sets the needs of each application, in the order of `apps`.
 fn set_needs(apps: &mut [AppSpec], needs: Vec<List<AppId>>)
     requires { length needs.items ≤ length apps.old }
     ensures { apps.new ≡ with_needs apps.old needs.items }
@@ -107,7 +107,7 @@ fn set_needs(apps: &mut [AppSpec], needs: Vec<List<AppId>>)
     }
 }
 
-/// Sets the rank of each application.
+/// Sets the rank of each application, in the order of `apps`.
 fn set_ranks(apps: &mut [AppSpec], ranks: ArrayVec<u8, 8>)
     requires { length ranks.items ≤ length apps.old }
     ensures { apps.new ≡ with_ranks apps.old ranks.items }
@@ -118,7 +118,7 @@ fn set_ranks(apps: &mut [AppSpec], ranks: ArrayVec<u8, 8>)
     }
 }
 
-/// Reads the applications with their needs, without ranks.
+/// Reads the applications with their needs, without their ranks.
 fn read_unranked(alloc: Global, v: &Value, at: &Path) -> Result<Numbered<AppSpec, ByName>, DocError>
     requires room { length at.now ≤ 18 }
     ensures value { Answers (read_unranked at.now (view v.now)) (λ apps. apps) result }
@@ -153,7 +153,7 @@ fn names_of(apps: &[AppSpec], listed: &[AppId]) -> ArrayVec<Name, 8>
     names
 }
 
-/// Returns the applications with their ranks, or the cycle that prevents a ranking.
+/// Returns the applications with their ranks, or an error with the cycle that prevents a ranking.
 fn finish_apps(
     apps: Numbered<AppSpec, ByName>,
     ranked: Result<ArrayVec<u8, 8>, Cycle>,
@@ -187,7 +187,12 @@ fn finish_apps(
     }
 }
 
-/// Reads the applications of a document, 1 to 8 of them, ranked by their needs.
+/// Reads the 1 to 8 applications of a document and ranks them by their needs.
+///
+/// # Errors
+///
+/// Returns an error with the first broken rule and its path, and `NoMemory` if memory runs out. If the needs have a
+/// cycle, the error contains it.
 pub fn read_apps(
     alloc: Global,
     members: &Members<'_>,

@@ -1,4 +1,4 @@
--- Elements that differ from the elements before them.
+-- Elements of a list that differ from the elements before them.
 use Rattle.std.proofs.Common.{◌≡◌, ◌<◌, ℕ, zero, suc, Bool, true, false, cond, List, [], ◌∷◌, arith, refl, sym, ap, subst, ◌⊎◌, ◌∙◌}
 use mathlib.Core.Logic.{inl, inr}
 use Rattle.std.specs.Prelude.{Option, Some, None, Result, Ok, IfOk, take, slice_get}
@@ -10,7 +10,8 @@ use Rattle.spec_members.proofs.Found.{place_found}
 use Rattle.scram_types.specs.Lookups.{number_from, number_named}
 use Rattle.scram_doc.specs.Lists.{AllAfter}
 
--- a consequence of the fact that each element keeps holds for each element
+-- If a fact about an element and the elements before it implies a property of the element, and each element satisfies
+-- the fact, each element has the property.
 pub each_of : {A : Type 0} → (Fact : List A → A → Type 0) → (Kept : A → Type 0) → (xs : List A) → ((done : List A) (x : A) → Fact done x → Kept x) → AllAfter Fact xs → Each Kept xs
 each_of Fact Kept xs weaker all = λ i x e. weaker (take i xs) x (all i x e)
 
@@ -28,7 +29,7 @@ later : (b : Bool) (k : ℕ) (o : Option ℕ) → cond b (Some k) o ≡ None →
 later true k o e = absurd (let no_value : Some k ≡ None = e in cc)
 later false k o e = e
 
--- a name that is not found is the name of no item
+-- If a search for a name finds no item, no item has the name.
 pub nowhere : {A : Type 0} → (name : A → List ℕ) → (k : ℕ) (xs : List A) (i : ℕ) (x : A) (text : List ℕ) → slice_get xs i ≡ Some x → name x ≡ text → number_from name k xs text ≡ None → ⊥
 nowhere name k [] i x text e same none = let wrong : None ≡ Some x = e in cc
 nowhere name k (y ∷ ys) zero x text e same none =
@@ -59,10 +60,10 @@ found_differ {A} name xs new i j x y there too same = elim (compare i j) [
   ]
 ]
 
--- names that are new as they are read differ
+-- If each name is new as it is read, the names differ.
 pub new_differ : {A : Type 0} → (name : A → List ℕ) → (xs : List A) → AllAfter (λ (done : List A) (x : A). place_named name done (name x) ≡ None) xs → NamesDiffer name xs
 new_differ name xs new = found_differ name xs (λ i x e. sym (place_found name (take i xs) (name x)) ∙ new i x e)
 
--- a fact about an answer holds for the value in it
+-- A property of a result's value holds for the value in it.
 pub kept : {A E : Type 0} → (Kept : A → Type 0) (answer : Result A E) (a : A) → answer ≡ Ok a → IfOk answer Kept → Kept a
 kept {A} {E} Kept answer a is all = subst (λ (z : Result A E). IfOk z Kept) is all

@@ -1,4 +1,4 @@
--- An index of names finds the same as a search through the names.
+-- The index of a name in a list and the search through the list find the same item.
 use Rattle.std.proofs.Common.{◌≡◌, ◌+◌, ◌<◌, ℕ, suc, Bool, true, false, cond, List, [], ◌∷◌, length, arith, refl, ◌∙◌}
 use Rattle.std.specs.Prelude.{Option, Some, None}
 use Rattle.std.specs.List.{position_from}
@@ -33,6 +33,6 @@ below_from name k n [] text e = absurd (let none : None ≡ Some n = e in cc)
 below_from name k n (x ∷ xs) text e =
     below_either (bytes_eq (name x) text) k n (length xs) (number_from name (suc k) xs text) (below_from name (suc k) n xs text) e
 
--- The number that is found is the index of an item.
+-- A number that the search finds is the index of an item.
 pub number_below : {A : Type 0} (name : A → List ℕ) (xs : List A) (text : List ℕ) (n : ℕ) → number_named name xs text ≡ Some n → n < length xs
 number_below name xs text n e = let within = below_from name 0 n xs text e in omega (arith, within)

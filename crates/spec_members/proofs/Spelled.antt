@@ -1,4 +1,4 @@
--- A text that is read as a name spells one.
+-- A text that is read as a name spells a valid name.
 use Rattle.std.proofs.Common.{◌≡◌, ℕ, Bool, true, false, cond, List, refl, subst}
 use Rattle.std.specs.Prelude.{Some, None}
 use Rattle.scram_types.specs.Names.{is_name, name_of}

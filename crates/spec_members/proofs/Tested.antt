@@ -1,4 +1,4 @@
--- The members of a document are read from the values that were found.
+-- If each member is present, it is read from the value that was found for it.
 use Rattle.std.proofs.Common.{◌≡◌, ℕ, List, []}
 use Rattle.std.specs.Prelude.{Result, Ok}
 use Rattle.serde_json.specs.Data.{Data}

@@ -1,4 +1,4 @@
--- The reading of environment factors.
+-- How environment factors are read.
 use Rattle.std.specs.Prelude.{ℕ, List, codes, Result, Ok, ⊤}
 use Rattle.serde_json.specs.Data.{Data}
 use Rattle.scram_types.specs.declared.specification.Factor.{Factor}
@@ -10,11 +10,12 @@ use Rattle.scram_doc.specs.Lists.{elements_at}
 use Rattle.scram_doc.specs.Numbering.{itself}
 use Rattle.spec_members.specs.Names.{read_new_name, name_of_factor}
 
--- The name of a value, which no value of the factor has yet.
+-- The value name at path `at`, which none of the names `done` may equal, or the first broken rule.
 abbrev pub read_value_name : List ℕ → List (List ℕ) → Data → Result (List ℕ) DocFault
 read_value_name at done d = read_new_name itself done at d
 
--- A factor with a new name and 2 to 4 values.
+-- The factor that the value at path `at` encodes, or the first broken rule. No factor of `done` may have its name. It
+-- has 2 to 4 values.
 abbrev pub read_factor : List ℕ → List Factor → Data → Result Factor DocFault
 read_factor at done d =
     chain (object_at at d) (λ (_ : ⊤).
@@ -25,6 +26,6 @@ read_factor at done d =
     chain (elements_at read_value_name 2 4 (member_path at (codes "values")) values) (λ (values : List (List ℕ)).
     Ok (record { name = name; values = values })))))))
 
--- The factors of a document, 0 to 6 of them.
+-- The 0 to 6 factors of a document, or the first broken rule.
 abbrev pub read_factors : List ℕ → Data → Result (List Factor) DocFault
 read_factors at d = elements_at read_factor 0 6 at d

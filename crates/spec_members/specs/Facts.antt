@@ -1,4 +1,4 @@
--- Facts about names, and about processors and factors as they are read.
+-- Facts about names, processors and factors while they are read.
 use Rattle.std.specs.Prelude.{◌≡◌, ◌≤◌, ℕ, List, length, slice_get, Option, Some, None, IsTrue}
 use Rattle.scram_types.specs.declared.specification.Proc.{Proc}
 use Rattle.scram_types.specs.declared.specification.Factor.{Factor}
@@ -13,21 +13,21 @@ pub record IsFresh {A : Type 0} (name : A → List ℕ) (items : List A) (text :
   pub new : place_named name items text ≡ None
   pub spelled : IsTrue (is_name text)
 
--- A number is the one that is found for some text.
+-- A number is the result of `find` for some text.
 pub record IsListed (find : List ℕ → Option ℕ) (number : ℕ) : Type 0 where
   pub text : List ℕ
   pub there : find text ≡ Some number
 
--- A processor whose name no processor before it has.
+-- A processor is valid, and no processor before it has its name.
 pub record IsNewProc (done : List Proc) (proc : Proc) : Type 0 where
   pub name : IsFresh name_of_proc done proc.name
   pub is : IsProc proc
 
--- A name that is not yet among the names.
+-- A name is valid and is not among the names before it.
 abbrev pub IsNewName : List (List ℕ) → List ℕ → Type 0
 IsNewName done name = IsFresh itself done name
 
--- A factor whose name no factor before it has.
+-- A factor has a name that no factor before it has, and 2 to 4 values with different names.
 pub record IsNewFactor (done : List Factor) (factor : Factor) : Type 0 where
   pub name : IsFresh name_of_factor done factor.name
   pub count : HasLength 2 4 factor.values

@@ -1,4 +1,4 @@
--- The members of a document, as they are found.
+-- The values of the members of a document.
 use Rattle.std.specs.Prelude.{◌≡◌, [], codes, Ok, option_map}
 use Rattle.serde_json.specs.View.{view}
 use Rattle.scram_doc.specs.Members.{needed}
@@ -8,7 +8,7 @@ use Rattle.spec_members.specs.declared.members.NamingMembers.{NamingMembers}
 use Rattle.spec_members.specs.declared.members.MembersAfterNames.{MembersAfterNames}
 use Rattle.spec_members.specs.Versions.{AreDemands, IsPolicy}
 
--- Each value is that of its member.
+-- Each value is that of its member: the version and the members that contain names.
 pub record AreNamingMembers (d : Data) (m : NamingMembers) : Type 0 where
   pub scram : needed (codes "scram") [] d ≡ Ok (view m.scram.now)
   pub procs : needed (codes "processors") [] d ≡ Ok (view m.procs.now)
@@ -16,7 +16,7 @@ pub record AreNamingMembers (d : Data) (m : NamingMembers) : Type 0 where
   pub confs : needed (codes "configurations") [] d ≡ Ok (view m.confs.now)
   pub factors : needed (codes "factors") [] d ≡ Ok (view m.factors.now)
 
--- Each value is that of its member.
+-- Each value is that of its member: the members after those that contain names.
 pub record AreMembersAfterNames (d : Data) (m : MembersAfterNames) : Type 0 where
   pub rules : needed (codes "rules") [] d ≡ Ok (view m.rules.now)
   pub bounds : needed (codes "bounds") [] d ≡ Ok (view m.bounds.now)
@@ -26,7 +26,8 @@ pub record AreMembersAfterNames (d : Data) (m : MembersAfterNames) : Type 0 wher
   pub preconditions : needed (codes "preconditions") [] d ≡ Ok (view m.preconditions.now)
   pub assumption : needed (codes "assumption") [] d ≡ Ok (view m.assumption.now)
 
--- Each value is that of its member.
+-- Each value is that of its member. The policy and the demands are present if and only if the document's version has
+-- them.
 pub record AreMembers (m : Members) : Type 0 where
   pub scram : needed (codes "scram") [] (view m.document.now) ≡ Ok (view m.scram.now)
   pub procs : needed (codes "processors") [] (view m.document.now) ≡ Ok (view m.procs.now)

@@ -1,4 +1,4 @@
--- Facts about the applications of a document, with their needs and ranks.
+-- Facts about the applications of a document, their needs and their ranks.
 use Rattle.std.specs.Prelude.{List, map, ◌≡◌, ℕ, Bool, false, is_some}
 use Rattle.scram_types.specs.declared.specification.AppSpec.{AppSpec}
 use Rattle.scram_types.specs.Specification.{AreSpelled, HasLength, Each, NamesDiffer, IsAppSpec, mode_in}
@@ -13,11 +13,11 @@ use Rattle.dep_order.specs.Timetables.{is_named}
 abbrev pub NoDuplicates : {A : Type 0} → (List A → A → Bool) → List A → Type 0
 NoDuplicates {A} stands xs = AllAfter (λ (done : List A) (x : A). stands done x ≡ false) xs
 
--- The mode is among the modes before it.
+-- A mode is among the modes listed before it.
 abbrev pub lists_mode : List ModeSpec → ModeSpec → Bool
 lists_mode done listed = is_some (mode_in done listed.mode.0)
 
--- The application is among the needs before it.
+-- An application is among the needs listed before it.
 abbrev pub lists_need : List AppId → AppId → Bool
 lists_need done need = is_named done need.0
 
@@ -25,12 +25,13 @@ lists_need done need = is_named done need.0
 abbrev pub rank_of : AppSpec → ℕ
 rank_of app = app.rank
 
--- An application that needs no application twice and lists no mode twice.
+-- An application needs no application twice and lists no mode twice.
 pub record IsWritableApp (app : AppSpec) : Type 0 where
   pub needs : NoDuplicates lists_need app.needs
   pub modes : NoDuplicates lists_mode app.modes
 
--- Applications as they are read, with their needs and ranks.
+-- Applications that were read: there are 1 to 8, each is valid, their names differ, and their ranks are those that
+-- their needs determine.
 pub record AreApps (apps : List AppSpec) : Type 0 where
   pub count : HasLength 1 8 apps
   pub differ : NamesDiffer name_of_app apps

@@ -6,6 +6,6 @@ use Rattle.scram_doc.specs.Chain.{chain}
 use Rattle.scram_doc.specs.Paths.{member_path}
 use Rattle.scram_doc.specs.Members.{needed}
 
--- The value that is read from a member of a document.
+-- The value that `read` returns for a member of a document, or the first broken rule.
 abbrev pub member_in : {A : Type 0} → List ℕ → (List ℕ → Data → Result A DocFault) → Data → Result A DocFault
 member_in name read d = chain (needed name [] d) (λ (value : Data). read (member_path [] name) value)

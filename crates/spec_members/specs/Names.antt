@@ -34,15 +34,15 @@ name_of_factor factor = factor.name
 abbrev pub name_of_demand : Demand → List ℕ
 name_of_demand demand = demand.name
 
--- A text that is a name.
+-- The name that the text at a path encodes, or the first broken rule.
 abbrev pub read_name : List ℕ → Data → Result (List ℕ) DocFault
 read_name at d = chain (text_at at d) (λ (text : List ℕ). or_broken NO_NAME at (name_of text))
 
--- A name that no item of a list has.
+-- The name that the text at a path encodes, which no item of a list may have, or the first broken rule.
 abbrev pub read_new_name : {A : Type 0} → (A → List ℕ) → List A → List ℕ → Data → Result (List ℕ) DocFault
 read_new_name name xs at d =
     chain (read_name at d) (λ (new : List ℕ). if is_some (number_named name xs new) then broken NAME_TWICE at else Ok new)
 
--- The index of the item of a list that a text names. The rule is broken if there is none.
+-- The index of the item of a list that the text at a path names, or the fault of `rule` if there is no such item.
 abbrev pub read_named : {A : Type 0} → (A → List ℕ) → List A → ℕ → List ℕ → Data → Result ℕ DocFault
 read_named name xs rule at d = chain (text_at at d) (λ (text : List ℕ). or_broken rule at (number_named name xs text))

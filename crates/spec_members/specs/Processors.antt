@@ -1,4 +1,4 @@
--- The reading of processors.
+-- How processors are read.
 use Rattle.std.specs.Prelude.{ℕ, List, codes, Result, Ok, ⊤}
 use Rattle.serde_json.specs.Data.{Data}
 use Rattle.scram_types.specs.declared.specification.Proc.{Proc}
@@ -10,7 +10,7 @@ use Rattle.scram_doc.specs.Values.{whole_at}
 use Rattle.scram_doc.specs.Lists.{elements_at}
 use Rattle.spec_members.specs.Names.{read_new_name, name_of_proc}
 
--- A processor with a new name.
+-- The processor that the value at a path encodes, or the first broken rule. No processor of `done` may have its name.
 abbrev pub read_proc : List ℕ → List Proc → Data → Result Proc DocFault
 read_proc at done d =
     chain (object_at at d) (λ (_ : ⊤).
@@ -21,6 +21,6 @@ read_proc at done d =
     chain (whole_at 0 1000001 (member_path at (codes "capacity")) capacity) (λ (capacity : ℕ).
     Ok (record { name = name; capacity = capacity })))))))
 
--- The processors of a document, 1 to 8 of them.
+-- The 1 to 8 processors of a document, or the first broken rule.
 abbrev pub read_procs : List ℕ → Data → Result (List Proc) DocFault
 read_procs at d = elements_at read_proc 1 8 at d

@@ -6,16 +6,16 @@ use Rattle.scram_doc.specs.declared.fault.DocFault.{DocFault}
 use Rattle.scram_doc.specs.Chain.{chain}
 use Rattle.scram_doc.specs.Members.{object_at, needed, no_more_than}
 
--- There is a number, and it is the number of a version.
+-- There is a number, and it equals `number`.
 abbrev pub is_version : ℕ → Option ℕ → Bool
 is_version number None = false
 is_version number (Some version) = version == number
 
--- The value of a member `scram` is the whole number of a version.
+-- The value of the member `scram` is the whole number `number`.
 abbrev pub is_version_in : ℕ → Option Data → Bool
 is_version_in number scram = is_version number (option_and_then as_u64 (option_and_then as_number scram))
 
--- The `scram` of a document is the whole number of a version.
+-- The member `scram` of a document is the whole number `number`.
 abbrev pub has_version : ℕ → Data → Bool
 has_version number d = is_version_in number (get (codes "scram") d)
 
@@ -42,39 +42,40 @@ abbrev pub members_after_names : List (List ℕ)
 members_after_names =
     codes "rules" ∷ codes "bounds" ∷ codes "start" ∷ codes "goal" ∷ codes "invariants" ∷ codes "preconditions" ∷ codes "assumption" ∷ []
 
--- The maximum number of members of a document: those of version 1, with the policy and the demands if its version has
--- them.
+-- The number of members of a document: those of version 1, with the policy and the demands if the document's version
+-- has them.
 abbrev pub members_count : Data → ℕ
 members_count d = if has_demands d then 14 else (if has_policy d then 13 else 12)
 
--- A document of version 2 or 3 has a policy, and one of version 1 has none.
+-- The policy of a document is present if the document is of version 2 or 3, and is `None` otherwise.
 abbrev pub IsPolicy : Data → Option Data → Type 0
 IsPolicy d None = has_policy d ≡ false
 IsPolicy d (Some policy) = (has_policy d ≡ true) × (needed (codes "policy") [] d ≡ Ok policy)
 
--- A document of version 3 has demands, and one of another version has none.
+-- The demands of a document are present if the document is of version 3, and are `None` otherwise.
 abbrev pub AreDemands : Data → Option Data → Type 0
 AreDemands d None = has_demands d ≡ false
 AreDemands d (Some demands) = (has_demands d ≡ true) × (needed (codes "demands") [] d ≡ Ok demands)
 
--- Each of these members is present, and then the result is `rest`.
+-- The result `rest` if each of these members is present, else the fault of the first missing one.
 abbrev pub each_then : List (List ℕ) → Data → Result ⊤ DocFault → Result ⊤ DocFault
 each_then [] d rest = rest
 each_then (name ∷ names) d rest = chain (needed name [] d) (λ (_ : Data). each_then names d rest)
 
--- Each of these members is present.
+-- `Ok` if each of these members is present, else the fault of the first missing one.
 abbrev pub each_needed : List (List ℕ) → Data → Result ⊤ DocFault
 each_needed names d = each_then names d (Ok tt)
 
--- The policy is present if the document has one.
+-- `Ok` if the policy is present or the document's version has none, else the fault of the missing member.
 abbrev pub policy_tested : Data → Result ⊤ DocFault
 policy_tested d = if has_policy d then chain (needed (codes "policy") [] d) (λ (_ : Data). Ok tt) else Ok tt
 
--- The demands are present if the document has them.
+-- `Ok` if the demands are present or the document's version has none, else the fault of the missing member.
 abbrev pub demands_tested : Data → Result ⊤ DocFault
 demands_tested d = if has_demands d then chain (needed (codes "demands") [] d) (λ (_ : Data). Ok tt) else Ok tt
 
--- The document is an object with the members of version 1, the policy and the demands of its version, and no others.
+-- `Ok` if the document is an object with the members of version 1, the policy and the demands of its version, and no
+-- others. Otherwise it is the first broken rule.
 abbrev pub members_tested : Data → Result ⊤ DocFault
 members_tested d =
     chain (object_at [] d) (λ (_ : ⊤).

@@ -82,7 +82,11 @@ impl NamedElements<Factor, ByName> for Factors {
     }
 }
 
-/// Reads the environment factors of a document, 0 to 6 of them.
+/// Reads the 0 to 6 environment factors of a document.
+///
+/// # Errors
+///
+/// Returns an error with the first broken rule and its path, and `NoMemory` if memory runs out.
 pub fn read_factors(
     alloc: Global,
     members: &Members<'_>,

@@ -1,5 +1,5 @@
-//! The members of a specification document, found by the document's version. Names, processors, factors and modes are
-//! read exactly as the document has them, or refused at the first broken rule.
+//! The members of a specification document, as the document's version defines them. Names, processors, factors and
+//! modes are read exactly as the document has them, or refused at the first broken rule.
 #![tactic(auto)]
 
 pub mod factors;

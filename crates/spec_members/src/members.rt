@@ -1,4 +1,4 @@
-//! The members of a document, each of which is looked up once.
+//! The members of a document. Each member is looked up once.
 
 ghost use Rattle.std.specs.Prelude.{◌≡◌, [], Ok, Some, codes, option_map, IfOk};
 ghost use Rattle.serde_json.specs.View.{view};
@@ -10,7 +10,8 @@ ghost use Rattle.spec_members.specs.Versions.{AreDemands, IsPolicy, demands_test
 use scram_doc::{DocFault, Path, need, no_more, object};
 use serde_json::Value;
 
-/// The values of a document's members. A document of version 1 has no policy, and only one of version 3 has demands.
+/// The values of a document's members. `policy` is `None` for version 1, and `demands` is `None` for each version but
+/// 3.
 #[derive(Clone, Copy)]
 pub struct Members<'a> {
     pub document: &'a Value,
@@ -30,14 +31,14 @@ pub struct Members<'a> {
     pub demands: Option<&'a Value>,
 }
 
-/// Returns whether the member `scram` has the number of a version as its value.
+/// Returns `true` if the value of the member `scram` is the given version number.
 fn is_version(scram: &Value, number: u64) -> bool
     ensures { result ≡ is_version_in number (Some (view scram.now)) }
 {
     scram.as_u64() == Some(number)
 }
 
-/// Returns the policy of a document, or `None` if its version has no policy.
+/// Returns the policy of a document, or `None` if the document's version has no policy.
 fn find_policy<'a>(document: &'a Value, scram: &Value) -> Result<Option<&'a Value>, DocFault>
     requires scram { needed (codes "scram") [] (view document.now) ≡ Ok (view scram.now) }
     ensures tested { ok_map (λ _. tt) result ≡ policy_tested (view document.now) }
@@ -50,7 +51,7 @@ fn find_policy<'a>(document: &'a Value, scram: &Value) -> Result<Option<&'a Valu
     }
 }
 
-/// Returns the demands of a document, or `None` if its version has no demands.
+/// Returns the demands of a document, or `None` if the document's version has no demands.
 fn find_demands<'a>(document: &'a Value, scram: &Value) -> Result<Option<&'a Value>, DocFault>
     requires scram { needed (codes "scram") [] (view document.now) ≡ Ok (view scram.now) }
     ensures tested { ok_map (λ _. tt) result ≡ demands_tested (view document.now) }
@@ -63,7 +64,7 @@ fn find_demands<'a>(document: &'a Value, scram: &Value) -> Result<Option<&'a Val
     }
 }
 
-/// Checks that a document has no members beside those of its version.
+/// Checks that a document has no more members than its version.
 fn check_count(document: &Value, scram: &Value) -> Result<(), DocFault>
     requires scram { needed (codes "scram") [] (view document.now) ≡ Ok (view scram.now) }
     ensures { result ≡ no_more_than (members_count (view document.now)) [] (view document.now) }
@@ -78,7 +79,7 @@ fn check_count(document: &Value, scram: &Value) -> Result<(), DocFault>
     no_more(document, count, &Path::root())
 }
 
-/// The version, and the members that contain names.
+/// The values of the version and of the members that contain names.
 #[derive(Clone, Copy)]
 struct NamingMembers<'a> {
     scram: &'a Value,
@@ -107,7 +108,7 @@ fn find_naming(document: &Value) -> Result<NamingMembers<'_>, DocFault>
     })
 }
 
-/// The members that come after the names in every version.
+/// The values of the members that come after the names in every version.
 #[derive(Clone, Copy)]
 struct MembersAfterNames<'a> {
     rules: &'a Value,
@@ -142,7 +143,11 @@ fn find_after_names(document: &Value) -> Result<MembersAfterNames<'_>, DocFault>
     })
 }
 
-/// Returns the members of a document, which must be an object with the members of its version and no others.
+/// Returns the members of a document. The document must be an object with the members of its version and no others.
+///
+/// # Errors
+///
+/// Returns an error if the document is not an object, lacks a member of its version, or has another member.
 pub fn find_members(document: &Value) -> Result<Members<'_>, DocFault>
     ensures tested { ok_map (λ _. tt) result ≡ members_tested (view document.now) }
     ensures document { IfOk result (λ members. members.document.now ≡ document.now) }

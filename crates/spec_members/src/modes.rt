@@ -13,7 +13,11 @@ use scram_doc::{DocFault, Path, text};
 use scram_types::{KindId, Mode};
 use serde_json::Value;
 
-/// Reads a mode of the kind from its name.
+/// Reads a mode of a kind from its name.
+///
+/// # Errors
+///
+/// Returns an error if the value is not a text, or the kind has no mode of this name.
 pub fn read_kind_mode(kind: KindId, v: &Value, at: &Path) -> Result<Mode, DocFault>
     ensures value { ok_map (λ mode. mode.0) result ≡ read_kind_mode kind.0 at.now (view v.now) }
     ensures of_kind { IfOk result (λ mode. IsListed (number_in (mode_names kind.0)) mode.0) }

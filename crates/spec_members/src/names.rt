@@ -12,7 +12,7 @@ use scram_doc::{DocFault, Naming, Numbered, Path, text};
 use scram_types::{AppSpec, Conf, Demand, Factor, Name, Proc};
 use serde_json::Value;
 
-/// The naming of the items of a specification: each item by its name, and a name by itself.
+/// The naming of the items of a specification. Each item has its name, and a name is its own name.
 pub struct ByName;
 
 impl Naming<Proc> for ByName {
@@ -63,7 +63,7 @@ impl Naming<Name> for ByName {
     }
 }
 
-/// Reads a name.
+/// Reads a name from a text.
 #[tactic(auto, using(crate::proofs::Spelled::name_spelled))]
 fn read_name(v: &Value, at: &Path) -> Result<Name, DocFault>
     ensures value { result ≡ read_name at.now (view v.now) }
@@ -75,7 +75,11 @@ fn read_name(v: &Value, at: &Path) -> Result<Name, DocFault>
     }
 }
 
-/// Reads a name that no item has yet.
+/// Reads a name that no item of `done` has.
+///
+/// # Errors
+///
+/// Returns an error if the value is not a text, the text is not a name, or an item of `done` has the name.
 #[tactic(auto, using(crate::proofs::Found::place_found))]
 pub fn read_new_name<T, N: Naming<T>>(
     done: &Numbered<T, N>,
@@ -92,7 +96,11 @@ pub fn read_new_name<T, N: Naming<T>>(
     }
 }
 
-/// Returns the number of the item that the value names. The rule `unknown` is broken if there is none.
+/// Returns the number of the item that a text names.
+///
+/// # Errors
+///
+/// Returns an error if the value is not a text, and an error of the rule `unknown` if no item has this name.
 #[tactic(auto, using(crate::proofs::Found::place_found))]
 pub fn read_named<T, N: Naming<T>>(
     items: &Numbered<T, N>,

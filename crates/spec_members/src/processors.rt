@@ -1,4 +1,4 @@
-//! Processors.
+//! How processors are read.
 
 ghost use Rattle.std.specs.Prelude.{◌≡◌, ◌≤◌, codes, length, IfOk};
 ghost use Rattle.serde_json.specs.View.{view};
@@ -48,7 +48,11 @@ impl NamedElements<Proc, ByName> for Procs {
     }
 }
 
-/// Reads the processors of a document, 1 to 8 of them.
+/// Reads the 1 to 8 processors of a document.
+///
+/// # Errors
+///
+/// Returns an error with the first broken rule and its path, and `NoMemory` if memory runs out.
 pub fn read_procs(alloc: Global, members: &Members<'_>) -> Result<Numbered<Proc, ByName>, DocError>
     requires members { AreMembers members.now }
     ensures value { Answers (member_in (codes "processors") read_procs (view members.now.document.now)) (λ l. l) result }

@@ -1,5 +1,5 @@
-//! The numbers of the rules of specification documents. They follow those of every document, and never change, since
-//! faults show them.
+//! The numbers of the rules of specification documents. They follow the numbers of the rules for all documents. A
+//! fault shows its number, so the numbers never change.
 
 /// The version is not 1, 2 or 3.
 pub const UNKNOWN_VERSION: u8 = 9;
@@ -7,16 +7,16 @@ pub const UNKNOWN_VERSION: u8 = 9;
 /// A text that must be a name is not a name.
 pub const NO_NAME: u8 = 10;
 
-/// A name is given twice in its list.
+/// A name occurs twice in its list.
 pub const NAME_TWICE: u8 = 11;
 
 /// No kind of application has this name.
 pub const UNKNOWN_KIND: u8 = 12;
 
-/// The kind has no mode of this name.
+/// The kind of application has no mode of this name.
 pub const UNKNOWN_MODE: u8 = 13;
 
-/// A mode is given twice in one list.
+/// A mode occurs twice in one list.
 pub const MODE_TWICE: u8 = 14;
 
 /// No processor has this name.
@@ -34,11 +34,11 @@ pub const UNKNOWN_FACTOR_OR_VALUE: u8 = 18;
 /// The application's kind has no variable of this name.
 pub const UNKNOWN_VARIABLE: u8 = 19;
 
-/// The same application, processor, configuration, factor or pair of configurations is listed twice in one list, or an
+/// The same application, processor, configuration, factor or pair of configurations occurs twice in one list, or an
 /// application or a processor is in two lists of a demand that exclude each other.
 pub const TWICE_IN_LIST: u8 = 20;
 
-/// The needs have a cycle.
+/// The needs of the applications have a cycle.
 pub const CYCLE_OF_NEEDS: u8 = 21;
 
 /// The application does not list the mode.

@@ -4,7 +4,7 @@ use Rattle.std.proofs.lemmas.Option.{slice_get_read}
 use Rattle.scram_types.specs.Specification.{Parts}
 use Rattle.choice_table.proofs.choices.choose.Goals as goal
 
--- a rule of a specification names a target that exists
+-- The target of each rule of a specification exists.
 pub returns-then-fits-clause-inside : goal.returns-then-fits-clause-inside
 returns-then-fits-clause-inside c = λ inside.
     let there : slice_get c.spec.inside.rules c.loop-rule.rule-index ≡ Some c.rule-item.result =

@@ -38,7 +38,7 @@ length_of_phase-requires-3-clause-times c = λ a less.
     times_most c.args.spec.now known c.args.c c.times_in-init_times.result [] (init_time c.args.spec.now c.args.c)
     (λ b. (timed c.args.spec.now known c.args.c b).init) c.times_in-init_times.ensures c.count_apps-count.result (omega arith) a less
 
--- the offsets are those of the halt chart and of the init chart
+-- The offsets are those of the halt chart and of the init chart.
 halt_holds : (c : goal.After-length_of_phase-3) → Holds (halt_offset c.args.spec.now c.args.c) (length c.args.spec.now.apps) c.offsets_in-halt_offsets.result
 halt_holds c = λ a less.
     let known = c.count_apps-count.ensures.known in

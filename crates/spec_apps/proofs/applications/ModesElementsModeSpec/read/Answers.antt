@@ -2,7 +2,7 @@ use Rattle.std.proofs.Common.{◌<◌, arith}
 use Rattle.app_model.proofs.Spelling.{all_names_agree}
 use Rattle.spec_apps.proofs.applications.ModesElementsModeSpec.read.Goals as goal
 
--- a name that is found is that of one of the kind's modes
+-- A mode whose name is found is one of the kind's modes.
 pub returns-clause-fits : goal.returns-clause-fits
 returns-clause-fits c =
     let listed = c.in_ok-mode-2.ensures.of_kind in
