@@ -1,4 +1,4 @@
--- A frame depends only on processors that exist.
+-- The effect of a frame depends only on processors that exist.
 use Rattle.std.proofs.Common.{◌≡◌, ◌∙◌, ℕ, ◌<◌, refl, ap, length, Bool, List}
 use Rattle.std.specs.Prelude.{ℤ, Option, Some, None, IfSome, option_and_then, slice_get}
 use Rattle.scram_types.specs.declared.ids.ConfId.{ConfId}
@@ -22,7 +22,7 @@ use Rattle.frame_model.specs.Phases.{phase_at}
 use Rattle.frame_model.specs.States.{State, has_arrived, act_after, act_on, acts_in, area_after, area_at, area_on, areas_in, keeper_after, keeper_at, keeper_on, keepers_in, law_of, row_of, step, step_with, world_in, mode_decided}
 use Rattle.frame_model.specs.Tasks.{halting_order, initialising_order, preparing_order, task_for, task_in}
 
--- A processor that is named exists.
+-- If a processor is given, it exists.
 unfoldable pub Exists : Parts → Option ProcId → Type 0
 Exists spec proc = IfSome proc (λ p. p.0 < length spec.procs)
 
@@ -46,7 +46,7 @@ task_exists spec facts (Halting c age) a = for_exists spec (halting_order (halt_
 task_exists spec facts (Preparing c age) a = for_exists spec (preparing_order (prepare_time spec c a) age) (place_of spec c a) (place_exists spec facts c a)
 task_exists spec facts (Initialising c age) a = for_exists spec (initialising_order (init_offset spec c a) (init_time spec c a) age) (place_of spec c a) (place_exists spec facts c a)
 
--- Two tests of which processors commit agree on the processors that exist.
+-- Two tests of whether a processor commits agree on the processors that exist.
 unfoldable pub Agree : Parts → (ℕ → Bool) → (ℕ → Bool) → Type 0
 Agree spec s t = (p : ℕ) → p < length spec.procs → s p ≡ t p
 

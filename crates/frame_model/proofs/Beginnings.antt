@@ -1,4 +1,4 @@
--- The beginnings of reconfigurations.
+-- The sources and the first frames of reconfigurations.
 use Rattle.std.proofs.Common.{◌≡◌, ◌∙◌, ℕ, suc, ◌+◌, ◌<◌, ◌≤◌, refl, ap, sym, arith, append_assoc, length, Bool, true, false, List, [], ◌∷◌, ◌++◌}
 use Rattle.std.specs.Prelude.{Option, Some, None, filter, map, nat_lt, if◌then◌else◌}
 use Rattle.std.proofs.lemmas.List.{map-append}
@@ -15,11 +15,11 @@ use Rattle.frame_model.specs.Readings.{arrival, arrive, as_list, close, ended_in
 use Rattle.frame_model.specs.Runs.{running, runs}
 use Rattle.frame_model.proofs.ReadLaws.{ended_append, reading_append}
 
--- the beginnings below m among some reports
+-- The sources and the first frames of the reports that began before frame `m`.
 abbrev below : ℕ → List Report → List (ConfId × ℕ)
 below m reports = map beginning (filter (begins_below m) reports)
 
--- whether a report counts depends on its begin alone
+-- If two reports have the same source and first frame, listing one or the other gives the same beginnings.
 open_same : (b : Bool) (x y : Report) → beginning x ≡ beginning y → map beginning (if b then x ∷ [] else []) ≡ map beginning (if b then y ∷ [] else [])
 open_same true x y same = ap (λ z. z ∷ []) same
 open_same false x y same = refl
@@ -32,7 +32,7 @@ first_kept : (b : Bool) (x y : Report) (rest : List Report) → beginning x ≡ 
 first_kept true x y rest same none = rw (same, none) refl
 first_kept false x y rest same none = none
 
--- the reconfigurations that end from a reading on, and the one that is cut off after n frames
+-- The reconfigurations that end in rows from frame `g` on, and the reconfiguration that is cut off after `n` frames.
 abbrev shown_from : Parts → ℕ → ℕ → Reading → List Row → List Report
 shown_from spec g n r rows = ended_in spec r g rows ++ as_list (close (reading_after spec r g rows) n)
 
@@ -53,7 +53,7 @@ later spec m g n r [] le = closed_same m n m r
 later spec m g n (Steady c) (row ∷ rows) le = steady_more spec m g n c rows (runs spec row.acts c) le (λ r. later spec m (suc g) n r rows (omega arith))
 later spec m g n (Leaving c s) (row ∷ rows) le = leaving_more spec m g n c s rows (running spec row.acts) (λ r. later spec m (suc g) n r rows (omega arith))
 
--- a reconfiguration under way began before frame f
+-- If a reconfiguration is under way, it began before frame `f`.
 Opened : Reading → ℕ → Type 0
 Opened (Steady c) f = Unit {0}
 Opened (Leaving c s) f = s < f
@@ -107,7 +107,7 @@ opened_start c = tt
 below_append : (m : ℕ) (xs ys : List Report) → below m (xs ++ ys) ≡ below m xs ++ below m ys
 below_append m xs ys = ap (map beginning) (filter-append (begins_below m) xs ys) ∙ map-append beginning (filter (begins_below m) xs) (filter (begins_below m) ys)
 
--- the front's own reports all began in it
+-- All reports that the first rows of a flight show began in these rows.
 front_same : (spec : Parts) (front : List Row) (r : Reading) → r ≡ reading_after spec (Steady spec.start) 0 front
     → below (length front) (ended_in spec (Steady spec.start) 0 front ++ as_list (close r (length front))) ≡ map beginning (ended_in spec (Steady spec.start) 0 front ++ as_list (close r (length front)))
 front_same spec front r is =

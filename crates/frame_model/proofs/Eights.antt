@@ -1,4 +1,4 @@
--- Lists of eight, filled from the front.
+-- Lists of eight elements that are filled from the front.
 use Rattle.std.proofs.Common.{◌≡◌, ◌∙◌, ℕ, ◌+◌, ◌<◌, ◌≤◌, refl, ap, arith, List, [], ◌∷◌, length, sym, ◌⊎◌}
 use mathlib.Core.Logic.{inl, inr}
 use Rattle.std.specs.Prelude.{slice_index_or, slice_set}
@@ -6,7 +6,7 @@ use Rattle.std.proofs.lemmas.Grind.{get_or-set_at}
 use Rattle.std.proofs.lemmas.List.{get_or-set_other, length-set}
 use Rattle.scram_types.specs.Eights.{eight}
 
--- The first n of eight elements are the values at their indexes.
+-- A list has eight elements, and the first `n` of them are the values at their indexes.
 pub record Filled {A : Type 0} (value : ℕ → A) (xs : List A) (n : ℕ) : Type 0 where
   pub eight : length xs ≡ 8
   pub front : (k : ℕ) (d : A) → k < n → slice_index_or xs k d ≡ value k
@@ -55,7 +55,7 @@ all_eight value (a ∷ b ∷ c ∷ d ∷ e ∷ f ∷ g ∷ h ∷ i ∷ more) eig
 pub filled_all : {A : Type 0} (value : ℕ → A) (xs : List A) → Filled value xs 8 → xs ≡ eight value
 filled_all value xs filled = all_eight value xs filled.eight filled.front
 
--- The elements from n on are those of another list.
+-- The elements of `xs` from index `n` on are those of `old`.
 abbrev pub AreStill : {A : Type 0} → List A → List A → ℕ → Type 0
 AreStill {A} old xs n = (k : ℕ) (d : A) → n ≤ k → slice_index_or xs k d ≡ slice_index_or old k d
 

@@ -1,4 +1,4 @@
--- A further frame of a script.
+-- Flying a further frame of a script.
 use Rattle.std.proofs.Common.{◌≡◌, ◌∙◌, ℕ, suc, ◌+◌, ◌-◌, ◌^◌, refl, ap, arith, length, List, [], ◌∷◌, ◌++◌}
 use Rattle.std.specs.Prelude.{bit_and, bit_or}
 use Rattle.std.specs.Int.{bit_not, w8}

@@ -1,4 +1,4 @@
--- A frame, put together from its parts.
+-- The effect of a frame, composed of the effects of its parts.
 use Rattle.std.proofs.Common.{◌≡◌, ◌∙◌, ℕ, suc, ◌+◌, refl, ap, arith, List}
 use Rattle.std.specs.Prelude.{ℤ, Bool, Option}
 use Rattle.scram_types.specs.declared.ids.ProcId.{ProcId}

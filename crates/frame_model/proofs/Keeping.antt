@@ -1,4 +1,4 @@
--- Areas and the slots of their keepers.
+-- The area of each application equals the slot in the image of its keeper.
 use Rattle.std.proofs.Common.{◌≡◌, ◌∙◌, ℕ, zero, suc, refl, sym, arith, Bool, true, false, List}
 use mathlib.Core.Logic.{inl, inr}
 use Rattle.std.specs.Prelude.{ℤ, ◌==◌, Option, Some, None, option_map, if◌then◌else◌}
@@ -25,7 +25,7 @@ idle : {A : Type 0} (b : Bool) (x : A) → (if b then x else x) ≡ x
 idle true x = refl
 idle false x = refl
 
--- a slot stays in an image whose processor does not commit, or has another task
+-- If the processor of a task does not commit, the task changes no slot of the application in any image.
 slot_stays : (c : ℕ → Bool) (made : List ℤ) (slot : ℕ → List ℤ) (proc : ProcId) (q : ℕ) → c proc.0 ≡ false → slot_next c made slot (Some proc) q ≡ slot q
 slot_stays c made slot proc q lost = elim (same_or_not proc.0 q) [
   | inl same ↦ let here : c q ≡ false = rw (sym same) lost in rw here refl

@@ -1,4 +1,4 @@
--- The tasks of a phase, by a timetable in which an application that is off has offset 0.
+-- The tasks of a phase, read from a timetable in which an application that is off has offset 0.
 use Rattle.std.proofs.Common.{◌≡◌, ◌∙◌, ℕ, ◌<◌, refl, ap, List}
 use Rattle.std.specs.Prelude.{Option, Some, None, is_some, slice_index_or, if◌then◌else◌}
 use Rattle.scram_types.specs.declared.ids.ConfId.{ConfId}

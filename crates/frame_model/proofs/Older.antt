@@ -1,4 +1,4 @@
--- Flights without restarts, and policies that choose anew.
+-- Flights without restarts, and the policy that always chooses the target anew.
 use Rattle.std.proofs.Common.{◌≡◌, ◌∙◌, ℕ, zero, suc, ◌+◌, ◌-◌, ◌≤◌, refl, ap, sym, arith, Bool, true, false, not, ◌&&◌, ◌||◌, List, [], ◌∷◌}
 use Rattle.std.specs.Prelude.{◌==◌, nat_le, nat_lt, Some, None, if◌then◌else◌}
 use Rattle.std.specs.List.{list_any}
@@ -43,7 +43,7 @@ by_halt : (script : ScriptParts) → script.restarts ≡ [] → (p f g : ℕ) (b
 by_halt script none p f g true before = down_for_good script none p g f
 by_halt script none p f g false before = before
 
--- what is up depends on whether there is a latest halt
+-- In a script without restarts, a processor is up after its halts before frame `f` exactly if there are no such halts.
 up_since_latest : (script : ScriptParts) → script.restarts ≡ [] → (p f g : ℕ) → is_up_since script p g (latest_halt script p f) ≡ not (has_halted script p f)
 up_since_latest script none p zero g = ap not (sym (none_yet script.halts p))
 up_since_latest script none p (suc f) g = rw (halted_more script p f) (by_halt script none p f g (halts_in script p f) (up_since_latest script none p f g))

@@ -1,4 +1,4 @@
--- Past the last application an image is zeros.
+-- The slots of an image past the last application are zeros.
 use Rattle.std.proofs.Common.{◌≡◌, ℕ, zero, suc, ◌≤◌, refl, arith, length, Bool, true, false, List, [], ◌∷◌}
 use Rattle.std.specs.Prelude.{ℤ, Option, Some, None, option_and_then, slice_get, if◌then◌else◌}
 use Rattle.scram_types.specs.declared.ids.ConfId.{ConfId}

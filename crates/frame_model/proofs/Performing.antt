@@ -1,5 +1,5 @@
--- The outcome for one application is the same if its own area and keeper are the same and the settings are of one
--- frame.
+-- The outcome for an application is the same for any two settings of one frame, if its own area and keeper are the
+-- same.
 use Rattle.std.proofs.Common.{◌≡◌, ◌∙◌, ℕ, ap, refl}
 use Rattle.scram_types.specs.Bits.{has_bit}
 use Rattle.scram_types.specs.Lookups.{kind_of_app}

@@ -1,4 +1,4 @@
--- The reconfigurations that are read off rows.
+-- Laws on the reconfigurations that are read off rows.
 use Rattle.std.proofs.Common.{◌≡◌, ◌∙◌, ℕ, zero, suc, ◌+◌, ◌<◌, ◌≤◌, refl, ap, sym, arith, append_assoc, length, Bool, true, false, List, [], ◌∷◌, ◌++◌, ◌⊎◌}
 use mathlib.Core.Logic.{inl, inr}
 use Rattle.std.specs.Prelude.{All, Some, None, option_map}
@@ -94,7 +94,8 @@ moving_reading spec c s f (row ∷ rows) all =
 left_row : (spec : Parts) (c : ConfId) (g : ℕ) (left : Row) → runs spec left.acts c ≡ false → read_row spec (Steady c) g left.acts ≡ Leaving c g
 left_row spec c g left out = rw out refl
 
--- the rows up to the row that leaves c, and the rows from there on
+-- If the rows before a row run `c` and the row does not, reading continues after the row with the configuration `c`
+-- left in its frame.
 leaves_ended : (spec : Parts) (c : ConfId) (f : ℕ) (before : List Row) (left : Row) (on : List Row) → All (Runs spec c) before → runs spec left.acts c ≡ false
     → ended_in spec (Steady c) f (before ++ (left ∷ on)) ≡ ended_in spec (Leaving c (f + length before)) (suc (f + length before)) on
 leaves_ended spec c f before left on all out =

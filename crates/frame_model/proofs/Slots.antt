@@ -1,4 +1,4 @@
--- The slots of images: each has eight words and is found in the image.
+-- Each slot of an image has eight words and is found in the image.
 use Rattle.std.proofs.Common.{◌≡◌, ◌∙◌, ℕ, zero, suc, ◌+◌, ◌*◌, ◌<◌, refl, ap, sym, arith, length, Bool, List, [], ◌∷◌, ◌++◌, ◌⊎◌}
 use mathlib.Core.Logic.{inl, inr}
 use Rattle.std.specs.Prelude.{ℤ, pos, Option, Some, None, slice_index_or}
@@ -60,7 +60,7 @@ eight_words (a ∷ b ∷ c ∷ d ∷ e ∷ f ∷ g ∷ []) is = absurd (omega ar
 eight_words (a ∷ b ∷ c ∷ d ∷ e ∷ f ∷ g ∷ h ∷ []) is = refl
 eight_words (a ∷ b ∷ c ∷ d ∷ e ∷ f ∷ g ∷ h ∷ i ∷ more) is = absurd (omega arith)
 
--- the first n slots, one after another
+-- The first `n` slots, one after another.
 joined : (ℕ → List ℤ) → ℕ → List ℤ
 joined slot zero = []
 joined slot (suc n) = joined slot n ++ slot n

@@ -1,4 +1,4 @@
--- A frame does not depend on what a script lists for later frames.
+-- The effect of a frame does not depend on what a script lists for later frames.
 use Rattle.std.proofs.Common.{◌≡◌, ◌∙◌, ℕ, zero, suc, ◌≤◌, refl, ap, sym, arith, Bool, true, false, List, [], ◌∷◌}
 use Rattle.std.specs.Prelude.{filter, nat_le, if◌then◌else◌}
 use Rattle.std.proofs.Math.Path.{fun_ext}

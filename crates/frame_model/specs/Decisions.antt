@@ -10,35 +10,38 @@ use Rattle.scram_types.specs.Specification.{Parts}
 use Rattle.choice_table.specs.Choices.{choose, is_runnable}
 use Rattle.frame_model.specs.Phases.{halting_frames}
 
--- The mode if c runs and t is chosen: c stays stable if it is t, or else is left for t.
+-- The mode in frame `frame` if configuration `c` runs and `t` is chosen: stable in `c` if `t` is `c`, or else moving
+-- from `c` to `t`.
 abbrev pub leave_for : ConfId → ConfId → ℕ → KMode
 leave_for c t frame = if t.0 == c.0 then Stable c else Moving c (Some c) t frame
 
--- The decision in a stable mode: the configuration stays, or is left for the configuration that the table chooses.
+-- The decision in the stable mode of configuration `c`: `c` stays stable if the choice table chooses it, or else is
+-- left for the chosen configuration.
 abbrev pub stable_decision : Parts → ConfId → ℕ → Env → KMode
 stable_decision spec c frame v = leave_for c (choose spec c v) frame
 
--- The target that the policy chooses: the target chosen from the source, unless the old target is kept while it can
--- run.
+-- The target that the policy chooses for a reconfiguration: the table's choice from the source, except that `Settle`
+-- keeps the old target while it can run.
 abbrev pub wanted : Policy → Parts → ConfId → ConfId → Env → ConfId
 wanted Retarget spec from to v = choose spec from v
 wanted Settle spec from to v = if is_runnable spec to v then to else choose spec from v
 
--- The mode if a reconfiguration under way turns to another target t. While something halts only the target changes.
--- Otherwise a new reconfiguration begins, in which the old target halts if it was to run, and nothing halts if it was
--- not.
+-- The mode if a reconfiguration under way changes its target to `t`. While a configuration halts, only the target
+-- changes. After that, a new reconfiguration begins, in which the old target halts if it was to run, and nothing
+-- halts otherwise.
 abbrev pub turn_to : Parts → ℕ → ConfId → Option ConfId → ConfId → ℕ → Bool → ConfId → KMode
 turn_to spec frame from halting to since settled t =
     if nat_lt (frame - since) (halting_frames spec halting) then Moving from halting t since
     else (if settled then Moving from (Some to) t frame else Moving from None t frame)
 
--- The decision in a moving mode: the mode stays if the policy chooses its target, or else turns to the chosen one.
+-- The decision in a moving mode, given the target `t` that the policy chooses: the mode stays if `t` is its target,
+-- or else changes to `t`.
 abbrev pub moving_decision : Parts → ℕ → ConfId → Option ConfId → ConfId → ℕ → Bool → ConfId → KMode
 moving_decision spec frame from halting to since settled t =
     if t.0 == to.0 then Moving from halting to since else turn_to spec frame from halting to since settled t
 
--- The decision at the start of a frame. `settled` is whether the preceding frame was settled, and `arrived` whether it
--- was settled and its row ran the target.
+-- The decision at the start of a frame, given the mode of the preceding frame. `settled` is `true` if the preceding
+-- frame was settled. `arrived` is `true` if it was settled and its row ran the target.
 abbrev pub decision : Parts → ℕ → KMode → Bool → Bool → Env → KMode
 decision spec frame (Stable c) settled arrived v = stable_decision spec c frame v
 decision spec frame (Moving from halting to since) settled arrived v =

@@ -9,11 +9,11 @@ use Rattle.fault_script.specs.declared.inputs.Input.{Input}
 use Rattle.frame_model.specs.declared.systems.Sys.{Sys}
 use Rattle.frame_model.specs.States.{State, row_of, step}
 
--- The state that a system keeps from frame to frame.
+-- The state of a system that is kept from frame to frame.
 abbrev pub state_of : Sys → State
 state_of sys = record { mode = sys.mode; arrived = sys.settled; areas = sys.areas; keepers = sys.keepers; world = sys.world }
 
--- The environment of the frame, in which a processor that restarts in the frame is up.
+-- The environment of the frame. A processor that restarts in the frame is up.
 abbrev pub frame_env : Sys → Input → Env
 frame_env sys input = record { up = bit_or sys.up input.back; factors = input.factors }
 
@@ -21,7 +21,7 @@ frame_env sys input = record { up = bit_or sys.up input.back; factors = input.fa
 abbrev pub committing : Sys → Input → ℕ
 committing sys input = bit_and (frame_env sys input).up (bit_not w8 input.early)
 
--- Processor p commits the frame.
+-- Processor `p` commits the frame.
 abbrev pub commits_in : Sys → Input → ℕ → Bool
 commits_in sys input p = has_bit (committing sys input) p
 
@@ -38,7 +38,7 @@ row_given spec sys input = row_of spec sys.frame (frame_env sys input) (commits_
 abbrev pub state_given : Parts → Sys → Input → State
 state_given spec sys input = step spec sys.frame (frame_env sys input) (commits_in sys input) (state_of sys)
 
--- The system before frame f, with the given processors up and the given state.
+-- The system before frame `f`, with these processors up and this state.
 abbrev pub sys_of : ℕ → ℕ → State → Sys
 sys_of f up state = record {
   frame = f;

@@ -1,12 +1,12 @@
-//! The configuration that a row runs.
+//! The configuration that the acts of a row run.
 
 ghost use Rattle.std.specs.Prelude.{◌≡◌, ◌<◌, IfSome};
 ghost use Rattle.frame_model.specs.Runs.{act_at, is_off, is_ran_at, is_run_by, running, runs};
 
 use scram_types::{Act, AppId, ConfId, Place, Spec};
 
-/// Returns whether the acts of a row run configuration `c`. Each application that is on in `c` ran in its mode and on
-/// its processor there, and each other application was off.
+/// Returns `true` if the acts of a row run configuration `c`: each application that is on in `c` ran in its mode and
+/// on its processor there, and each other application was off.
 pub fn runs(spec: &Spec, acts: &[Act; 8], c: ConfId) -> bool
     ensures { result ≡ runs spec.now acts.now c }
 {
@@ -18,7 +18,8 @@ pub fn runs(spec: &Spec, acts: &[Act; 8], c: ConfId) -> bool
     true
 }
 
-/// Returns the configuration with the smallest number that the acts of a row run, or `None` if they run none.
+/// Returns the configuration of the smallest number that the acts of a row run, or `None` if they run no
+/// configuration.
 pub fn running(spec: &Spec, acts: &[Act; 8]) -> Option<ConfId>
     ensures { result ≡ running spec.now acts.now }
 {

@@ -11,7 +11,7 @@ use crate::systems::Sys;
 use choice_table::{choose, runnable};
 use scram_types::{ConfId, Env, KMode, Policy, Spec};
 
-/// A reconfiguration under way, with the frame at whose start it is judged.
+/// A reconfiguration under way, with the frame at whose start the kernel decides about it.
 #[derive(Clone, Copy)]
 struct Move {
     from: ConfId,
@@ -21,13 +21,12 @@ struct Move {
     frame: u32,
 }
 
-/// Returns the kernel's mode at the start of a frame, decided from the state before the frame and the frame's
-/// environment.
+/// Returns the kernel's mode at the start of a frame, given the state before the frame and the frame's environment.
 ///
-/// A stable configuration stays if the choice table chooses it, and is left otherwise. If a reconfiguration was settled
-/// and its row ran the target, the target is judged as a stable configuration. Otherwise the target stays if the policy
-/// still chooses it. If the policy chooses another, only the target changes while something halts. After that, the old
-/// target halts if it was settled, and nothing halts if it was not.
+/// A stable configuration stays if the choice table chooses it, and is left otherwise. If a reconfiguration was
+/// settled and its row ran the target, the same holds for the target. Otherwise the target stays if the policy still
+/// chooses it. If the policy chooses another target, only the target changes while a configuration halts. After that,
+/// a new reconfiguration begins, in which the old target halts if it was settled, and nothing halts otherwise.
 pub fn decide(spec: &Spec, sys: &Sys, env: &Env) -> KMode
     ensures { result ≡ mode_decided spec.now sys.now.frame env.now (state_of sys.now) }
 {

@@ -1,6 +1,6 @@
-//! The one-thread trace: the kernel's decisions and orders in each frame, the resulting areas, keepers, world and row
-//! under halts and restarts, and the reconfigurations that rows show. Each is proved as defined, for every
-//! specification and every fitting script.
+//! The one-thread trace of a script: the kernel's decisions and orders in each frame, the areas, keepers, world and
+//! row that result under halts and restarts, and the reconfigurations that rows show. All of these are proved to be
+//! as defined, for every specification and every script that fits it.
 #![tactic(auto)]
 
 pub mod acts;

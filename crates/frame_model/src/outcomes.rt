@@ -15,8 +15,8 @@ use app_model::racks::racks_frame;
 use app_model::{Rack, Seen};
 use scram_types::{Act, AppId, Area, Mode, Order, ProcId, Spec};
 
-/// What all applications of a frame share: what they see, except for their modes and their own areas; the processors
-/// that commit the frame, as bits; and the phase.
+/// What all applications of a frame share: what they see, except for their modes and their own areas, the processors
+/// that commit the frame, as bits, and the phase.
 #[derive(Clone, Copy)]
 pub(crate) struct Setting {
     pub(crate) seen: Seen,
@@ -24,8 +24,9 @@ pub(crate) struct Setting {
     pub(crate) stage: Stage,
 }
 
-/// Performs each application in its place and returns the act of each. The areas and keepers of `sys` are then those
-/// after the frame; its other fields are unspecified. The setting is left as the last application saw it.
+/// Performs the task of each application and returns the act of each. The areas and keepers of `sys` are then those
+/// after the frame, and its other fields are unspecified. `setting` is left with the mode and the area of the last
+/// application that was performed.
 pub(crate) fn perform_all(
     spec: &Spec,
     sys: &mut Sys,
@@ -44,7 +45,7 @@ pub(crate) fn perform_all(
     acts
 }
 
-// Performs one application.
+// Performs the task of application `a` and returns its act.
 fn perform(spec: &Spec, sys: &mut Sys, setting: &mut Setting, a: u8, racks: &mut [Rack]) -> Act
     requires a { a < 8 }
     requires offsets { setting.old.stage.offsets ≡ offsets_in spec.now setting.old.stage.phase }
@@ -77,7 +78,7 @@ fn perform(spec: &Spec, sys: &mut Sys, setting: &mut Setting, a: u8, racks: &mut
     }
 }
 
-/// Returns the act that carries out an order, if the processor commits.
+/// Returns the act of an application that carries out an order on a processor that commits.
 pub fn act_of_order(order: Order, mode: Mode, proc: ProcId) -> Act
     ensures { result ≡ act_of_order order mode proc }
 {
@@ -91,7 +92,7 @@ pub fn act_of_order(order: Order, mode: Mode, proc: ProcId) -> Act
     }
 }
 
-// Returns whether processor `p` is in a set that is kept as bits.
+// Returns `true` if processor `p` is in a set of processors that is given as bits.
 fn has(set: u8, p: u8) -> bool
     requires { p < 8 }
     ensures { result ≡ has_bit set p }
@@ -99,7 +100,7 @@ fn has(set: u8, p: u8) -> bool
     set >> p & 1 == 1
 }
 
-/// Returns the area of the application of a kind with the smallest number, or zeros if there is none.
+/// Returns the area of the application of a kind that has the smallest number, or zeros if there is none.
 pub(crate) fn lead_of(spec: &Spec, areas: &[Area; 8], kind: u8) -> Area
     ensures { result ≡ lead_of spec.now areas.now kind }
 {

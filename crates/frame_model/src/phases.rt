@@ -1,4 +1,4 @@
-//! The phases of a mode.
+//! The phases of the kernel's mode.
 
 ghost use Rattle.std.specs.Prelude.{◌≡◌, ◌<◌, replicate};
 ghost use Rattle.frame_model.specs.declared.phases.Phase.TheVariants.{Running};
@@ -7,7 +7,8 @@ ghost use Rattle.frame_model.specs.Phases.{after_halting, halting_frames, is_pas
 use dep_order::timetable;
 use scram_types::{ConfId, KMode, Spec};
 
-/// The phase of a mode in a frame, with its configuration. The number counts the frames of the phase from 0.
+/// The phase of a mode in a frame, with its configuration. The number is that of the frame in the phase, counted from
+/// 0.
 #[derive(Clone, Copy, Debug, PartialEq, Eq)]
 pub enum Phase {
     /// The configuration is to run.
@@ -17,16 +18,16 @@ pub enum Phase {
     Initialising(ConfId, u32),
 }
 
-/// A phase, with the frame of the phase in which each application's turn begins: its offset while a configuration halts
-/// or initialises, and 0 in the other phases.
+/// A phase, with the frame of the phase in which the turn of each application begins. That frame is the application's
+/// offset while a configuration halts or initialises, and 0 in the other phases.
 #[derive(Clone, Copy, Debug)]
 pub(crate) struct Stage {
     pub(crate) phase: Phase,
     pub(crate) offsets: [u16; 8],
 }
 
-/// Returns the phase of a mode in a frame: first one configuration halts, or none, then the target prepares, then it
-/// initialises, then it is to run.
+/// Returns the phase of a mode in a frame. In a move, one configuration halts or none, and then the target prepares,
+/// initialises and runs.
 pub fn phase_at(spec: &Spec, mode: &KMode, frame: u32) -> Phase
     ensures { result ≡ phase_at spec.now mode.now frame }
 {
@@ -100,7 +101,7 @@ fn stage_after_halting(spec: &Spec, to: ConfId, age: u32) -> Stage
     running_stage(to)
 }
 
-/// Returns the length of the halting phase, in frames, or 0 if no configuration halts.
+/// Returns the length of the halting phase in frames, or 0 if no configuration halts.
 pub(crate) fn halting_frames(spec: &Spec, halting: Option<ConfId>) -> u32
     ensures frames { result ≡ halting_frames spec.now halting }
     ensures few { result < 65536 }
@@ -126,7 +127,8 @@ pub fn target(mode: &KMode) -> ConfId
     }
 }
 
-// Returns whether a frame is past the phases of a reconfiguration, whose halting phase began in frame `since`.
+// Returns `true` if `frame` is past halting, preparing and initialising in a reconfiguration that began in frame
+// `since`.
 pub(crate) fn is_past(
     spec: &Spec,
     halting: Option<ConfId>,

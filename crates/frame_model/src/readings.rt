@@ -1,4 +1,4 @@
-//! Reconfigurations, read off the acts of rows.
+//! Reading reconfigurations off the acts of rows.
 
 ghost use Rattle.std.specs.Prelude.{◌≡◌, ◌<◌, ◌^◌, ◌++◌, length, IfOk};
 ghost use Rattle.frame_model.specs.Readings.{arrive, arrival, as_list, close, read_row, report_of, reports};
@@ -7,18 +7,19 @@ use crate::acts::{running, runs};
 use scram_types::{Act, ConfId, NoMemory, Report, Row, Spec};
 use std::alloc::Global;
 
-/// The state of the reading after the rows so far.
+/// The state of reading reconfigurations after the rows so far.
 #[derive(Clone, Copy, Debug, PartialEq, Eq)]
 pub enum Reading {
-    /// Each row since the last reconfiguration runs this configuration.
+    /// Each row since the end of the last reconfiguration runs this configuration.
     Steady(ConfId),
-    /// The configuration was left in this frame, and no row has run any configuration since.
+    /// This configuration was left in this frame, and no row has run any configuration since.
     Leaving(ConfId, u32),
 }
 
-/// Reads the row of a frame. The first row that does not run the configuration makes the reading `Leaving`. The first
-/// later row that runs some configuration (the one with the smallest number counts) makes the reading `Steady` and ends
-/// the reconfiguration.
+/// Reads the row of a frame. Returns the new reading, and the reconfiguration that ends with the row, if any. The
+/// first row that does not run the configuration makes the reading `Leaving`. The first later row that runs some
+/// configuration makes the reading `Steady` and ends the reconfiguration. If that row runs several, the one with the
+/// smallest number counts.
 pub fn read_row(
     spec: &Spec,
     reading: Reading,
@@ -58,7 +59,7 @@ fn arrive(from: ConfId, begin: u32, frame: u32, to: Option<ConfId>) -> (Reading,
     }
 }
 
-/// Returns the reconfiguration that is cut off after `frames` frames, or `None` if none is under way.
+/// Returns the reconfiguration that is cut off after `frames` frames, or `None` if no reconfiguration is under way.
 pub fn close(reading: Reading, frames: u32) -> Option<Report>
     ensures { result ≡ close reading frames }
 {
@@ -73,9 +74,9 @@ pub fn close(reading: Reading, frames: u32) -> Option<Report>
     }
 }
 
-/// Returns the reconfigurations that rows show, in order, where the first row is the row of frame 0 and the start
-/// configuration runs before it. The last reconfiguration may be cut off by the end of the rows. The only error is out
-/// of memory.
+/// Returns the reconfigurations that rows show, in order. The first row is that of frame 0, and the start
+/// configuration runs before it. The last reconfiguration may be cut off by the end of the rows. The only error is
+/// out of memory.
 pub fn reports(alloc: Global, spec: &Spec, rows: &[Row]) -> Result<Vec<Report>, NoMemory>
     requires { length rows.now < 2 ^ 32 }
     ensures { IfOk result (λ list. list.items ≡ reports spec.now rows.now) }

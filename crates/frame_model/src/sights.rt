@@ -1,4 +1,4 @@
-//! The data that an application is shown, and the slots of images.
+//! What an application sees, and the slots of images.
 
 ghost use Rattle.std.specs.Prelude.{◌≡◌, ◌<◌};
 ghost use Rattle.scram_types.specs.Eights.{eight};
@@ -9,7 +9,8 @@ use crate::outcomes::lead_of;
 use app_model::Seen;
 use scram_types::{Area, Env, Image, Mode, Spec, World};
 
-/// Returns what all applications see in a frame of this environment, given the areas and the world before the frame.
+/// Returns what all applications see in a frame, given the areas and the world before the frame, and the frame's
+/// environment.
 pub fn seen_by_all(spec: &Spec, areas: &[Area; 8], world: World, env: &Env) -> Seen
     ensures { (state : State) → state.areas ≡ areas.now → state.world ≡ world → result ≡ seen_by_all spec.now env.now state }
 {
@@ -38,7 +39,7 @@ fn leads(spec: &Spec, areas: &[Area; 8]) -> [Area; 8]
     ]
 }
 
-/// Adapts `seen` to one application, with its mode and its own area.
+/// Sets the mode and the own area in `seen` to those of one application.
 pub fn show_in(seen: &mut Seen, mode: Mode, own: &Area)
     ensures { seen.new ≡ seen_in seen.old mode own.now }
 {
@@ -46,7 +47,7 @@ pub fn show_in(seen: &mut Seen, mode: Mode, own: &Area)
     seen.own = *own;
 }
 
-/// Returns the slot of an application in an image.
+/// Returns the slot of application `a` in an image.
 pub fn slot_in(image: &Image, a: u8) -> Area
     requires { a < 8 }
     ensures { result ≡ slot_in image.now a }

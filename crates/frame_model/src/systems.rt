@@ -8,7 +8,7 @@ ghost use Rattle.frame_model.specs.States.{start_area_of, start_keeper_of, start
 use app_model::start_area;
 use scram_types::{AppId, Area, KMode, ProcId, Spec, World};
 
-/// The world before frame 0: 5,000 feet, level, east, wings level.
+/// The world before frame 0: an altitude of 5,000 feet, in level flight to the east, with the wings level.
 pub const START_WORLD: World = World {
     alt: 5_000,
     climb: 0,
@@ -16,10 +16,10 @@ pub const START_WORLD: World = World {
     bank: 0,
 };
 
-/// The state before frame `frame`, with the mode of the preceding frame (before frame 0 the start configuration is
-/// stable). `keepers` has for each application the processor whose image holds its area. `up` has the processors that
-/// were up and had not halted by the end of the preceding frame. `settled` is `true` if the preceding frame was past
-/// the phases of a reconfiguration and its row ran the target.
+/// The state before frame `frame`. `mode` is the mode of the preceding frame, or the stable mode of the start
+/// configuration before frame 0. `keepers` has for each application the processor whose image holds its area. `up`
+/// has the processors that were up and had not halted by the end of the preceding frame, as bits. `settled` is `true`
+/// if the preceding frame was past the phases of a reconfiguration and its row ran the target.
 #[derive(Clone, Copy, Debug)]
 pub struct Sys {
     pub frame: u32,
@@ -33,7 +33,7 @@ pub struct Sys {
 
 impl Sys {
     /// Returns the state before frame 0. Every processor is up. An application that is on in the start configuration
-    /// has its start area there; the others have zeros and no keeper.
+    /// has its start area, and the processor of its place keeps it. The other applications have zeros and no keeper.
     pub fn start(spec: &Spec) -> Sys
         ensures { result ≡ sys_of 0 (2 ^ length spec.now.procs - 1) (start_state spec.now) }
     {

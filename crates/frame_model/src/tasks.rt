@@ -18,9 +18,10 @@ pub struct Task {
     pub proc: Option<ProcId>,
 }
 
-/// Returns the task of an application in a frame of the kernel's mode. A stable configuration runs. Otherwise one
-/// configuration halts (each application runs until its halt offset), then the target prepares, initialises (each
-/// application from its init offset on) and runs. An application that has nothing to do in a phase holds.
+/// Returns the task of an application in a frame of the kernel's mode. In a stable mode, the applications of the
+/// configuration run. In a move, one configuration halts, and each application runs until its halt offset. Then the
+/// target prepares, and then it initialises, each application from its init offset on. At last the target runs. An
+/// application that has nothing to do in a phase holds.
 pub fn order_of(spec: &Spec, mode: &KMode, frame: u32, app: AppId) -> Task
     requires { app.0 < 8 }
     ensures { result ≡ task_of spec.now mode.now frame app.0 }
@@ -28,7 +29,7 @@ pub fn order_of(spec: &Spec, mode: &KMode, frame: u32, app: AppId) -> Task
     task_in(spec, &stage_at(spec, mode, frame), app)
 }
 
-/// Returns the task of each application in a frame of the kernel's mode, by one timetable.
+/// Returns the task of each application in a frame of the kernel's mode. The phase is determined only once.
 pub fn tasks_of(spec: &Spec, mode: &KMode, frame: u32) -> [Task; 8]
     ensures { result ≡ eight (task_of spec.now mode.now frame) }
 {

@@ -1,4 +1,4 @@
-//! The one-thread trace.
+//! The one-thread trace of a script.
 
 ghost use Rattle.std.specs.Prelude.{◌≡◌, ◌<◌, ◌+◌, IfOk, length};
 ghost use Rattle.fault_script.specs.Fits.{Fits};
@@ -12,7 +12,7 @@ use fault_script::Walk;
 use scram_types::{NoMemory, Row, Script, Spec};
 use std::alloc::Global;
 
-/// Returns the rows of all frames of a script: the one-thread trace. The only error is out of memory.
+/// Returns the one-thread trace of a script: the rows of all its frames, in order. The only error is out of memory.
 pub fn rows(
     alloc: Global,
     spec: &Spec,
@@ -46,7 +46,7 @@ fn fly_all(
     Ok(rows)
 }
 
-// Flies the next frame of the script.
+// Flies the next frame of the script and returns its row.
 fn fly(spec: &Spec, script: &Script, sys: &mut Sys, walk: &mut Walk, racks: &mut [Rack]) -> Row
     requires script { Fits spec.now script.now }
     requires frame { sys.old.frame < script.now.frames }

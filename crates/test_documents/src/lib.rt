@@ -1,5 +1,5 @@
-//! Tests of the crates that read, write and generate documents. They are a crate of their own, since a crate that has
-//! tests is proved twice.
+//! Tests of the crates that read, write and generate documents. The tests are in a separate crate, since a crate that
+//! has tests is proved twice.
 #![tactic(auto)]
 
 #[cfg(test)]

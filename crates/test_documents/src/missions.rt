@@ -1,16 +1,16 @@
-//! Generated missions, compared with worked ones.
+//! Tests that compare generated missions with values that are worked out by hand.
 
 use mission_gen::{generate, uav};
 use scram_types::{Change, HaltAt, Script};
 use std::rt::HostRuntime;
 use std::test::Fail;
 
-/// Returns whether a change is in this frame, of the factor of this number, to the value of this number.
+/// Returns `true` if a change has the frame, the factor and the value of `worked`, in this order.
 fn is_change(change: &Change, worked: &(u32, u8, u8)) -> bool {
     change.frame == worked.0 && change.factor.0 == worked.1 && change.value == worked.2
 }
 
-/// Returns whether the changes begin with the worked ones.
+/// Returns `true` if `changes` begins with the changes in `worked`.
 fn begin_with(changes: &[Change], worked: &[(u32, u8, u8)]) -> bool {
     worked.len() <= changes.len()
         && changes
@@ -19,7 +19,7 @@ fn begin_with(changes: &[Change], worked: &[(u32, u8, u8)]) -> bool {
             .all(|(change, worked)| is_change(change, worked))
 }
 
-/// Returns whether the only halt is of this processor, in this frame, at this step.
+/// Returns `true` if there is exactly one halt, and it is of this processor, in this frame, at this step.
 fn is_only_halt(halts: &[HaltAt], proc: u8, frame: u32, step: u8) -> bool {
     match halts {
         [halt] => halt.proc.0 == proc && halt.frame == frame && halt.step == step,
@@ -27,7 +27,7 @@ fn is_only_halt(halts: &[HaltAt], proc: u8, frame: u32, step: u8) -> bool {
     }
 }
 
-// The frames, factors and values of the first changes of mission 0.
+// The frames, factors and values of the first five changes of mission 0.
 const FIRST: [(u32, u8, u8); 5] = [
     (60, 0, 1),
     (126, 0, 0),
@@ -36,8 +36,8 @@ const FIRST: [(u32, u8, u8); 5] = [
     (244, 1, 1),
 ];
 
-// Returns the frames of a script, how many changes it has, whether it begins with those of mission 0, and whether its
-// only halt is that of mission 0.
+// Returns the number of frames of a script, its number of changes, whether it begins with the first changes of
+// mission 0, and whether its only halt is that of mission 0.
 fn facts(script: &Script) -> (u32, usize, bool, bool) {
     let changes = script.changes.items();
     (

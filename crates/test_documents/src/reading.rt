@@ -1,4 +1,5 @@
-//! A small document that is read by path, and the refusals of each call.
+//! Tests of reading the parts of a document: numbers, texts, names, lists and objects, and the faults that are
+//! reported for them.
 
 ghost use Rattle.std.specs.Prelude.{◌≤◌, length};
 
@@ -11,11 +12,12 @@ use std::alloc::Global;
 use std::rt::HostRuntime;
 use std::test::Fail;
 
-/// Checks a small document, which has `scram` and a list of 1 to 8 objects with `name` and `capacity`.
+/// Checks a small document: an object with the members `scram` and `processors`. The second is a list of 1 to 8
+/// objects with `name` and `capacity`.
 ///
 /// # Errors
 ///
-/// The first rule that the document breaks.
+/// Returns the first rule that the document breaks, with its path.
 fn read_document(v: &Value) -> Result<(), DocFault> {
     let root = Path::root();
     object(v, &root)?;
@@ -42,7 +44,8 @@ fn read_processor(v: &Value, at: &Path) -> Result<(), DocFault>
     Ok(())
 }
 
-/// Returns the rule and the path of the first fault, or 0 and the empty path if there is no fault.
+/// Returns the rule and the path of the first fault of a document, or 0 and the path of the root if there is no
+/// fault.
 fn first_fault(alloc: Global, bytes: &[u8]) -> Result<(u8, Path), DocError> {
     let value = parse(alloc, bytes);
     match value {
@@ -55,8 +58,8 @@ fn first_fault(alloc: Global, bytes: &[u8]) -> Result<(u8, Path), DocError> {
     }
 }
 
-/// Returns the index of the first row whose document is not refused by its rule at its path, or `None`. A row with 0
-/// and `.` expects no fault.
+/// Returns the index of the first row whose document does not have the fault of the row, or `None` if there is no
+/// such row. A row has a document, a rule and a path. The rule 0 with the path `.` stands for no fault.
 fn first_wrong(alloc: Global, rows: &[(&str, u8, &str)]) -> Result<Option<usize>, DocError> {
     for (i, (document, rule, path)) in rows.iter().enumerate() {
         let fault = first_fault(alloc, document.as_bytes())?;
@@ -140,7 +143,7 @@ fn texts_and_numbers_are_refused_at_the_first_broken_rule(rt: HostRuntime) -> Re
     Ok(())
 }
 
-/// Texts, and the numbers from -7 to 10 that they are.
+/// JSON texts, with the integers from -7 to 10 that they encode, or `None`.
 const NUMBERS: [(&str, Option<i64>); 11] = [
     ("0", Some(0)),
     ("5", Some(5)),
@@ -155,7 +158,7 @@ const NUMBERS: [(&str, Option<i64>); 11] = [
     ("true", None),
 ];
 
-/// Returns the number from -7 to 10 that a text is.
+/// Returns the integer from -7 to 10 that a JSON text encodes, or `None` if it encodes no such integer.
 fn number_of(alloc: Global, text: &str) -> Result<Option<i64>, DocError> {
     let value = parse(alloc, text.as_bytes())?;
     Ok(int_in(&value, -7, 10, &Path::root()).ok())
@@ -169,7 +172,7 @@ fn whole_numbers_have_no_point_no_exponent_and_64_bits(rt: HostRuntime) -> Resul
     Ok(())
 }
 
-/// Returns `open` times `[`, followed by `close` times `]`.
+/// Returns a text of `open` opening brackets, followed by `close` closing brackets.
 fn brackets(alloc: Global, open: usize, close: usize) -> Result<Vec<u8>, Fail> {
     let mut bytes = Vec::new(alloc);
     for _ in 0..open {
@@ -181,7 +184,7 @@ fn brackets(alloc: Global, open: usize, close: usize) -> Result<Vec<u8>, Fail> {
     Ok(bytes)
 }
 
-/// Numbers of `[` and of `]`, and the rule at which these texts are refused.
+/// The numbers of opening and of closing brackets, with the rule that a text of these brackets breaks.
 const NESTED: [(usize, usize, u8); 5] = [
     (100, 100, 2),
     (127, 127, 2),
@@ -190,7 +193,7 @@ const NESTED: [(usize, usize, u8); 5] = [
     (1_048_576, 0, 1),
 ];
 
-/// Returns the rule and the path at which this number of brackets is refused.
+/// Returns the rule and the path of the first fault of a text of `open` opening and `close` closing brackets.
 fn bracket_fault(alloc: Global, open: usize, close: usize) -> Result<(u8, Path), Fail> {
     let bytes = brackets(alloc, open, close)?;
     let fault = first_fault(alloc, &bytes)?;
@@ -213,7 +216,7 @@ fn a_json_text_is_utf8(rt: HostRuntime) -> Result<(), Fail> {
     Ok(())
 }
 
-/// Returns the text that a member of an object is.
+/// Returns the text of a member of an object, or `None` if there is no such member or it is not a text.
 fn text_member<'a>(v: &'a Value, name: &str) -> Option<&'a str> {
     let path = Path::root();
     match field(v, name) {
@@ -230,7 +233,7 @@ fn members_are_found_by_name(rt: HostRuntime) -> Result<(), Fail> {
     Ok(())
 }
 
-/// Texts that are names, and others.
+/// Texts, with `true` for each text that is a valid name.
 const NAMES: [(&str, bool); 10] = [
     ("p", true),
     ("alternator_1", true),
@@ -244,7 +247,7 @@ const NAMES: [(&str, bool); 10] = [
     ("p-0", false),
 ];
 
-/// Returns whether the name of a text shows that text; none where the text is no name.
+/// Returns whether the name that is made from a text shows the same text, or `None` if the text is not a valid name.
 fn is_kept(text: &str) -> Option<bool> {
     match name_of(text) {
         Some(name) => Some(name.as_str() == text),

@@ -1,4 +1,4 @@
-//! The values of a script in a frame.
+//! Tests of the values of factors, the halts and the restarts of a script in a frame.
 
 use fault_script::{factors_at, halt_in, halt_of, restart_of, up_at};
 use scram_types::{Change, FactorId, HaltAt, List, ProcId, RestartAt, Script};
@@ -6,8 +6,8 @@ use std::alloc::{AllocError, Global};
 use std::process::Abort;
 use std::rt::HostRuntime;
 
-// Returns a script in which factor 1 changes in frames 3 and 5. Processor 0 halts in 4 and stays down. Processor 1
-// halts in 2, restarts in 6 and halts again in that same frame.
+// Returns a script in which factor 1 changes in frames 3 and 5. Processor 0 halts in frame 4 and stays down.
+// Processor 1 halts in frame 2, restarts in frame 6 and halts again in that frame.
 fn script(alloc: Global) -> Result<Script, AllocError> {
     let change = |frame, value| Change {
         frame,
@@ -36,7 +36,7 @@ fn script(alloc: Global) -> Result<Script, AllocError> {
     })
 }
 
-// Frames, the value of factor 1, and whether processors 0 and 1 are up.
+// Frames of the script, each with the value of factor 1, and with `true` for each of processors 0 and 1 that is up.
 const FRAMES: [(u32, u8, bool, bool); 7] = [
     (0, 0, true, true),
     (2, 0, true, true),
@@ -47,7 +47,7 @@ const FRAMES: [(u32, u8, bool, bool); 7] = [
     (7, 1, false, false),
 ];
 
-// Returns the values of a frame, and whether processors 0 and 1 are up.
+// Returns the values of the factors in a frame, and whether processors 0 and 1 are up.
 fn told(script: &Script, frame: u32) -> ([u8; 6], bool, bool) {
     (
         factors_at(script, frame),
@@ -70,7 +70,8 @@ fn tells_values_and_who_is_up(rt: HostRuntime) -> Result<(), AllocError> {
     Ok(())
 }
 
-// Returns the frames of a processor's first halt and of its restart.
+// Returns the frames of a processor's first halt and of its restart, or `None` for each that the script does not
+// have.
 fn halt_and_restart(script: &Script, proc: u8) -> (Option<u32>, Option<u32>) {
     let halt = match halt_of(script, ProcId(proc)) {
         Some(halt) => Some(halt.frame),
@@ -79,7 +80,7 @@ fn halt_and_restart(script: &Script, proc: u8) -> (Option<u32>, Option<u32>) {
     (halt, restart_of(script, ProcId(proc)))
 }
 
-// Returns the step of a processor's halt in a frame.
+// Returns the step of a processor's halt in a frame, or `None` if it does not halt in the frame.
 fn step_in(script: &Script, proc: u8, frame: u32) -> Option<u8> {
     match halt_in(script, ProcId(proc), frame) {
         Some(halt) => Some(halt.step),

@@ -1,5 +1,5 @@
-//! Reading and writing the example of the documents' format. The refusals by each rule, and longer documents, are
-//! worked rows.
+//! Tests of reading and writing specifications, with the example from the description of the format. The tests of the
+//! refusal by each rule, and of longer documents, are rows of `test_worked`.
 
 use reconf_spec::{SpecError, read_spec, write_spec};
 use scram_doc::Path;
@@ -9,7 +9,7 @@ use std::alloc::Global;
 use std::rt::HostRuntime;
 use std::test::Fail;
 
-/// The example of the documents' format, as a person writes it.
+/// The example from the description of the format, written by hand.
 const EXAMPLE: &str = r#"{"scram":1,
 "processors":[{"name":"p0","capacity":100}],
 "apps":[{"name":"link","kind":"datalink","needs":[],"modes":[{"mode":"fast","load":20,"halt":1,"prepare":1,"init":1}]}],
@@ -24,7 +24,8 @@ const EXAMPLE: &str = r#"{"scram":1,
 const CANONICAL: &str =
     r#"{"apps":[{"kind":"datalink","modes":[{"halt":1,"init":1,"load":20,"mode":"fast","prepare":1}],"name":"link","needs":[]}],"assumption":{"changes":1,"halts":0,"window":40},"bounds":[{"frames":10,"from":"full","to":"full"}],"configurations":[{"apps":[{"app":"link","mode":"fast","on":"p0"}],"name":"full"}],"factors":[],"goal":{"altitude":5000,"heading":900},"invariants":[],"preconditions":[{"app":"link","configuration":"full","greatest":8,"least":0,"variable":"queued"}],"processors":[{"capacity":100,"name":"p0"}],"rules":[{"from":"*","to":"full","up":["p0"],"when":[]}],"scram":1,"start":"full"}"#;
 
-/// Returns the rule and the path of the first fault, or 0 and `.` if there is none.
+/// Returns the rule and the path of the first fault of a specification, or 0 and the path of the root if there is no
+/// fault.
 fn refusal(alloc: Global, bytes: &[u8]) -> Result<(u8, Path), NoMemory> {
     match read_spec(alloc, bytes).err() {
         None => Ok((0, Path::root())),
@@ -33,7 +34,7 @@ fn refusal(alloc: Global, bytes: &[u8]) -> Result<(u8, Path), NoMemory> {
     }
 }
 
-/// Returns `open` opening brackets, followed by closing brackets up to `length` bytes.
+/// Returns a text of `length` bytes: `open` opening brackets, followed by closing brackets.
 fn brackets(alloc: Global, open: usize, length: usize) -> Result<Vec<u8>, NoMemory> {
     let mut bytes = Vec::new(alloc);
     bytes.resize(open, b'[')?;
@@ -41,7 +42,7 @@ fn brackets(alloc: Global, open: usize, length: usize) -> Result<Vec<u8>, NoMemo
     Ok(bytes)
 }
 
-/// Numbers of opening brackets and of all, and the rule at which these texts are refused.
+/// The numbers of opening brackets and of all brackets, with the rule that a text of these brackets breaks.
 const DEEP: [(usize, usize, u8); 5] = [
     (100, 200, 2),
     (127, 254, 2),
@@ -50,7 +51,7 @@ const DEEP: [(usize, usize, u8); 5] = [
     (MAX_SPECIFICATION_BYTES, MAX_SPECIFICATION_BYTES, 1),
 ];
 
-/// Returns the rule at which this number of brackets is refused.
+/// Returns the rule that a text of `length` brackets breaks, of which the first `open` are opening brackets.
 fn bracket_rule(alloc: Global, open: usize, length: usize) -> Result<u8, NoMemory> {
     let bytes = brackets(alloc, open, length)?;
     let (rule, _path) = refusal(alloc, &bytes)?;
@@ -69,7 +70,7 @@ fn deep_texts(rt: HostRuntime) -> Result<(), Fail> {
     Ok(())
 }
 
-/// Returns the refusal of the example behind a byte that begins no character.
+/// Returns the rule and the path of the first fault of the example after the byte 255, which occurs in no UTF-8 text.
 fn refusal_behind_byte(alloc: Global) -> Result<(u8, Path), NoMemory> {
     let mut bytes = Vec::from_slice(alloc, &[255])?;
     bytes.extend_from_slice(EXAMPLE.as_bytes())?;
@@ -93,7 +94,8 @@ fn cuts_are_no_json_texts(rt: HostRuntime) -> Result<(), Fail> {
     Ok(())
 }
 
-/// Returns the canonical text of the specification that a text encodes, or no bytes if it encodes none.
+/// Returns the canonical text of the specification that a text encodes, or no bytes if the text encodes no
+/// specification.
 fn rewritten(alloc: Global, bytes: &[u8]) -> Result<Vec<u8>, NoMemory> {
     match read_spec(alloc, bytes) {
         Ok(spec) => write_spec(alloc, &spec),
@@ -102,7 +104,7 @@ fn rewritten(alloc: Global, bytes: &[u8]) -> Result<Vec<u8>, NoMemory> {
     }
 }
 
-/// Returns whether the specification that a text is has this canonical text.
+/// Returns `true` if the specification that `text` encodes has the canonical text `canonical`.
 fn is_written(alloc: Global, text: &str, canonical: &str) -> Result<bool, NoMemory> {
     let written = rewritten(alloc, text.as_bytes())?;
     Ok(written.as_slice() == canonical.as_bytes())
@@ -115,7 +117,8 @@ fn the_example_is_written_in_its_canonical_text(rt: HostRuntime) -> Result<(), F
     Ok(())
 }
 
-/// Returns the text with the first `old` replaced by `new`, or the text itself if it has no `old`.
+/// Returns a text in which the first occurrence of `old` is replaced by `new`, or the text itself if `old` does not
+/// occur.
 fn changed(alloc: Global, text: &str, old: &str, new: &str) -> Result<String, NoMemory> {
     match text.split_once(old) {
         Some((before, after)) => Ok(format!(in alloc; "{before}{new}{after}")?),
@@ -123,7 +126,7 @@ fn changed(alloc: Global, text: &str, old: &str, new: &str) -> Result<String, No
     }
 }
 
-/// Returns the canonical text of the example in a version, with its policy.
+/// Returns the canonical text of the example with the members `version` and `policy`, which are given as text.
 fn version(alloc: Global, version: &str, policy: &str) -> Result<String, NoMemory> {
     let text = changed(alloc, CANONICAL, r#""scram":1"#, version)?;
     changed(alloc, text.as_str(), r#""preconditions""#, policy)
@@ -137,11 +140,11 @@ fn the_second_version_is_written_as_it_was_read(rt: HostRuntime) -> Result<(), F
     Ok(())
 }
 
-/// A demand on the example, in its canonical text.
+/// A demand for the example, in its canonical text.
 const DEMAND: &str =
     r#""demands":[{"down":[],"from":["full"],"name":"stay","off":[],"on":[{"app":"link","modes":["fast"]}],"to":["full"],"up":["p0"],"when":[]}],"factors""#;
 
-/// Returns the canonical text of the example in the third version, with a policy and a demand.
+/// Returns the canonical text of the example in version 3, with a policy and a demand.
 fn third_version(alloc: Global) -> Result<String, NoMemory> {
     let policy = r#""policy":"retarget","preconditions""#;
     let text = version(alloc, r#""scram":3"#, policy)?;

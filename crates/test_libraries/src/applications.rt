@@ -1,4 +1,4 @@
-//! Names, ranges and first areas of applications, by the tables.
+//! Tests of the tables of applications: names, ranges and first areas.
 
 use app_model::kinds::autopilot::{HOLD, KIND as PILOT};
 use app_model::kinds::data_link::{FAST, KIND as LINK};
@@ -12,7 +12,7 @@ use app_model::{
 };
 use scram_types::{KindId, Mode};
 
-// Returns the kind of the first name, and the mode and the variable of a kind that the others name.
+// Returns the kind that the first name names, and the mode and the variable of kind `kind` that the other names name.
 fn numbers_of(kind: u8, names: (&str, &str, &str)) -> (Option<KindId>, Option<Mode>, Option<u8>) {
     (
         kind_named(names.0),
@@ -21,7 +21,7 @@ fn numbers_of(kind: u8, names: (&str, &str, &str)) -> (Option<KindId>, Option<Mo
     )
 }
 
-// Returns the names of a kind, of its mode and of its variable.
+// Returns the names of a kind, of one of its modes, and of one of its variables.
 fn names_of(
     kind: u8,
     mode: u8,
@@ -38,7 +38,7 @@ fn names_of(
     )
 }
 
-// Kinds, modes and variables, and their names.
+// Numbers of kinds, modes and variables, with their names.
 const NAMES: [(u8, u8, u8, (&str, &str, &str)); 6] = [
     (0, 1, 3, ("autopilot", "navigate", "target_alt")),
     (1, 2, 1, ("flight_control", "direct", "elevator")),
@@ -62,7 +62,7 @@ fn names_are_those_of_the_tables(rt: HostRuntime) {
     }
 }
 
-// Kinds, and modes and variables that they have not; the kinds' names.
+// Numbers of kinds, and of modes and variables that these kinds do not have, with the names of the kinds.
 const UNNAMED: [(u8, u8, u8, Option<&str>); 3] = [
     (6, 1, 3, None),
     (0, 0, 7, Some("autopilot")),
@@ -78,7 +78,7 @@ fn what_is_in_no_table_has_no_name(rt: HostRuntime) {
     }
 }
 
-// For what a range is asked: a status, the end of a halt, the end of an initialisation, or any state.
+// The state for which a range is requested: a status, the end of a halt, the end of an initialisation, or any state.
 #[derive(Clone, Copy, Debug)]
 enum When {
     During(u8),
@@ -87,7 +87,7 @@ enum When {
     Always,
 }
 
-// Returns the range of a variable of a kind in a mode.
+// Returns the range of a variable in a state, given the kind and the mode of the application.
 fn range(when: When, kind: u8, mode: u8, variable: u8) -> (i64, i64) {
     match when {
         When::During(status) => during(KindId(kind), status, Mode(mode), variable),
@@ -97,7 +97,7 @@ fn range(when: When, kind: u8, mode: u8, variable: u8) -> (i64, i64) {
     }
 }
 
-// States, kinds, modes and variables, and their ranges.
+// States, kinds, modes and variables, with the ranges of the variables.
 const RANGES: [(When, u8, u8, u8, (i64, i64)); 14] = [
     (When::During(1), PILOT, HOLD, 1, (-80, 80)),
     (When::During(1), POWER, SAVER, 3, (0, 60)),
@@ -123,7 +123,7 @@ fn ranges_are_those_of_the_tables(rt: HostRuntime) {
     }
 }
 
-// Kinds and their first areas.
+// Kinds of applications, with their first areas.
 const STARTS: [(u8, [i64; 8]); 4] = [
     (0, [4, 0, 0, 5_000, 900, 0, 0, 0]),
     (1, [4, 0, 0, 0, 0, 0, 0, 0]),

@@ -1,4 +1,4 @@
-//! Worked values for the boxes of the five kinds.
+//! Tests of the boxes of the five kinds with values that are worked out by hand.
 
 use airframe::step;
 use app_model::kinds::{autopilot, data_link, navigator, power_monitor, task};
@@ -11,11 +11,11 @@ use std::test::Fail;
 
 const NONE: Area = [0; 8];
 
-// Altitude and heading of a level flight, in feet and in tenths of a degree.
+// The altitude and the heading of a level flight, in feet and in tenths of a degree.
 const LEVEL: (i64, i64) = (5_000, 900);
 
-// Returns what a box sees that flies from one altitude and heading and is to reach another, with no application that
-// leads it.
+// Returns what a box sees in a level flight at altitude and heading `from` whose goal is `to`, without applications
+// of other kinds.
 fn seen_in(mode: u8, own: Area, from: (i64, i64), to: (i64, i64)) -> Seen {
     Seen {
         mode: Mode(mode),
@@ -39,7 +39,7 @@ fn make_world(alt: i64, climb: i64, heading: i64, bank: i64) -> World {
     }
 }
 
-// Returns the answer to a call, to the same call again, and to the call after another one.
+// Returns the answers of a box to a call, to the same call again, and to the same call after the order `Off`.
 fn answers(app: &mut dyn App, order: Order, seen: &Seen) -> (Area, Area, Area) {
     let first = app.frame(order, seen);
     let again = app.frame(order, seen);
@@ -127,7 +127,7 @@ fn plain_autopilot_answers_as_was_worked_out(rt: HostRuntime) {
     assert_eq!(rt; answers(&mut app, Order::Run, &seen), (want, want, want));
 }
 
-// Returns what a flight control sees in level flight if its autopilot has this status and asks for this pitch.
+// Returns what a flight control sees in level flight if the autopilot has this status and requests this pitch.
 fn seen_with_autopilot(mode: u8, elevator: i64, status: i64, pitch: i64) -> Seen {
     let own = [1, elevator, 0, 0, 0, 0, 0, 0];
     let autopilot = [status, pitch, 0, 0, 0, 0, 0, 0];
@@ -187,7 +187,8 @@ fn flight_control_answers_as_was_worked_out(rt: HostRuntime) {
     }
 }
 
-// Returns what a power monitor sees in level flight with this charge, if the two alternators have these values.
+// Returns what a power monitor sees in level flight with this charge, if the factors of the two alternators have
+// these values.
 fn seen_with_charge(mode: u8, charge: i64, first: u8, second: u8) -> Seen {
     Seen {
         factors: [first, second, 0, 0, 0, 0],
@@ -243,7 +244,8 @@ fn navigator_answers_as_was_worked_out(rt: HostRuntime) {
     }
 }
 
-// Returns what a data link sees in level flight if the first four applications have these statuses.
+// Returns what a data link sees in level flight if the first applications of the first four kinds have these
+// statuses.
 fn seen_with_statuses(mode: u8, own: Area, statuses: [i64; 4]) -> Seen {
     let [first, second, third, fourth] = statuses;
     Seen {
@@ -286,17 +288,18 @@ fn data_link_answers_as_was_worked_out(rt: HostRuntime) {
     }
 }
 
-/// Returns the answers of the last processor's rack to two orders.
+/// Returns the answers of the last processor's rack to `Run` for the power monitor and to `Off` for the data link.
 fn racks_answer(mut racks: Vec<Rack>, seen: &Seen) -> (Area, Area) {
     let run = racks_frame(&mut racks, ProcId(7), KindId(2), Order::Run, seen);
     let off = racks_frame(&mut racks, ProcId(7), KindId(4), Order::Off, seen);
     (run, off)
 }
 
-// What the power monitor's rack answers to `charging()`, and another one after it.
+// The expected answers of a rack to `Run` for the power monitor that sees `charging()`, and to `Off` for the data
+// link.
 const CHARGED: (Area, Area) = ([1, 8_020, 120, 100, 0, 0, 1, 0], NONE);
 
-// Returns what a power monitor sees at its start.
+// Returns what a power monitor with its start area sees in level flight.
 fn charging() -> Seen {
     let start = start_area(KindId(power_monitor::KIND));
     seen_in(power_monitor::NORMAL, start, LEVEL, LEVEL)

@@ -1,4 +1,4 @@
-//! Events as codes, and codes as events.
+//! Tests of encoding events as numbers and of decoding these numbers.
 
 use bank_words::{Event, event_code, event_of};
 use scram_types::ProcId;

@@ -1,4 +1,4 @@
-//! The kernel image of a frame, as words and back.
+//! Tests of encoding the kernel image of a frame as words and of decoding the words.
 
 use bank_words::{KernelImage, kernel_decode, kernel_encode};
 use scram_types::{ConfId, Env, KMode, ProcId, World};
@@ -76,7 +76,7 @@ fn a_stable_mode_leaves_three_words_empty(rt: HostRuntime) {
     assert_eq!(rt; kernel_decode(&words), image(mode, [None; 8]));
 }
 
-// An image in which nothing halts, and with the maximum numbers.
+// The image has no halting configuration, and its numbers are the greatest that fit.
 #[test]
 fn the_greatest_numbers_come_back(rt: HostRuntime) {
     let mode = KMode::Moving {

@@ -1,4 +1,4 @@
-//! Marks, and the bank that a reader picks by a mark.
+//! Tests of marks, and of the bank that a reader picks by a mark.
 
 use bank_words::{mark_word, pick};
 
@@ -10,7 +10,7 @@ fn marks_tell_the_last_committed_frame_and_its_bank(rt: HostRuntime) {
     assert_eq!(rt; mark_word(u32::MAX, 1), 8_589_934_591);
 }
 
-// The mark 23 is that of frame 10, in bank 1. Readers of frame 10 still take bank 0.
+// The mark 23 is the mark of frame 10 in bank 1. Readers in frame 10 still take bank 0.
 #[test]
 fn readers_take_what_was_committed_before_their_frame(rt: HostRuntime) {
     for (mark, frame, bank) in [

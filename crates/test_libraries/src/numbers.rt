@@ -1,4 +1,4 @@
-//! Numbers as words of storage.
+//! Tests of encoding numbers as words of storage and of decoding the words.
 
 use bank_words::{decode, encode};
 

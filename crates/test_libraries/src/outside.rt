@@ -1,4 +1,5 @@
-//! Files and sinks in memory and of the system, and streams that stop in the middle.
+//! Tests of files and sinks, both in memory and of the operating system, and of streams that fail or end before all
+//! bytes are passed.
 
 use scram_io::streams::{read_past, write_whole};
 use scram_io::{Files, MemFiles, MemSink, ReadFault, RealFiles, RealSink, Sink, SinkFault};
@@ -8,7 +9,7 @@ use std::io::{ErrorKind, Read, Write};
 use std::process::Abort;
 use std::test::Fail;
 
-// Returns files of these names and bytes; the reads of these numbers fail.
+// Returns files in memory with these names and bytes. The reads with the numbers in `failing` fail.
 fn files_of(alloc: Global, named: &[(&str, &[u8])], failing: &[u32]) -> Result<MemFiles, Fail> {
     let failing = failing.to_vec(alloc)?;
     let mut entries = Vec::new(alloc);
@@ -27,7 +28,7 @@ fn put_entries(
     Ok(())
 }
 
-// Returns the bytes of an answer.
+// Returns the bytes of the result of a read, or its fault.
 fn bytes_of(answer: &Result<Vec<u8>, ReadFault>) -> Result<&[u8], ReadFault> {
     match answer {
         Ok(bytes) => Ok(bytes.as_slice()),
@@ -87,7 +88,7 @@ fn put_rows(rt: &impl Abort, sink: &mut MemSink) {
     assert_eq!(rt; sink.flush(), Ok(()));
 }
 
-// Reads from any files and writes to any sink.
+// Copies the file `file`, of at most 9 bytes, to a sink.
 fn copy_file<F: Files, K: Sink>(
     alloc: Global,
     files: &mut F,
@@ -132,7 +133,8 @@ fn put_line(rt: &impl Abort, output: &mut RealSink<HostRuntime>) {
     assert_eq!(rt; output.flush(), Ok(()));
 }
 
-// A stream that gives or takes one byte a call, a number of times, and then fails or does nothing.
+// A stream that reads or writes one byte in each of `calls` calls. After that it ends if `ends` is `true`, and fails
+// otherwise.
 #[derive(Drop)]
 struct Trickle {
     calls: u32,
@@ -170,7 +172,7 @@ impl Write for Trickle {
     }
 }
 
-// Returns how many bytes of a stream are read to pass a limit.
+// Returns the number of bytes that are read from a stream, of which at most one is past the limit.
 fn length_past<I: Read>(alloc: Global, input: &mut I, limit: usize) -> Result<usize, ErrorKind> {
     match read_past(alloc, input, limit) {
         Ok(bytes) => Ok(bytes.len()),

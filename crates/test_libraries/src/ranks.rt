@@ -1,4 +1,4 @@
-//! Ranks of applications, and a cycle of needs.
+//! Tests of the ranks of applications, and of a cycle of needs.
 
 ghost use Rattle.std.specs.Prelude.{◌≡◌, IfOk};
 

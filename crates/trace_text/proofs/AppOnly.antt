@@ -1,4 +1,4 @@
--- A line that is read as an application's line is the text of its act and area.
+-- A line that is read as an application's line is the printed text of the act and the area that are read.
 use Rattle.std.proofs.Common.{ℕ, ℤ, suc, zero, ◌≡◌, ◌+◌, ◌∙◌, Bool, true, false, cond, List, [], ◌∷◌, ◌++◌, Some, None, Ok, Err, length, decimal, map, refl, sym, ap}
 use Rattle.std.specs.Prelude.{◌==◌, ◌&&◌, bytes_eq, codes, nat_le, nat_lt, option_map, slice_get}
 use Rattle.std.specs.Fmt.{signed_decimal}
@@ -29,7 +29,7 @@ use Rattle.trace_text.proofs.Inversion.{both, if_ok, is_text, line_joined, map_s
 use Rattle.trace_text.proofs.Shapes.{bare_shape, phase_shape, ran_shape}
 use Rattle.trace_text.proofs.Spelling.{number_spelled, signed_spelled}
 
--- words that are read as signed numbers are their texts
+-- If `n` words from word `k` on are read as signed numbers, the words are the printed texts of these numbers.
 signed_words : (n k : ℕ) (ws : List (List ℕ)) (area : List ℤ) → signed_from n k ws ≡ Some area → tab n k ws ≡ map signed_decimal area
 signed_words zero k ws area h = let e : [] ≡ area = cc in rw (← e) refl
 signed_words (suc n) k ws area h =
@@ -49,7 +49,7 @@ sides_text text left right (a ∷ b ∷ []) is h =
     sym (join_with_byte-slice_split 47 text) ∙ ap (join_with_byte 47) is ∙ rw (one, two) refl
 sides_text text left right (a ∷ b ∷ c ∷ more) is h = absurd (let e = h in cc)
 
--- the facts on a line that is read as the line of application a
+-- A line that is read as the line of application `a` has these properties.
 pub record AppRead (spec : Parts) (a : ℕ) (line : List ℕ) (told : Done) : Type 0 where
   pub app : AppSpec
   pub there : slice_get spec.apps a ≡ Some app
@@ -63,7 +63,7 @@ app_told spec a line told app did area there is text = record {
   text = ap (λ (d : Done). app_line spec app d.act d.area) (sym is) ∙ text;
 }
 
--- the application that a line names is the next
+-- If the number of the application that a line names is `next`, application `next` has that name.
 the_next : (spec : Parts) (next a : ℕ) (text : List ℕ) → (a == next) ≡ true → app_number spec text ≡ Some a → Named (λ (app : AppSpec). app.name) spec.apps next text
 the_next spec next a text same h = let e : a ≡ next = eqb-true a next same in rw (← e) (app_found spec text a h)
 
@@ -88,7 +88,7 @@ ran_read spec next line ws told joined_is w0 count w5 w2 h =
     (sym (ran_shape named.0.name (mode_text named.0.kind.0 m.0.0) (proc_name spec p.0.0) v.0)
     ∙ ap (λ (text : List ℕ). text ++ codes "\n") (sym (joined_is ∙ ap (join_with_byte 32) listed)))
 
--- the word of a phase
+-- The word that names a phase.
 abbrev pub tag_of : Phase → List ℕ
 tag_of Halting = codes "halting"
 tag_of Preparing = codes "preparing"
@@ -184,7 +184,7 @@ forms_by false true spec next line ws told placed bare joined_is w0 h =
     bare_read spec next line ws told d.0 joined_is w0 f.0 (is_text ws 3 (codes ":") f.1) d.1 d.2
 forms_by false false spec next line ws told placed bare joined_is w0 h = absurd (let e = h in cc)
 
--- no second spelling of an application's line
+-- A line that is read as the line of an application has one spelling: the printed text.
 pub app_only : (spec : Parts) (next : ℕ) (line : List ℕ) (told : Done) → begins line (codes "app") ≡ true → app_read spec next line ≡ Ok told → AppRead spec next line told
 app_only spec next line told first h =
     let w = or_rule_ok NO_FORM (words_in line) (app_in spec next) told h in

@@ -1,4 +1,4 @@
--- The printed text of a flight is read, line by line, and is never too long.
+-- The printed text of a flight is read line by line, and is never too long.
 use Rattle.std.proofs.Common.{ℕ, ℤ, pos, suc, zero, ◌≡◌, ◌<◌, ◌≤◌, ◌+◌, ◌*◌, ◌∙◌, Bool, true, false, List, [], ◌∷◌, ◌++◌, Some, Result, Ok, length, replicate, arith, refl, sym, ap, subst, length-append, append_assoc, append-nil, length-set}
 use mathlib.Core.Logic.{inl, inr}
 use Rattle.std.specs.Prelude.{codes, slice_get, slice_index_or, slice_set}
@@ -28,7 +28,7 @@ use Rattle.trace_text.proofs.Splitting.{some_piece}
 use Rattle.trace_text.proofs.Walk.{line_then, of_length}
 use Rattle.trace_text.proofs.WordBytes.{line_split}
 
--- from this state on, a text is read as a flight, and it has at most this number of bytes
+-- From state `s` on, a text is read as the flight `flown`, and it has at most `most` bytes.
 record Reads (spec : Parts) (s : ReadingState) (text : List ℕ) (flown : Flown) (most : ℕ) : Type 0 where
   read : (k : ℕ) → trace_from spec k s (pieces_of 10 text) ≡ Ok flown
   short : length text ≤ most
@@ -36,7 +36,8 @@ record Reads (spec : Parts) (s : ReadingState) (text : List ℕ) (flown : Flown)
 after_plain : (spec : Parts) (s t : ReadingState) (text : List ℕ) (most : ℕ) (back : LineBack spec s t text most) → after_line spec s back.line ≡ Ok t
 after_plain spec s t text most back = rw back.plain back.read
 
--- a further line before the others
+-- If a printed line takes state `s` to state `t`, and the rest is read from `t` on, both together are read from `s`
+-- on.
 before_lines : (spec : Parts) (s t : ReadingState) (text rest : List ℕ) (flown : Flown) (most more : ℕ) → LineBack spec s t text most → Reads spec t rest flown more →
     Reads spec s (text ++ rest) flown (most + more)
 before_lines spec s t text rest flown most more back reads =
@@ -52,7 +53,7 @@ before_lines spec s t text rest flown most more back reads =
       short = omega (arith, size, one, two);
     }
 
--- the same text, and a greater bound
+-- If a text is read, an equal text is read, and it is within any greater bound.
 same_lines : (spec : Parts) (s : ReadingState) (text other : List ℕ) (flown : Flown) (most more : ℕ) → text ≡ other → most ≤ more → Reads spec s text flown most → Reads spec s other flown more
 same_lines spec s text other flown most more same wide reads =
     let low = reads.short in
@@ -61,7 +62,7 @@ same_lines spec s text other flown most more same wide reads =
 over_read : (spec : Parts) (rows : List Row) (reports : List Report) → Reads spec (record { rows = rows; reports = reports; standing = Over }) [] (record { rows = rows; reports = reports }) 0
 over_read spec rows reports = record { read = λ k. refl; short = omega arith }
 
--- reconfigurations and the end line
+-- The lines of reconfigurations and the end line.
 
 ending_read : (early : Bool) (spec : Parts) (rows : List Row) (seen reports : List Report) → IsSpec spec → length rows ≤ MAX_FRAMES → length seen + length reports ≤ MAX_FRAMES →
     ((i : ℕ) (report : Report) → slice_get reports i ≡ Some report → IsReportShown spec (length rows) report) →
@@ -87,12 +88,12 @@ ending_read early spec rows seen (report ∷ reports) sound few count shown =
     (before_lines spec (in_closing early rows seen) (in_closing false rows (seen ++ report ∷ [])) (report_line spec report) (reports_text spec reports ++ ending)
     (record { rows = rows; reports = seen ++ report ∷ reports }) 100 (100 * length reports + 60) (report_back early spec rows seen report sound few (shown 0 report refl)) read)
 
--- the lines of applications
+-- The lines of applications.
 
 zero_area : List ℤ
 zero_area = replicate 8 (pos 0)
 
--- a row of which the first applications have been read
+-- `part` is the row `row` of which the lines of the first `a` applications have been read.
 record IsPart (row part : Row) (a : ℕ) : Type 0 where
   frame : part.frame ≡ row.frame
   env : part.env ≡ row.env
@@ -173,7 +174,7 @@ part_whole spec f row part shown is =
     (λ i late low. is.areas_rest i late low ∙ sym (shown.empty i late low)) in
     same_row part.frame row.frame part.env row.env part.mode row.mode part.acts row.acts part.areas row.areas part.world row.world is.frame is.env is.mode acts areas is.world
 
--- an application's line, after which the others are read
+-- If an application's line is read, and the remaining lines are read after it, all of these lines are read.
 one_app : (spec : Parts) (rows : List Row) (reports : List Report) (row part : Row) (a : ℕ) (app : AppSpec) (apps : List AppSpec) (t : ReadingState) (rest : List ℕ) (flown : Flown) (more : ℕ) →
     LineBack spec (in_apps rows reports a part) t (app_line_in spec row app a) 140 → Reads spec t (app_lines spec row apps (a + 1) ++ rest) flown (140 * length apps + more) →
     Reads spec (in_apps rows reports a part) (app_lines spec row (app ∷ apps) a ++ rest) flown (140 * suc (length apps) + more)
@@ -228,7 +229,7 @@ all_apps spec rows reports f row (app ∷ apps) rest flown more is sound shown r
     (apps_read spec rows reports f row (row_begun row.frame row.mode row.env row.world) 0 app apps rest flown more sound shown (part_begun row) count
     (λ i x there. let e : 0 + i ≡ i = omega arith in rw (e, is) there) read)
 
--- rows
+-- The lines of rows.
 
 row_read_back : (spec : Parts) (rows : List Row) (row : Row) (rest : List ℕ) (flown : Flown) (more : ℕ) → IsSpec spec → length rows < MAX_FRAMES → IsRowShown spec (length rows) row →
     Reads spec (in_rows (rows ++ row ∷ []) []) rest flown more → Reads spec (in_rows rows []) (row_text spec row ++ rest) flown (1520 + more)

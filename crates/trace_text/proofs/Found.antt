@@ -18,7 +18,7 @@ use Rattle.trace_text.specs.Names.{conf_or_dash}
 use Rattle.scram_types.proofs.Equality.{same_text}
 use Rattle.trace_text.proofs.Inversion.{map_some}
 
--- item n of a list has this name
+-- The item at index `n` of a list exists and has this name.
 abbrev pub Named : {A : Type 0} → (A → List ℕ) → List A → ℕ → List ℕ → Type 0
 Named {A} name xs n text = (x : A) × (slice_get xs n ≡ Some x) × (name x ≡ text)
 

@@ -1,4 +1,4 @@
--- Consequences of a result `Ok` for the tests before it.
+-- If the result of a reading is `Ok`, each of its tests has passed.
 use Rattle.std.proofs.Common.{ℕ, suc, zero, ◌≡◌, ◌+◌, ◌∙◌, Bool, true, false, cond, List, [], ◌∷◌, Option, Some, None, Result, Ok, Err, drop, length, arith, refl, sym, ap}
 use Rattle.std.specs.Prelude.{◌==◌, ◌&&◌, nat_le, option_map, option_and_then}
 use Rattle.std.specs.List.{join_with_byte, list_all}
@@ -41,7 +41,7 @@ then_some f (Some a) b h = (a, refl, h)
 pub is_text : (ws : List (List ℕ)) (k : ℕ) (text : List ℕ) → is_word ws k text ≡ true → word_at ws k ≡ text
 is_text ws k text h = same_text (word_at ws k) text h
 
--- this number of words from word k on
+-- The `n` words from index `k` on.
 abbrev pub tab : ℕ → ℕ → List (List ℕ) → List (List ℕ)
 tab zero k ws = []
 tab (suc n) k ws = word_at ws k ∷ tab n (k + 1) ws
@@ -53,7 +53,7 @@ tab_from (suc n) k ws e = ap (λ (rest : List (List ℕ)). word_at ws k ∷ rest
 pub words_listed : (n : ℕ) (ws : List (List ℕ)) → (length ws == n) ≡ true → ws ≡ tab n 0 ws
 words_listed n ws e = let same : length ws ≡ n = eqb-true (length ws) n e in sym (tab_from n 0 ws (omega (arith, same)))
 
--- lists of words, word by word
+-- Lists of words are equal if their first words and their remaining words are equal.
 pub both : {a b : List ℕ} {xs ys : List (List ℕ)} → a ≡ b → xs ≡ ys → a ∷ xs ≡ b ∷ ys
 both {a} {b} {xs} {ys} e f = ap (λ (x : List ℕ). x ∷ xs) e ∙ ap (λ (l : List (List ℕ)). b ∷ l) f
 

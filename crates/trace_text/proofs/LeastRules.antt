@@ -1,4 +1,4 @@
--- The result of reading a line, form by form, is the first rule that it does not keep.
+-- Reading a line of any form reports the first rule that the line does not keep.
 use Rattle.std.proofs.Common.{ℕ, ℤ, ◌≡◌, ◌+◌, ◌-◌, ◌^◌, ◌∙◌, Bool, true, false, cond, List, [], ◌∷◌, Option, Some, None, Result, Ok, Err, length, refl, sym, ap}
 use Rattle.std.specs.Prelude.{◌==◌, ◌&&◌, ◌||◌, ⊤, bytes_eq, codes, is_some, nat_le, nat_lt, option_and_then}
 use Rattle.scram_types.specs.declared.limits.TheConstants.{MAX_FRAMES, MAX_PHASE}
@@ -32,12 +32,12 @@ use Rattle.trace_text.specs.Spelling.{signed_from, spelled_number}
 use Rattle.trace_text.specs.TraceReading.{ReadingState, after_line, begins, closing, is_plain, standing_line, with_done, with_end, with_report, with_row}
 use Rattle.trace_text.proofs.FirstBroken.{least_from, reports_least, told_by}
 
--- the last test of a reading
+-- The last test of a reading reports its rule if the test fails, and no rule if it passes.
 last_test : {A : Type 0} (b : Bool) (a : A) (rule : ℕ) → told_by (cond b (Ok a) (Err rule)) ≡ cond b None (Some rule)
 last_test true a rule = refl
 last_test false a rule = refl
 
--- applications
+-- The lines of applications.
 
 bare_case : (o : Option ℕ) (v : Option (List ℤ)) (n : ℕ) (told : Act) →
     told_by (or_rule UNKNOWN_NAME o (λ (app : ℕ). or_rule WRONG_NUMBER v (λ (area : List ℤ). cond (app == n) (Ok (done told area)) (Err NOT_NEXT))))
@@ -79,7 +79,8 @@ phase_case (Some a) (Some p) (Some i) None v n phase = refl
 phase_case (Some a) (Some p) (Some i) (Some j) None n phase = refl
 phase_case (Some a) (Some p) (Some i) (Some j) (Some v) n phase = phase_last (a == n) (nat_lt i j && nat_le j MAX_PHASE) (done (phase_act phase i j p) v)
 
--- rules 3 to 9 for a line whose form is known
+-- The first of rules 3 to 9 that the words of a line do not keep, given the form of the line, or `None` if they keep
+-- all of these rules.
 abbrev least_of : Parts → ReadingState → Words → Option Form → Option ℕ
 least_of spec s words form =
     least_from 3 (is_some form ∷ keeps form (knows_names spec words) ∷ keeps form (spells_numbers words) ∷ keeps form (is_due spec s words)
@@ -119,7 +120,7 @@ app_case spec s words false false = refl
 app_least : (spec : Parts) (s : ReadingState) (words : Words) → told_by (app_in spec (app_due s.standing) words) ≡ least_of spec s words (app_form words)
 app_least spec s words = app_case spec s words (is_placed_form words) (is_bare_form words)
 
--- rows
+-- The lines of rows.
 
 row_case : (f : Option ℕ) (w : Option World) (b : ℕ → Bool) (u : Option ℕ) (mode : KMode) (values : List ℕ) →
     told_by (or_rule WRONG_NUMBER f (λ (frame : ℕ). or_rule WRONG_NUMBER w (λ (world : World).
@@ -134,7 +135,8 @@ row_case (Some f) (Some w) b u mode values = row_last (b f) u
     row_last true (Some up) = refl
     row_last false o = refl
 
--- rules 6 to 9 of a row whose processors are listed in word `up`
+-- Whether each of rules 6 to 9 is kept by the words of a row, given the index `up` of the word that lists the
+-- processors.
 abbrev row_rest : Parts → ReadingState → Words → ℕ → List Bool
 row_rest spec s words up =
     is_some_and (spelled_number MAX_FRAMES (word_at words 1)) (λ (frame : ℕ). frame == length s.rows) ∷ is_some (up_in spec.procs (word_at words up)) ∷ true ∷ true ∷ []
@@ -184,7 +186,7 @@ row_forms spec s words false false = refl
 row_least : (spec : Parts) (s : ReadingState) (words : Words) → told_by (row_of_words spec (length s.rows) words) ≡ least_of spec s words (row_form spec words)
 row_least spec s words = row_forms spec s words (is_stable_form spec words) (is_moving_form spec words)
 
--- reconfigurations
+-- The lines of reconfigurations.
 
 measured_case : (b t : Option ℕ) (g : Option (Option ℕ)) (right : ℕ → ℕ → Option ℕ → Bool) (report : ℕ → Report) →
     told_by (or_rule WRONG_NUMBER b (λ (begin : ℕ). or_rule WRONG_NUMBER t (λ (took : ℕ). or_rule WRONG_NUMBER g (λ (bound : Option ℕ).
@@ -249,7 +251,7 @@ report_forms spec s words false to end = refl
 report_least : (spec : Parts) (s : ReadingState) (words : Words) → told_by (report_in spec (length s.rows) words) ≡ least_of spec s words (report_form words)
 report_least spec s words = report_forms spec s words (is_report_form words) (is_word words 3 (codes "-")) (is_word words 7 (codes "-"))
 
--- the end line
+-- The end line.
 
 abbrev ended : Result ⊤ ℕ
 ended = Ok tt
@@ -272,7 +274,7 @@ end_forms spec s words false = refl
 end_least : (spec : Parts) (s : ReadingState) (words : Words) → told_by (end_in (length s.rows) (length s.reports) words) ≡ least_of spec s words (end_form words)
 end_least spec s words = end_forms spec s words (is_end_form words)
 
--- from the line to its words
+-- The words of a line.
 
 split_case : {A : Type 0} (spec : Parts) (s : ReadingState) (words : Words) (fit : Bool) (read : Words → Result A ℕ) (form : Words → Option Form) →
     told_by (read words) ≡ least_of spec s words (form words) →
@@ -285,7 +287,7 @@ line_least : {A : Type 0} (spec : Parts) (s : ReadingState) (line : List ℕ) (r
 line_least spec s line read h =
     split_case spec s (words_of line) (nat_le (length (words_of line)) 16 && list_all is_filled (words_of line)) read (form_by spec line) h
 
--- a line begins with one word
+-- If a word is `one`, and `one` is not `other`, the word is not `other`.
 other_word : (word one other : List ℕ) → bytes_eq word one ≡ true → bytes_eq one other ≡ false → bytes_eq word other ≡ false
 other_word word one other same differ = rw (same_text word one same) differ
 
@@ -310,7 +312,7 @@ end_formed spec line words first =
     let c : begins line (codes "reconfiguration") ≡ false = other_word (word_at (words_of line) 0) (codes "end") (codes "reconfiguration") first refl in
     rw (a, b, c) refl
 
--- a line that is read into the trace gives the rule of the line
+-- The state after a line reports the same rule as the reading of the line.
 
 row_told : (s : ReadingState) (read : Result Row ℕ) → told_by (with_row s read) ≡ told_by read
 row_told s (Ok row) = refl
@@ -353,7 +355,8 @@ end_line_least spec s line first =
     end_told s (end_read (length s.rows) (length s.reports) line)
     ∙ line_least spec s line (end_in (length s.rows) (length s.reports)) (end_least spec s (words_of line) ∙ ap (least_of spec s (words_of line)) (end_formed spec line (words_of line) first))
 
--- rules 2 to 9, where `placed` is whether rule 2 is kept
+-- The first of rules 2 to 9 that a line does not keep, or `None` if it keeps all of these rules. `placed` is whether
+-- it keeps rule 2.
 abbrev placed_least : Parts → ReadingState → List ℕ → Bool → Option ℕ
 placed_least spec s line placed = cond placed (least_of spec s (words_of line) (line_form spec line)) (Some OUT_OF_PLACE)
 
@@ -375,7 +378,7 @@ due_case : (spec : Parts) (s : ReadingState) (a : ℕ) (row : Row) (line : List 
 due_case spec s a row line true due first = app_line_least spec s a row line due first
 due_case spec s a row line false due first = refl
 
--- which of rules 2 to 9 are kept
+-- Whether each of rules 2 to 9 is kept by a line.
 abbrev kept_behind : Parts → ReadingState → Expected → List ℕ → List Bool
 kept_behind spec s standing line =
     is_in_place standing line ∷ has_form spec standing line ∷ keeps (asked_form spec standing line) (knows_names spec (words_of line))

@@ -32,7 +32,8 @@ use Rattle.trace_text.proofs.Shapes.{bare_shape, ran_shape}
 use Rattle.trace_text.proofs.Spelling.{number_some, signed_some}
 use Rattle.trace_text.proofs.WordBytes.{all_over, decimal_over, decimal_visible, is_visible, line_length, line_of, line_plain, name_short, name_visible, over, pieces_back, signed_visible, width, words_back, words_in_back}
 
--- a printed line: its text without the line feed, the state after it, and its maximum number of bytes
+-- A text is a printed line that takes state `s` to state `t`, and it has at most `most` bytes. `line` is the text
+-- without the line feed.
 pub record LineBack (spec : Parts) (s t : ReadingState) (text : List ℕ) (most : ℕ) : Type 0 where
   pub line : List ℕ
   pub text_is : text ≡ line ++ codes "\n"
@@ -53,7 +54,7 @@ from_words spec s t word words text most visible narrow few is read =
       short = subst (λ (t : List ℕ). length t ≤ most) is (omega (arith, size, sum, narrow));
     }
 
--- numbers
+-- Printed numbers.
 
 pub number_back : (limit n : ℕ) → n < limit → n < 2 ^ 64 → spelled_number limit (decimal n) ≡ Some n
 number_back limit n small fits = number_some limit n (decimal n) small fits refl
@@ -70,7 +71,7 @@ shown_short z shown = length_signed_le 7 z (omega (arith, shown)) (omega (arith,
 pub frame_short : (n : ℕ) → n ≤ 20000 → length (decimal n) ≤ 5
 frame_short n small = length-decimal-le 5 n (omega arith) (omega (arith, small)) (omega (arith, small))
 
--- areas
+-- Printed areas.
 
 with_eight : (P : List ℤ → Type 0) (area : List ℤ) → length area ≡ 8 → ((a b c d e f g h : ℤ) → P (a ∷ b ∷ c ∷ d ∷ e ∷ f ∷ g ∷ h ∷ [])) → P area
 with_eight P [] width then = absurd (omega (arith, width))
@@ -134,7 +135,7 @@ area_bare name tag area shown =
     ) refl)
     shown.words
 
--- applications
+-- The lines of applications.
 
 abbrev pub in_apps : List Row → List Report → ℕ → Row → ReadingState
 in_apps rows reports a row = record { rows = rows; reports = reports; standing = Apps a row }

@@ -1,4 +1,4 @@
--- The text that is still to be written of names joined by commas.
+-- The text of names that are still to be written, joined by commas.
 use Rattle.std.specs.Prelude.{ℕ, Bool, List, if◌then◌else◌}
 use Rattle.trace_text.specs.Names.{joined, further_joined}
 

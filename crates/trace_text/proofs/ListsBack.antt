@@ -32,7 +32,7 @@ names_over : (names : List (List ℕ)) → are_names names ≡ true → list_all
 names_over [] e = refl
 names_over (name ∷ names) e = let p = and_parts _ _ e in and_from _ _ (name_over name p.0) (names_over names p.1)
 
--- names joined by commas
+-- Names that are joined by commas.
 
 joined_over : (name : List ℕ) (names : List (List ℕ)) → are_names (name ∷ names) ≡ true → all_over 44 (join_with_byte 44 (name ∷ names)) ≡ true
 joined_over name [] e = all_over_less 44 48 name (omega arith) (name_over name (and_parts (is_name name) true e).0)
@@ -66,7 +66,7 @@ pub items_back : (names : List (List ℕ)) → are_names names ≡ true → item
 items_back [] e = refl
 items_back (name ∷ names) e = rw (first_not_dash name names e) (joined_pieces_back name names e)
 
--- the length of joined names
+-- The text of `most` names or fewer that are joined by commas has at most 1 + 17 · `most` bytes.
 pub joined_short : (most : ℕ) (names : List (List ℕ)) → are_names names ≡ true → length names ≤ most → length (joined names) ≤ 1 + 17 * most
 joined_short most [] e few = omega arith
 joined_short most (name ∷ names) e few =
@@ -85,7 +85,7 @@ joined_short most (name ∷ names) e few =
         let g = length-append x (further_joined xs) in
         omega (arith, d, f, g)
 
--- processors that are up
+-- The processors that are up.
 
 procs_named : (procs : List Proc) (up : ℕ) → Each (λ (proc : Proc). is_name proc.name ≡ true) procs → are_names (names_up procs up) ≡ true
 procs_named [] up spelled = refl
@@ -103,7 +103,8 @@ few_up (proc ∷ procs) up = by (up % 2 == 1) (few_up procs (up / 2))
     by true h = omega (arith, h)
     by false h = omega (arith, h)
 
--- a processor of another name is not the next
+-- If the name of a processor differs from those of a list of processors, it is not the first name in the list of
+-- those that are up.
 not_next : (proc : Proc) (procs : List Proc) (up : ℕ) → Each (λ (other : Proc). bytes_eq proc.name other.name ≡ false) procs → is_next proc (names_up procs up) ≡ false
 not_next proc [] up differ = refl
 not_next proc (other ∷ procs) up differ = by (up % 2 == 1) (not_next proc procs (up / 2) (λ i x there. differ (suc i) x there))
@@ -121,7 +122,8 @@ half_below n up below =
     let e : 2 ^ suc n ≡ 2 * 2 ^ n = omega arith in
     omega (arith, e, below)
 
--- the next processor is up or not
+-- If the bits of the remaining processors are read from their names, the bits from this processor on are read too,
+-- whether it is up or not.
 up_step : (t : Bool) (proc : Proc) (procs : List Proc) (bit sum up : ℕ) → (up % 2 == 1) ≡ t → Each (λ (other : Proc). bytes_eq proc.name other.name ≡ false) procs →
     ((k : ℕ) → up_from procs (names_up procs (up / 2)) (bit * 2) k ≡ Some (k + (bit * 2) * (up / 2))) →
     up_from (proc ∷ procs) (cond t (proc.name ∷ names_up procs (up / 2)) (names_up procs (up / 2))) bit sum ≡ Some (sum + bit * up)
@@ -148,7 +150,7 @@ apart : (proc : Proc) (procs : List Proc) → NamesDiffer (λ (p : Proc). p.name
 apart proc procs differ i other there =
     not_true _ (λ t. let same : 0 ≡ suc i = differ 0 (suc i) proc other refl there (same_text proc.name other.name t) in absurd (omega (arith, same)))
 
--- the bits of the names, where `bit` is the first
+-- The bits of the processors that are up are read from their names, given the bit `bit` of the first processor.
 up_back : (procs : List Proc) (bit sum up : ℕ) → NamesDiffer (λ (proc : Proc). proc.name) procs → up < 2 ^ length procs →
     up_from procs (names_up procs up) bit sum ≡ Some (sum + bit * up)
 up_back [] bit sum up differ below =
@@ -160,7 +162,7 @@ up_back (proc ∷ procs) bit sum up differ below =
     up_step (up % 2 == 1) proc procs bit sum up refl (apart proc procs differ)
     (λ k. up_back procs (bit * 2) k (up / 2) (λ a b p q there other same. let next : suc a ≡ suc b = differ (suc a) (suc b) p q there other same in omega (arith, next)) half)
 
--- each name of a processor of the specification is known
+-- The text of the processors that are up is a short word of known names, and it is read as the bits `up`.
 pub record UpBack (spec : Parts) (up : ℕ) : Type 0 where
   pub visible : is_visible (up_text spec up) ≡ true
   pub short : length (up_text spec up) ≤ 137
@@ -189,13 +191,13 @@ up_text_back spec up sound below =
       found = rw items (up_back spec.procs 1 0 up sound.procs_differ below ∙ ap Some sums);
     }
 
--- values of factors
+-- The values of factors.
 
 abbrev filled_from : List Factor → ℕ → List ℕ → List ℕ → List ℕ
 filled_from [] i set values = set
 filled_from (factor ∷ factors) i set values = filled_from factors (i + 1) (slice_set set i (slice_index values i)) values
 
--- the value of each of these factors is one that the factor has, where `i` is the number of the first
+-- Each of these factors has the value that is listed for it, given the number `i` of the first of these factors.
 abbrev HaveValues : List Factor → ℕ → List ℕ → Type 0
 HaveValues factors i values = (x : ℕ) (factor : Factor) → slice_get factors x ≡ Some factor → slice_index values (i + x) < length factor.values
 
@@ -209,7 +211,7 @@ value_back : (factor : Factor) (value : ℕ) → AreSpelled (λ (name : List ℕ
     NameBack (λ (name : List ℕ). name) factor.values value
 value_back factor value spelled differ below = name_back (λ (name : List ℕ). name) factor.values value spelled differ below
 
--- factors whose values have names that differ
+-- The names of the values of each factor are valid and differ.
 abbrev AreFactors : List Factor → Type 0
 AreFactors factors = Each (λ (factor : Factor). AreSpelled (λ (name : List ℕ). name) factor.values × NamesDiffer (λ (name : List ℕ). name) factor.values) factors
 
@@ -232,7 +234,8 @@ values_count : (factors : List Factor) (i : ℕ) (values : List ℕ) → length 
 values_count [] i values = refl
 values_count (factor ∷ factors) i values = ap suc (values_count factors (i + 1) values)
 
--- the list that is filled has the values, if those before and after were there
+-- A list that is filled from factor `i` on has the values `values`, if it had those before factor `i` and past the
+-- last factor.
 filled_width : (factors : List Factor) (i : ℕ) (set values : List ℕ) → length (filled_from factors i set values) ≡ length set
 filled_width [] i set values = refl
 filled_width (factor ∷ factors) i set values = filled_width factors (i + 1) (slice_set set i (slice_index values i)) values ∙ length-set set i (slice_index values i)

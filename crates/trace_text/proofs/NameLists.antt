@@ -1,4 +1,4 @@
--- Lists of names, read to their end.
+-- Reading lists of names to their end.
 use Rattle.std.proofs.Common.{ℕ, ◌≡◌, ◌<◌, ◌≤◌, ◌+◌, ◌∙◌, false, List, [], ◌∷◌, Option, Some, None, drop, length, arith, refl, sym, Bor}
 use Rattle.std.specs.Prelude.{◌==◌, option_map}
 use Rattle.std.proofs.lemmas.Bool.{ne_eqb}
@@ -12,7 +12,7 @@ none_left : (names : List (List ℕ)) (bit up : ℕ) → 0 < length names → up
 none_left [] bit up h = absurd (omega arith)
 none_left (name ∷ names) bit up h = refl
 
--- names that are left after the last processor
+-- If names are left after the last processor, the list of names is refused.
 pub names_over : (procs : List Proc) (i : ℕ) (left : Option (Bor (List ℕ))) (names : Bor (List ℕ)) (bit up : ℕ) (read : Option ℕ) →
     length procs ≤ i → left ≡ Some names →
     up_from (drop i procs) (pieces_behind 44 (option_map (λ (b : Bor (List ℕ)). b.now) left)) bit up ≡ read → None ≡ read
@@ -21,7 +21,7 @@ names_over procs i left names bit up read end is rest =
     let e : up_from [] (pieces_of 44 names.now) bit up ≡ read = rw (d, is) at rest in
     sym (none_left (pieces_of 44 names.now) bit up (some_piece 44 names.now)) ∙ e
 
--- more names than expected
+-- If a list has more names than expected, the number of its names is not `count`.
 pub too_many : (list : List ℕ) (left : Option (Bor (List ℕ))) (names : Bor (List ℕ)) (wanted count : ℕ) → left ≡ Some names → wanted ≡ 0 →
     length (pieces_behind 44 (option_map (λ (b : Bor (List ℕ)). b.now) left)) + count ≡ length (pieces_of 44 list) + wanted →
     false ≡ (length (pieces_of 44 list) == count)

@@ -1,4 +1,4 @@
--- A printed name is found.
+-- Each printed name is found.
 use Rattle.std.proofs.Common.{ℕ, suc, zero, ◌≡◌, ◌<◌, ◌+◌, ◌∙◌, Bool, true, false, cond, List, [], ◌∷◌, Option, Some, None, IsSome, length, arith, refl, sym, ap, subst}
 use Rattle.std.specs.Prelude.{◌==◌, bytes_eq, codes, slice_get}
 use Rattle.std.specs.Option.{option_map_or}
@@ -29,7 +29,7 @@ use Rattle.trace_text.proofs.WordBytes.{all_over, name_over}
 pub found_at : {A : Type 0} (name : A → List ℕ) (xs : List A) (i : ℕ) (x : A) → NamesDiffer name xs → slice_get xs i ≡ Some x → number_from name 0 xs (name x) ≡ Some i
 found_at name xs i x differ there = let sum : 0 + i ≡ i = omega arith in found_named name 0 i xs x differ there ∙ ap (λ (k : ℕ). Some k) sum
 
--- a name of an item of a list: what it is, and that it is found
+-- The name of the item at index `i` of a list is a valid name, and it is found at index `i`.
 pub record NameBack {A : Type 0} (name : A → List ℕ) (xs : List A) (i : ℕ) : Type 0 where
   pub spelled : is_name (option_map_or name (slice_get xs i) []) ≡ true
   pub found : number_from name 0 xs (option_map_or name (slice_get xs i) []) ≡ Some i
@@ -52,7 +52,7 @@ proc_back spec p sound below = name_back (λ (proc : Proc). proc.name) spec.proc
 pub app_found_back : (spec : Parts) (a : ℕ) (app : AppSpec) → IsSpec spec → slice_get spec.apps a ≡ Some app → app_number spec app.name ≡ Some a
 app_found_back spec a app sound there = found_at (λ (x : AppSpec). x.name) spec.apps a app sound.apps_differ there
 
--- no name is `-`
+-- A text whose bytes are all at least 48 is not `-`.
 pub not_dash : (text : List ℕ) → all_over 48 text ≡ true → bytes_eq text (codes "-") ≡ false
 not_dash text over = not_true (bytes_eq text (codes "-")) (λ e. let same : text ≡ codes "-" = same_text text (codes "-") e in
     let t : all_over 48 (codes "-") ≡ true = subst (λ (word : List ℕ). all_over 48 word ≡ true) same over in absurd (let u : false ≡ true = t in cc))
@@ -65,7 +65,7 @@ conf_or_dash_back spec None sound known = refl
 conf_or_dash_back spec (Some c) sound known =
     rw (name_not_dash (conf_name spec c.0) (conf_back spec c sound known).spelled, conf_found_back spec c sound known) refl
 
--- modes
+-- The names of modes.
 
 mode_named_is : (names : List (Option (List ℕ))) (m : ℕ) (o : Option (List ℕ)) → name_in names m ≡ o → IsSome o → name_in names m ≡ Some (option_map_or (λ (name : List ℕ). name) o [])
 mode_named_is names m None e h = absurd (let x = h in cc)

@@ -23,7 +23,7 @@ use Rattle.trace_text.proofs.Shapes.{end_shape, finished_shape, unfinished_shape
 use Rattle.trace_text.proofs.WordBytes.{decimal_over, decimal_visible, is_visible, line_of, name_short, name_visible, words_back, words_in_back}
 use Rattle.trace_text.proofs.LinesBack.{LineBack, frame_short, from_words, number_back}
 
--- a row may still come, or none
+-- The lines that are expected after the rows: a row may still come if the value is `true`.
 abbrev pub closing_by : Bool → Expected
 closing_by true = Rows
 closing_by false = Reports
@@ -56,7 +56,7 @@ end_taken early spec rows reports words visible few read =
     closing_taken early spec rows reports line other
     ∙ rw (words_in_back (codes "end") words visible few, first, read) refl
 
--- a bound that is given has at most 1000 frames
+-- The bound, if it is given, is at most 1000 frames.
 abbrev IsSmall : Option ℕ → Type 0
 IsSmall given = IfSome given (λ (frames : ℕ). frames ≤ 1000)
 

@@ -1,4 +1,4 @@
--- A line that is read as a row's line is the text of the row.
+-- A line that is read as the first line of a row is the printed text of the row that is read.
 use Rattle.std.proofs.Common.{ℕ, ℤ, pos, ◌≡◌, ◌<◌, ◌≤◌, ◌+◌, ◌*◌, ◌∙◌, Bool, true, false, cond, List, [], ◌∷◌, ◌++◌, Some, Ok, Err, length, decimal, replicate, arith, refl, sym, ap, append-nil, length-set}
 use Rattle.std.specs.Prelude.{◌==◌, ◌&&◌, ◌/◌, ◌%◌, bytes_eq, codes, option_map, option_and_then, slice_index, slice_set}
 use Rattle.std.specs.Fmt.{signed_decimal}
@@ -32,7 +32,7 @@ use Rattle.trace_text.proofs.Shapes.{moving_shape, stable_shape}
 use Rattle.trace_text.proofs.Spelling.{number_spelled, signed_spelled}
 use Rattle.trace_text.proofs.Splitting.{some_piece}
 
--- names joined by commas
+-- Names that are joined by commas are the first name and the further names, each preceded by a comma.
 pub further_join : (name : List ℕ) (names : List (List ℕ)) → join_with_byte 44 (name ∷ names) ≡ name ++ further_joined names
 further_join name [] = sym (append-nil name)
 further_join name (next ∷ names) = ap (λ (rest : List ℕ). name ++ 44 ∷ rest) (further_join next names)
@@ -51,7 +51,7 @@ items_by false list same = joined_pieces list
 pub joined_items : (list : List ℕ) → joined (items_of list) ≡ list
 joined_items list = items_by (bytes_eq list (codes "-")) list (same_text list (codes "-"))
 
--- values that are set later leave the preceding ones
+-- Reading the values from factor `i` on does not change the values before factor `i`.
 values_stay : (factors : List Factor) (names : List (List ℕ)) (i j : ℕ) (vs ws : List ℕ) → j < i → values_from factors names i vs ≡ Some ws →
     slice_index ws j ≡ slice_index vs j
 values_stay [] names i j vs ws below h = let e : vs ≡ ws = cc in rw e refl
@@ -84,7 +84,7 @@ values_read (factor ∷ factors) list ws few form h =
     sym (joined_pieces list)
     ∙ ap joined (values_only (factor ∷ factors) (pieces_of 44 list) 0 (replicate 6 0) ws (omega (arith, few)) (eqb-true _ _ form) h)
 
--- bits: a further one below the others
+-- The sum of `up`, `bit` and `m` times twice `bit` is `up` plus `bit` times 1 + 2 · `m`.
 twice_more : (bit up m : ℕ) → (up + bit) + (bit * 2) * m ≡ up + bit * (1 + 2 * m)
 twice_more bit up m = let a : bit * (1 + 2 * m) ≡ bit * 1 + bit * (2 * m) = mul-add bit 1 (2 * m) in let b : (bit * 2) * m ≡ bit * (2 * m) = mul_assoc bit 2 m in omega (arith, a, b)
 
@@ -159,7 +159,7 @@ world_words ws at world h =
       bank = signed_spelled d.0 _ d.1 ∙ ap (λ (w : World). signed_decimal w.bank) e;
     }
 
--- the facts from reading the end of a row
+-- The words of a row whose end has been read have these properties.
 record RowEnd (spec : Parts) (next : ℕ) (ws : List (List ℕ)) (at : ℕ) (mode : KMode) (values : List ℕ) (row : Row) : Type 0 where
   frame : ℕ
   world : World
@@ -188,7 +188,7 @@ row_ended spec next ws at mode values row h =
       row_is = let e : row_begun f.0 mode (env_read u.0 values) w.0 ≡ row = cc in e;
     }
 
--- the facts on a line that is read as a row's line: it is the row's text, and the row has no acts yet
+-- A line that is read as the first line of a row is the text of the row, and the row has no acts yet.
 pub record RowRead (spec : Parts) (next : ℕ) (line : List ℕ) (row : Row) : Type 0 where
   pub text : row_line spec row ≡ line ++ codes "\n"
   pub frame : row.frame ≡ next
@@ -296,7 +296,7 @@ forms_by true m spec next line ws row stable moving h = stable refl h
 forms_by false true spec next line ws row stable moving h = moving refl h
 forms_by false false spec next line ws row stable moving h = absurd (let e = h in cc)
 
--- no second spelling of a row's line
+-- A line that is read as the first line of a row has one spelling: the printed text.
 pub row_only : (spec : Parts) (next : ℕ) (line : List ℕ) (row : Row) → length spec.factors ≤ 6 → begins line (codes "frame") ≡ true → row_read spec next line ≡ Ok row →
     RowRead spec next line row
 row_only spec next line row few first h =

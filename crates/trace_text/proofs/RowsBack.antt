@@ -35,7 +35,7 @@ row_taken : (spec : Parts) (rows : List Row) (reports : List Report) (words : Li
 row_taken spec rows reports words row visible few read =
     rw (words_in_back (codes "frame") words visible few, words_back (codes "frame") words visible, read) refl
 
--- the words of an environment and of the world
+-- The words of an environment and of the world that follows it.
 abbrev words_behind : Parts → Env → World → List (List ℕ)
 words_behind spec env world =
     codes "env" ∷ values_text spec env.factors ∷ codes "up" ∷ up_text spec env.up ∷ codes "world"

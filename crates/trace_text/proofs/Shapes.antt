@@ -1,11 +1,11 @@
--- The text of a line is its words, separated by one space each, and a line feed.
+-- The text of a line is the words of the line, separated by single spaces, and a line feed.
 use Rattle.std.proofs.Common.{ℕ, ℤ, ◌≡◌, ◌∙◌, List, [], ◌∷◌, ◌++◌, append_assoc, append-nil, refl, sym, ap, map}
 use Rattle.std.specs.Prelude.{codes}
 use Rattle.std.specs.Fmt.{signed_decimal}
 use Rattle.std.specs.List.{join_with_byte}
 use Rattle.trace_text.specs.Text.{area_text}
 
--- texts that are joined, in any nesting
+-- A binary tree of texts that are joined by `++`.
 data Tree : Type 0 where
   leaf : List ℕ → Tree
   fork : Tree → Tree → Tree
@@ -14,7 +14,7 @@ abbrev flat : Tree → List ℕ
 flat (leaf text) = text
 flat (fork a b) = flat a ++ flat b
 
--- the text of a tree before another text
+-- The text of a tree, followed by another text.
 abbrev before : Tree → List ℕ → List ℕ
 before (leaf text) more = text ++ more
 before (fork a b) more = before a (before b more)
@@ -26,7 +26,7 @@ before_flat (fork a b) more = before_flat a (before b more) ∙ ap (λ (rest : L
 flattened : (t : Tree) → before t [] ≡ flat t
 flattened t = before_flat t [] ∙ append-nil (flat t)
 
--- one tree after another, as `++` nests
+-- The tree of `t` and the trees after it, nested in the way that `++` nests.
 abbrev chain : Tree → List Tree → Tree
 chain t [] = t
 chain t (u ∷ us) = chain (fork t u) us
@@ -34,7 +34,7 @@ chain t (u ∷ us) = chain (fork t u) us
 abbrev say : List ℕ → Tree
 say text = leaf text
 
--- words with their spaces, and a line feed
+-- The text of words, separated by single spaces, and a line feed.
 abbrev ended : List ℕ → List (List ℕ) → List ℕ
 ended word [] = word ++ codes "\n"
 ended word (next ∷ words) = word ++ 32 ∷ ended next words
@@ -64,7 +64,7 @@ moving_shape f c d e s v u a b h k =
     ∷ say (codes " env ") ∷ say v ∷ say (codes " up ") ∷ say u ∷ say (codes " world ")
     ∷ chain (say a) (say (codes " ") ∷ say b ∷ say (codes " ") ∷ say h ∷ say (codes " ") ∷ say k ∷ []) ∷ say (codes "\n") ∷ []))
 
--- the words of an area after another word
+-- The words of an area, each preceded by a space, and a line feed.
 abbrev area_ended : List ℤ → List ℕ
 area_ended [] = codes "\n"
 area_ended (z ∷ zs) = 32 ∷ (signed_decimal z ++ area_ended zs)

@@ -1,4 +1,4 @@
--- The number that a text spells, or a proof that it spells none.
+-- The number that a text spells, or a proof that it spells no number.
 use Rattle.std.proofs.Common.{ℕ, ℤ, pos, negsuc, ◌≡◌, ◌<◌, ◌≤◌, suc, ◌^◌, ◌∙◌, Bool, true, false, cond, List, [], ◌∷◌, Some, None, Ok, Err, decimal, arith, refl, sym, ap, subst, w64}
 use Rattle.std.specs.Fmt.{signed_decimal}
 use Rattle.std.specs.Prelude.{nat_lt, ◌&&◌, IsUtf8, bytes_eq}
@@ -26,7 +26,7 @@ spelled_here : (limit n : ℕ) (text : List ℕ) → n < limit → text ≡ deci
 spelled_here limit n text small e =
     some_where (nat_lt n limit && bytes_eq (decimal n) text) n (and_from _ _ (lt-ltb n limit small) ((bytes_eq-Decides (decimal n) text).1 (sym e)))
 
--- a text spells a number exactly if it is the printed text of the number
+-- If a text is the printed text of a number below the limit, the text spells the number.
 pub number_some : (limit n : ℕ) (text : List ℕ) → n < limit → n < 2 ^ 64 → text ≡ decimal n → spelled_number limit text ≡ Some n
 unfolding spelled_number
 number_some limit n text small fits e =
@@ -52,14 +52,14 @@ number_utf8 limit text low never = number_none limit text (λ n small is. never 
 pub number_err : (limit : ℕ) (text digits : List ℕ) (e : ParseIntError) → limit < 2 ^ 64 → digits ≡ text → ParsesUnsigned 64 10 digits (Err e) → None ≡ spelled_number limit text
 number_err limit text digits e low same h = sym (number_none limit text (λ n small is. absurd (let x = parse-decimal 64 n digits (Err e) (omega arith) (omega arith) (same ∙ is) h in cc)))
 
--- if the parser gave a number that the text does not spell, the text spells none
+-- If the parser returns a number that the text does not spell, the text spells no number.
 pub number_other : (limit : ℕ) (text digits : List ℕ) (m : ℕ) → limit < 2 ^ 64 → digits ≡ text → ParsesUnsigned {E = ParseIntError} 64 10 digits (Ok m) → (m < limit → decimal m ≡ text → ⊥) → None ≡ spelled_number limit text
 number_other limit text digits m low same h never = sym (number_none limit text (λ n small is.
     let x = parse-decimal {E = ParseIntError} 64 n digits (Ok m) (omega arith) (omega arith) (same ∙ is) h in
     let e : m ≡ n = cc in
     never (omega arith) (ap decimal e ∙ sym is)))
 
--- the value of a signed text
+-- The values of the printed texts of signed numbers.
 unsigned_value : (ds : List ℕ) → AllDigits 10 ds → signed_digits_value 10 ds ≡ pos (digits_value 10 ds)
 unsigned_value [] d = refl
 unsigned_value (c ∷ cs) d = let k = digit_value_digit c (digit_from_value c d.0) in rw (ne_eqb c 45 (λ e. omega arith), ne_eqb c 43 (λ e. omega arith)) refl
@@ -68,7 +68,7 @@ signed_value : (z : ℤ) → mag z < 2 ^ 63 → signed_digits_value 10 (signed_d
 signed_value (pos n) small = let k = decimal_is_IsNumeral n (omega arith) in unsigned_value (decimal n) k.0.1 ∙ ap pos k.1
 signed_value (negsuc n) small = let k = decimal_is_IsNumeral (suc n) (omega arith) in ap (λ (m : ℕ). neg_ℤ (pos m)) k.1
 
--- the same for signed numbers
+-- If a text is the printed text of a signed number of 64 bits, the text spells the number.
 spelled_signed_here : (z : ℤ) (text : List ℕ) → mag z < 2 ^ 63 → text ≡ signed_decimal z → spelled_signed z text ≡ Some z
 spelled_signed_here z text small e =
     some_where (nat_lt (mag z) (2 ^ 63) && bytes_eq (signed_decimal z) text) z (and_from _ _ (lt-ltb _ _ small) ((bytes_eq-Decides (signed_decimal z) text).1 (sym e)))
@@ -100,7 +100,7 @@ signed_utf8 text never = signed_none text (λ z small is. never (subst IsUtf8 (s
 pub signed_err : (text digits : List ℕ) (e : ParseIntError) → digits ≡ text → ParsesSigned w64 10 digits (Err e) → signed_of text ≡ None
 signed_err text digits e same h = signed_none text (λ z small is. absurd (let x = parse-signed_decimal w64 z digits (Err e) (record { sfits = small }) small (same ∙ is) h in cc))
 
--- if the parser gave a number that the text does not spell, the text spells none
+-- If the parser returns a signed number that the text does not spell, the text spells no signed number.
 pub signed_other : (text digits : List ℕ) (y : ℤ) → digits ≡ text → ParsesSigned {E = ParseIntError} w64 10 digits (Ok y) → (signed_decimal y ≡ text → ⊥) → signed_of text ≡ None
 signed_other text digits y same h never = signed_none text (λ z small is.
     let x = parse-signed_decimal {E = ParseIntError} w64 z digits (Ok y) (record { sfits = small }) small (same ∙ is) h in

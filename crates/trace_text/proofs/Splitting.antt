@@ -1,4 +1,4 @@
--- Pieces from the first separator.
+-- Splitting bytes at their first separator.
 use Rattle.std.proofs.Common.{ℕ, suc, ◌≡◌, ◌<◌, ◌≤◌, ◌+◌, ◌∙◌, Bool, true, false, cond, List, [], ◌∷◌, ◌++◌, Option, Some, None, take, drop, length, arith, refl, sym, ap, not, Bor, append-nil}
 use Rattle.std.specs.Prelude.{◌==◌, ◌&&◌, nat_lt, nat_le, option_map}
 use Rattle.std.specs.List.{list_all, position, position_or_len, onto_first}
@@ -43,7 +43,7 @@ pub no_separator : (separator : ℕ) (bytes : List ℕ) → position (λ (b : �
 no_separator separator bytes h =
     whole separator bytes (none_says (nat_lt (position_or_len (λ (b : ℕ). b == separator) bytes) (length bytes)) (position_or_len (λ (b : ℕ). b == separator) bytes) h)
 
--- there is at least one piece
+-- Splitting any bytes gives at least one piece.
 pub some_piece : (separator : ℕ) (bytes : List ℕ) → 0 < length (pieces_of separator bytes)
 some_piece separator bytes = rw (length-slice_split (λ (b : ℕ). b == separator) bytes) (omega arith)
 
@@ -62,7 +62,7 @@ all_words ws line e filled few =
     let n : length line ≤ 16 = rw (← e) few in
     rw (le-leb (length line) 16 n, f) (ap Some e)
 
--- the words of a line that has been split to its end
+-- If a line has been split to its end into at most 16 words that are not empty, these are the words of the line.
 pub split_whole : (ws : List (List ℕ)) (left : Option (Bor (List ℕ))) (line : List ℕ) → left ≡ None →
     ws ++ pieces_behind 32 (option_map (λ (b : Bor (List ℕ)). b.now) left) ≡ words_of line → list_all is_filled ws ≡ true → length ws ≤ 16 → Some ws ≡ words_in line
 split_whole ws left line none split filled few =

@@ -1,4 +1,4 @@
--- Bytes that are read as rows and reports are their text.
+-- Bytes that are read as a trace are the printed text of its rows and reports.
 use Rattle.std.proofs.Common.{ℕ, ℤ, suc, zero, ◌≡◌, ◌<◌, ◌≤◌, ◌+◌, ◌∙◌, Bool, true, false, cond, List, [], ◌∷◌, ◌++◌, Some, Result, Ok, Err, length, take, min, arith, refl, sym, ap, append_assoc, append-nil, length-set}
 use Rattle.std.specs.Prelude.{codes, nat_lt, slice_get, slice_index_or, slice_set, IfOk, ⊤}
 use Rattle.std.specs.List.{join_with_byte}
@@ -31,14 +31,14 @@ use Rattle.trace_text.proofs.ReportOnly.{end_only, report_only}
 use Rattle.trace_text.proofs.RowOnly.{row_only}
 use Rattle.trace_text.proofs.Splitting.{some_piece}
 
--- the text of the lines so far
+-- The text of the lines that have been read so far.
 abbrev so_far : Parts → ReadingState → Expected → List ℕ
 so_far spec s Rows = rows_text spec s.rows
 so_far spec s (Apps a row) = rows_text spec s.rows ++ (row_line spec row ++ app_lines spec row (take a spec.apps) 0)
 so_far spec s Reports = rows_text spec s.rows ++ reports_text spec s.reports
 so_far spec s Over = text_of spec s.rows s.reports
 
--- no report comes before the last row, and a row that has begun has room for eight applications
+-- No report has been read while a row is being read, and the row has eight acts and eight areas.
 record RowOpen (s : ReadingState) (row : Row) : Type 0 where
   none : s.reports ≡ []
   acts : length row.acts ≡ 8
@@ -50,7 +50,7 @@ Sound s (Apps a row) = RowOpen s row
 Sound s Reports = ⊤
 Sound s Over = ⊤
 
--- the facts after a further line
+-- The state after a line is sound, and the text that has been read so far has grown by the line and its line feed.
 record Taken (spec : Parts) (s t : ReadingState) (line : List ℕ) : Type 0 where
   sound : Sound t t.standing
   text : so_far spec t t.standing ≡ so_far spec s s.standing ++ (line ++ codes "\n")
@@ -63,7 +63,7 @@ reports_end : (spec : Parts) (reports : List Report) (report : Report) → repor
 reports_end spec [] report = append-nil (report_line spec report)
 reports_end spec (first ∷ reports) report = ap (λ (rest : List ℕ). report_line spec first ++ rest) (reports_end spec reports report) ∙ sym (append_assoc (report_line spec first) (reports_text spec reports) (report_line spec report))
 
--- the lines of the applications before application a do not depend on its act
+-- The lines of the applications before application `a` do not depend on the act and the area of `a`.
 lines_stay : (spec : Parts) (row : Row) (a : ℕ) (act : Act) (area : List ℤ) (apps : List AppSpec) (i : ℕ) → i + length apps ≤ a →
     app_lines spec (with_app row a act area) apps i ≡ app_lines spec row apps i
 lines_stay spec row a act area [] i below = refl
@@ -93,7 +93,7 @@ below_length A [] a x h = absurd (let e = h in cc)
 below_length A (y ∷ xs) zero x h = omega arith
 below_length A (y ∷ xs) (suc a) x h = let n : a < length xs = below_length A xs a x h in omega (arith, n)
 
--- the lines up to the line of application a, once its act and area are set
+-- Once the act and the area of application `a` are set, its line follows the lines of the applications before it.
 lines_told : (spec : Parts) (row : Row) (a : ℕ) (app : AppSpec) (act : Act) (area : List ℤ) → slice_get spec.apps a ≡ Some app → length spec.apps ≤ 8 →
     length row.acts ≡ 8 → length row.areas ≡ 8 →
     app_lines spec (with_app row a act area) (take (a + 1) spec.apps) 0 ≡ app_lines spec row (take a spec.apps) 0 ++ app_line spec app act area
@@ -199,7 +199,7 @@ standing_step spec s t (Apps a row) line few small stands sound h = apps_by (beg
 standing_step spec s t Reports line few small stands sound h = closing_step spec s t line (ap (so_far spec s) stands) h
 standing_step spec s t Over line few small stands sound h = absurd (let e = h in cc)
 
--- each line that is taken has one spelling
+-- Each line that is accepted is the printed text of what it adds to the state.
 line_step : (spec : Parts) (s t : ReadingState) (line : List ℕ) → length spec.factors ≤ 6 → length spec.apps ≤ 8 → Sound s s.standing → after_line spec s line ≡ Ok t → Taken spec s t line
 line_step spec s t line few small sound h = standing_step spec s t s.standing line few small refl sound (if_ok (is_plain line) (standing_line spec s s.standing line) BROKEN_LINE t h).1
 
@@ -236,13 +236,13 @@ not_long : (t : Bool) (fault : TraceFault) (read : Result Flown TraceFault) (f :
 not_long true fault read f h = absurd (let e = h in cc)
 not_long false fault read f h = h
 
--- no second spelling of a trace
+-- Bytes that are read as a trace have one spelling: the printed text.
 pub trace_only : (spec : Parts) (bytes : List ℕ) (f : Flown) → length spec.factors ≤ 6 → length spec.apps ≤ 8 → trace_of spec bytes ≡ Ok f → bytes ≡ text_of spec f.rows f.reports
 trace_only spec bytes f few small h =
     let read = not_long (nat_lt MAX_TRACE_BYTES (length bytes)) (fault_at 0 WRONG_END) (trace_from spec 1 before_first (pieces_of 10 bytes)) f h in
     sym (join_with_byte-slice_split 10 bytes) ∙ lines_only spec 1 before_first (pieces_of 10 bytes) f few small refl (some_piece 10 bytes) read
 
--- a property of each trace that is read holds for a result that gives one
+-- If a property holds for each trace that is read, it holds for the trace that the reader returns.
 answered : (P : Flown → Type 0) (reading : Result Flown TraceFault) (answer : Result Flown TraceError) → ((f : Flown) → reading ≡ Ok f → P f) → AnswersTrace reading answer → IfOk answer P
 answered P reading (Ok f) holds h = holds f h
 answered P reading (Err error) holds h = tt
@@ -252,7 +252,7 @@ pub answered_text : (spec : Parts) (bytes : List ℕ) (answer : Result Flown Tra
 answered_text spec bytes answer few small h =
     answered (λ (f : Flown). bytes ≡ text_of spec f.rows f.reports) (trace_of spec bytes) answer (λ f read. trace_only spec bytes f few small read) h
 
--- the text of a trace that is read is read to the same trace again
+-- Reading the printed text of a trace that was read gives the same trace.
 pub answered_again : (spec : Parts) (bytes : List ℕ) (answer : Result Flown TraceError) → length spec.factors ≤ 6 → length spec.apps ≤ 8 → AnswersTrace (trace_of spec bytes) answer →
     IfOk answer (λ (f : Flown). trace_of spec (text_of spec f.rows f.reports) ≡ Ok f)
 answered_again spec bytes answer few small h =

@@ -1,4 +1,4 @@
--- A further line of a trace.
+-- Reading a further line of a trace.
 use Rattle.std.proofs.Common.{ℕ, ◌≡◌, ◌<◌, ◌≤◌, ◌+◌, ◌∙◌, List, [], ◌∷◌, Result, Ok, Err, length, arith, refl, sym, ap}
 use Rattle.std.proofs.lemmas.Bool.{le-ltb}
 use Rattle.scram_types.specs.declared.limits.TheConstants.{MAX_TRACE_BYTES}
@@ -11,7 +11,7 @@ use Rattle.trace_text.specs.Pieces.{pieces_of}
 use Rattle.trace_text.specs.TraceReading.{AnswersLine, AnswersTrace, ReadingState, after_line, before_first, fault_at, go_on, stopped, trace_from, trace_of}
 use Rattle.trace_text.proofs.Splitting.{some_piece}
 
--- a line that is not the last
+-- If further lines follow a line, reading continues with them in the state after the line.
 pub line_then : (spec : Parts) (k : ℕ) (s : ReadingState) (line : List ℕ) (lines : List (List ℕ)) → 0 < length lines →
     trace_from spec k s (line ∷ lines) ≡ go_on k (after_line spec s line) (λ (t : ReadingState). trace_from spec (k + 1) t lines)
 line_then spec k s line [] h = absurd (omega arith)
@@ -20,7 +20,7 @@ line_then spec k s line (next ∷ lines) h = refl
 pub of_length : (spec : Parts) (bytes : List ℕ) → length bytes ≤ MAX_TRACE_BYTES → trace_of spec bytes ≡ trace_from spec 1 before_first (pieces_of 10 bytes)
 of_length spec bytes h = rw (le-ltb MAX_TRACE_BYTES (length bytes) h) refl
 
--- the reading continues after a line that is taken
+-- If a line is accepted, reading continues after it with the same result.
 pub taken : (spec : Parts) (k : ℕ) (s t : ReadingState) (text rest behind : List ℕ) (read : Result Flown TraceFault) →
     pieces_of 10 rest ≡ text ∷ pieces_of 10 behind → after_line spec s text ≡ Ok t → trace_from spec k s (pieces_of 10 rest) ≡ read →
     trace_from spec (k + 1) t (pieces_of 10 behind) ≡ read
@@ -38,7 +38,7 @@ refused spec k s text rest behind bytes rule split step so_far =
     sym e ∙ line_then spec k s text (pieces_of 10 behind) (some_piece 10 behind)
     ∙ ap (λ (r : Result ReadingState ℕ). go_on k r (λ (u : ReadingState). trace_from spec (k + 1) u (pieces_of 10 behind))) step
 
--- a line that is not taken ends the reading
+-- If a line is not accepted, reading ends with its fault.
 pub not_taken : (spec : Parts) (k : ℕ) (s : ReadingState) (text rest behind bytes : List ℕ) (stop : Stop) →
     pieces_of 10 rest ≡ text ∷ pieces_of 10 behind → AnswersLine (after_line spec s text) (Err stop) → trace_from spec k s (pieces_of 10 rest) ≡ trace_of spec bytes →
     AnswersTrace (trace_of spec bytes) (Err (stopped k stop))

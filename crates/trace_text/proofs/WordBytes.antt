@@ -1,4 +1,4 @@
--- The bytes of printed words, and the recovery of the words from a line.
+-- The bytes of printed words. A printed line is split into the words that it was joined from.
 use Rattle.std.proofs.Common.{ℕ, ℤ, pos, negsuc, suc, ◌≡◌, ◌<◌, ◌≤◌, ◌+◌, ◌^◌, ◌∙◌, Bool, true, false, List, [], ◌∷◌, ◌++◌, Some, All, length, decimal, arith, refl, ap, length-append}
 use mathlib.Core.Logic.{inl, inr}
 use Rattle.std.specs.Prelude.{◌==◌, ◌&&◌, ◌||◌, nat_le}
@@ -18,7 +18,7 @@ use Rattle.scram_types.specs.declared.limits.TheConstants.{MAX_LINE_BYTES}
 use Rattle.trace_text.specs.Pieces.{is_filled, pieces_of, words_in, words_of}
 use Rattle.trace_text.specs.TraceReading.{is_plain, is_printable}
 
--- a printable byte that is at least this number
+-- The byte `b` is printable and at least `least`.
 abbrev pub over : ℕ → ℕ → Bool
 over least b = nat_le least b && nat_le b 126
 
@@ -35,7 +35,7 @@ pub all_over_less : (low high : ℕ) (text : List ℕ) → low ≤ high → all_
 all_over_less low high [] h e = refl
 all_over_less low high (b ∷ text) h e = let p = and_parts _ _ e in and_from _ _ (over_less low high b h p.0) (all_over_less low high text h p.1)
 
--- a smaller byte does not occur there
+-- A byte below `least` does not occur in a text whose bytes are all at least `least`.
 none_at : (separator least : ℕ) (text : List ℕ) → separator < least → all_over least text ≡ true → All (λ (b : ℕ). (b == separator) ≡ false) text
 none_at separator least [] h e = All-nil (λ (b : ℕ). (b == separator) ≡ false)
 none_at separator least (b ∷ text) h e =
@@ -44,7 +44,7 @@ none_at separator least (b ∷ text) h e =
     let k = leb-true least b q.0 in
     All-cons (λ (c : ℕ). (c == separator) ≡ false) b text (ne_eqb b separator (λ same. omega (arith, same, k, h))) (none_at separator least text h p.1)
 
--- pieces without the separator are recovered from their join
+-- If no piece contains the separator, splitting the joined pieces gives the pieces.
 pub pieces_back : (separator least : ℕ) (piece : List ℕ) (pieces : List (List ℕ)) → separator < least → list_all (all_over least) (piece ∷ pieces) ≡ true →
     pieces_of separator (join_with_byte separator (piece ∷ pieces)) ≡ piece ∷ pieces
 pieces_back separator least piece [] h e = slice_split_none (λ (b : ℕ). b == separator) piece (none_at separator least piece h (and_parts _ _ e).0)
@@ -53,7 +53,7 @@ pieces_back separator least piece (next ∷ pieces) h e =
     slice_split_at (λ (b : ℕ). b == separator) piece separator (join_with_byte separator (next ∷ pieces)) (none_at separator least piece h p.0) (eq-eqb separator separator refl)
     ∙ ap (λ (rest : List (List ℕ)). piece ∷ rest) (pieces_back separator least next pieces h p.1)
 
--- a word that can occur in a line
+-- The word can occur in a line: it is not empty, and it has printable bytes other than the space.
 abbrev pub is_visible : List ℕ → Bool
 is_visible word = is_filled word && all_over 33 word
 
@@ -83,7 +83,7 @@ joined_printable word (next ∷ words) e =
     list_all-append (over 32) word (32 ∷ line_of (next ∷ words))
     ∙ and_from _ _ (all_over_less 32 33 word (omega arith) q.1) (joined_printable next words p.1)
 
--- the number of bytes of a line, including its line feed
+-- The number of bytes of a line of these words, including its line feed.
 abbrev pub width : List (List ℕ) → ℕ
 width [] = 0
 width (word ∷ words) = length word + 1 + width words
@@ -101,12 +101,13 @@ line_plain word words e short =
     let b : length (line_of (word ∷ words)) ≤ 512 = omega (arith, a, short) in
     and_from _ _ (le-leb _ 512 b) (joined_printable word words e)
 
--- a printable line ends at its line feed
+-- If a line is printable, splitting a text that begins with the line and a line feed gives the line as the first
+-- piece.
 pub line_split : (line rest : List ℕ) → is_plain line ≡ true → pieces_of 10 (line ++ 10 ∷ rest) ≡ line ∷ pieces_of 10 rest
 line_split line rest e =
     slice_split_at (λ (b : ℕ). b == 10) line 10 rest (none_at 10 32 line (omega arith) (and_parts (nat_le (length line) MAX_LINE_BYTES) (list_all is_printable line) e).1) refl
 
--- numbers
+-- The bytes of numbers.
 
 digits_over : (ds : List ℕ) → AllDigits 10 ds → all_over 48 ds ≡ true
 digits_over [] d = refl
@@ -134,7 +135,7 @@ decimal_visible n small = and_from _ _ (decimal_filled n small) (all_over_less 3
 pub signed_visible : (z : ℤ) → mag z < 2 ^ 63 → is_visible (signed_decimal z) ≡ true
 signed_visible z small = and_from _ _ (signed_filled z small) (all_over_less 33 45 (signed_decimal z) (omega arith) (signed_over z small))
 
--- names
+-- The bytes of names.
 
 letter_over : (b : ℕ) → is_ascii_lowercase b ≡ true → over 48 b ≡ true
 letter_over b e =

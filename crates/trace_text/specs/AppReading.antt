@@ -28,27 +28,28 @@ is_placed_form words = (length words == 14) && is_word words 5 (codes ":")
 abbrev pub is_bare_form : List (List ℕ) → Bool
 is_bare_form words = (length words == 12) && is_word words 3 (codes ":")
 
--- The phase that a word names, or nothing if it names none.
+-- The phase that a word names, or `None` if it names no phase.
 abbrev pub phase_named : List ℕ → Option Phase
 phase_named tag =
     if bytes_eq tag (codes "halting") then Some Halting
     else (if bytes_eq tag (codes "preparing") then Some Preparing
     else (if bytes_eq tag (codes "initialising") then Some Initialising else None))
 
--- The act of frame k of the n frames of a phase.
+-- The act of an application in frame `k` of the `n` frames of a phase, on a processor.
 abbrev pub phase_act : Phase → ℕ → ℕ → ProcId → Act
 phase_act Halting k n proc = act.Halting k n proc
 phase_act Preparing k n proc = act.Preparing k n proc
 phase_act Initialising k n proc = act.Initialising k n proc
 
--- The act without a processor that a word names, or nothing if it names none.
+-- The act without a processor that a word names, or `None` if it names no such act.
 abbrev pub bare_act : List ℕ → Option Act
 bare_act tag =
     if bytes_eq tag (codes "held") then Some act.Held
     else (if bytes_eq tag (codes "off") then Some act.Off
     else (if bytes_eq tag (codes "lost") then Some act.Lost else None))
 
--- The result of reading the line of an application that ran: its names, its area, and whether it is the next one.
+-- The result of reading the words of an application that ran, given the number of the application that is due. Tests
+-- rules 4 to 6: the names, the area, and whether the application is the one that is due.
 abbrev pub ran_line : Parts → ℕ → List (List ℕ) → Result Done ℕ
 ran_line spec next words =
     or_rule UNKNOWN_NAME (app_number spec (word_at words 1)) (λ (app : ℕ).
@@ -57,7 +58,8 @@ ran_line spec next words =
     or_rule WRONG_NUMBER (signed_from 8 6 words) (λ (area : List ℤ).
     if app == next then Ok (done (act.Ran mode proc) area) else Err NOT_NEXT))))
 
--- The result of reading the line of an application in a phase, given the two sides of the slash between its frames.
+-- The result of reading the words of an application in a phase, given the number of the application that is due, the
+-- phase, and the two sides of the slash between the frame and the length of the phase.
 abbrev pub phase_line : Parts → ℕ → List (List ℕ) → Phase → List ℕ × List ℕ → Result Done ℕ
 phase_line spec next words phase fraction =
     or_rule UNKNOWN_NAME (app_number spec (word_at words 1)) (λ (app : ℕ).
@@ -69,14 +71,16 @@ phase_line spec next words phase fraction =
     (if nat_lt k n && nat_le n MAX_PHASE then Ok (done (phase_act phase k n proc) area) else Err OUT_OF_ORDER)
     else Err NOT_NEXT)))))
 
--- The result of reading the line of an application without a processor.
+-- The result of reading the words of an application whose act has no processor, given the number of the application
+-- that is due and the act.
 abbrev pub bare_line : Parts → ℕ → List (List ℕ) → Act → Result Done ℕ
 bare_line spec next words told =
     or_rule UNKNOWN_NAME (app_number spec (word_at words 1)) (λ (app : ℕ).
     or_rule WRONG_NUMBER (signed_from 8 4 words) (λ (area : List ℤ).
     if app == next then Ok (done told area) else Err NOT_NEXT))
 
--- The result of reading the line of an act on a processor: `ran`, or the phase that it names.
+-- The result of reading the words of an act on a processor, given the number of the application that is due. The
+-- third word is `ran` or names a phase.
 abbrev pub placed_line : Parts → ℕ → List (List ℕ) → Result Done ℕ
 placed_line spec next words =
     if is_word words 2 (codes "ran") then ran_line spec next words
@@ -84,12 +88,12 @@ placed_line spec next words =
     or_rule NO_FORM (phase_named (word_at words 2)) (λ (phase : Phase).
     or_rule NO_FORM (sides_of (word_at words 3)) (phase_line spec next words phase))
 
--- The result of reading the words of an application's line.
+-- The result of reading the words of an application's line, given the number of the application that is due.
 abbrev pub app_in : Parts → ℕ → List (List ℕ) → Result Done ℕ
 app_in spec next words =
     if is_placed_form words then placed_line spec next words
     else (if is_bare_form words then or_rule NO_FORM (bare_act (word_at words 2)) (bare_line spec next words) else Err NO_FORM)
 
--- The result of reading the line of application `next`.
+-- The result of reading a line as the line of application `next`.
 abbrev pub app_read : Parts → ℕ → List ℕ → Result Done ℕ
 app_read spec next line = or_rule NO_FORM (words_in line) (app_in spec next)

@@ -1,4 +1,4 @@
--- The properties of the rows and reconfigurations of every flight, by the ranges of its specification.
+-- The ranges that a specification sets for the rows and reconfigurations of its flights.
 use Rattle.std.specs.Prelude.{◌≡◌, ◌<◌, ◌≤◌, ◌^◌, ⊤, ℕ, ℤ, pos, List, [], length, replicate, slice_get, slice_index, slice_index_or, Option, Some, None, IsSome, Ok}
 use lib.Signed.{mag}
 use Rattle.scram_types.specs.declared.rows.Env.{Env}
@@ -19,7 +19,7 @@ use Rattle.scram_types.specs.Specification.{Each, IsIn, IsInIfNamed, IsSpec, Par
 use Rattle.trace_text.specs.Text.{text_of}
 use Rattle.trace_text.specs.TraceReading.{trace_of}
 
--- A reconfiguration is between configurations that exist, and began in a frame of a flight.
+-- The configurations of a reconfiguration exist, and it began in a frame of a flight.
 pub record IsMove (spec : Parts) (from : ConfId) (halting : Option ConfId) (to : ConfId) (since : ℕ) : Type 0 where
   pub source : IsIn spec.confs from
   pub halts : IsInIfNamed spec.confs halting
@@ -38,29 +38,29 @@ pub record IsEnvShown (spec : Parts) (env : Env) : Type 0 where
   pub values : (x : ℕ) (factor : Factor) → slice_get spec.factors x ≡ Some factor → slice_index env.factors x < length factor.values
   pub rest : (x : ℕ) → length spec.factors ≤ x → slice_index env.factors x ≡ 0
 
--- A number that a flight shows is between -1,000,001 and 1,000,000, inclusive.
+-- A number that a flight shows is between -1,000,001 and 1,000,000, both included.
 abbrev pub IsShown : ℤ → Type 0
 IsShown z = mag z ≤ 1000000
 
--- The aircraft's numbers are in range.
+-- The four numbers of the aircraft's world are in range.
 pub record IsWorldShown (world : World) : Type 0 where
   pub alt : IsShown world.alt
   pub climb : IsShown world.climb
   pub heading : IsShown world.heading
   pub bank : IsShown world.bank
 
--- An application ran in a mode that it lists, on a processor that exists.
+-- An application ran in a mode that its specification lists, on a processor that exists.
 pub record IsRun (spec : Parts) (app : AppSpec) (mode : Mode) (proc : ProcId) : Type 0 where
   pub listed : IsSome (mode_in app.modes mode.0)
   pub on : proc.0 < length spec.procs
 
--- An application is in one of the frames of a phase, on a processor that exists.
+-- Frame `k` is one of the `n` frames of a phase, which has at most 16 frames, and the processor exists.
 pub record IsStep (spec : Parts) (k n : ℕ) (proc : ProcId) : Type 0 where
   pub inside : k < n
   pub most : n ≤ MAX_PHASE
   pub on : proc.0 < length spec.procs
 
--- An application's act is valid.
+-- The mode, the frame and the processor that an application's act shows are valid for the application.
 abbrev pub IsActShown : Parts → AppSpec → Act → Type 0
 IsActShown spec app (Ran mode proc) = IsRun spec app mode proc
 IsActShown spec app (Halting k n proc) = IsStep spec k n proc
@@ -70,13 +70,13 @@ IsActShown spec app (Initialising k n proc) = IsStep spec k n proc
 IsActShown spec app Off = ⊤
 IsActShown spec app Lost = ⊤
 
--- An area has eight words, each in range.
+-- An area has eight words, each of them in range.
 pub record IsAreaShown (area : List ℤ) : Type 0 where
   pub width : length area ≡ 8
   pub words : Each IsShown area
 
--- A row is the valid row of frame f. It has an act and an area for each application; past the last application acts are
--- off and areas zeros.
+-- A row is a valid row of frame `f`. Each application has a valid act and area. Past the last application all acts
+-- are `Off` and all areas are zeros.
 pub record IsRowShown (spec : Parts) (f : ℕ) (row : Row) : Type 0 where
   pub frame : row.frame ≡ f
   pub mode : IsModeShown spec row.mode
@@ -89,12 +89,13 @@ pub record IsRowShown (spec : Parts) (f : ℕ) (row : Row) : Type 0 where
   pub idle : (a : ℕ) → length spec.apps ≤ a → slice_index_or row.acts a Off ≡ Off
   pub empty : (a : ℕ) → length spec.apps ≤ a → a < 8 → slice_index_or row.areas a [] ≡ replicate 8 (pos 0)
 
--- A reconfiguration that ended did so in a frame of a flight, and one that was cut off ends with the frames.
+-- A reconfiguration that ended did so in a frame of a flight. A reconfiguration that was cut off ends with the last
+-- of `frames` frames.
 abbrev pub IsEndShown : ℕ → Option ConfId → ℕ → Type 0
 IsEndShown frames None end = end ≡ frames
 IsEndShown frames (Some to) end = end < MAX_FRAMES
 
--- A reconfiguration is valid in a flight with this number of frames.
+-- A reconfiguration is valid in a flight with `frames` frames.
 pub record IsReportShown (spec : Parts) (frames : ℕ) (report : Report) : Type 0 where
   pub source : IsIn spec.confs report.from
   pub target : IsInIfNamed spec.confs report.to
@@ -102,15 +103,15 @@ pub record IsReportShown (spec : Parts) (frames : ℕ) (report : Report) : Type 
   pub ordered : report.begin ≤ report.end
   pub ended : IsEndShown frames report.to report.end
 
--- The rows of a flight are the rows of its frames in order, and the number of its reconfigurations is at most the
--- number of its rows.
+-- The rows of a flight are valid rows of its frames, in order. It has at most as many reconfigurations as rows, and
+-- each of them is valid.
 pub record IsFlight (spec : Parts) (rows : List Row) (reports : List Report) : Type 0 where
   pub frames : length rows ≤ MAX_FRAMES
   pub rows_shown : (f : ℕ) (row : Row) → slice_get rows f ≡ Some row → IsRowShown spec f row
   pub few : length reports ≤ length rows
   pub reports_shown : Each (IsReportShown spec (length rows)) reports
 
--- The printed text of a flight is read as its rows and reconfigurations.
+-- Reading the printed text of a flight gives the flight's rows and reconfigurations.
 abbrev pub PrintedIsRead : Type 0
 PrintedIsRead = (spec : Parts) (rows : List Row) (reports : List Report) → IsSpec spec → IsFlight spec rows reports
     → trace_of spec (text_of spec rows reports) ≡ Ok (record { rows = rows; reports = reports })

@@ -1,4 +1,4 @@
--- The rules that a line breaks. The rules on names, numbers and counts depend on the form of the line.
+-- The rules for the lines of a trace. The rules on names, numbers and counts depend on the form of the line.
 use Rattle.std.specs.Prelude.{ℕ, ◌≡◌, ◌<◌, ◌==◌, ◌-◌, ◌^◌, ◌&&◌, ◌||◌, not, Bool, true, false, List, codes, length, nat_le, nat_lt, Option, Some, None, is_some, option_and_then, Result, Ok, Err, if◌then◌else◌}
 use Rattle.scram_types.specs.declared.limits.TheConstants.{MAX_FRAMES, MAX_PHASE}
 use Rattle.scram_types.specs.Specification.{Parts, bound_in, greatest_bound_in}
@@ -15,8 +15,8 @@ use Rattle.trace_text.specs.RowReading.{env_names, is_moving_form, is_stable_for
 use Rattle.trace_text.specs.Spelling.{signed_from, spelled_number}
 use Rattle.trace_text.specs.TraceReading.{ReadingState, after_line, begins, is_plain}
 
--- The forms of lines: a row with a stable or a moving mode; an application that ran, is in a phase, or has no
--- processor; a reconfiguration that ended or was cut off; and the end line.
+-- The forms of lines. A row has a stable or a moving mode. An application ran, is in a phase, or has no processor. A
+-- reconfiguration ended or was cut off. The last form is that of the end line.
 pub data Form : Type 0 where
   StableRow : Form
   MovingRow : Form
@@ -27,27 +27,28 @@ pub data Form : Type 0 where
   Unfinished : Form
   Ending : Form
 
--- The words of a line.
+-- A list of the words of a line.
 abbrev pub Words : Type 0
 Words = List (List ℕ)
 
--- The value is given, and passes a test.
+-- The option has a value, and the value passes the test `ask`.
 abbrev pub is_some_and : {A : Type 0} → Option A → (A → Bool) → Bool
 is_some_and None ask = false
 is_some_and (Some a) ask = ask a
 
--- Rule 2: the first word of the line is allowed here. After the end line no word is tested.
+-- Rule 2: the first word of the line is allowed here. After the end line any word passes, since rule 9 refuses the
+-- line.
 abbrev pub is_in_place : Expected → List ℕ → Bool
 is_in_place Rows line = begins line (codes "frame") || begins line (codes "reconfiguration") || begins line (codes "end")
 is_in_place (Apps a row) line = begins line (codes "app")
 is_in_place Reports line = begins line (codes "reconfiguration") || begins line (codes "end")
 is_in_place Over line = true
 
--- The form of the words of a row.
+-- The form of the words of a row, or `None` if they match neither form.
 abbrev pub row_form : Parts → Words → Option Form
 row_form spec words = if is_stable_form spec words then Some StableRow else (if is_moving_form spec words then Some MovingRow else None)
 
--- The form of the words of an application.
+-- The form of the words of an application, or `None` if they match no form.
 abbrev pub app_form : Words → Option Form
 app_form words =
     if is_placed_form words then
@@ -55,7 +56,7 @@ app_form words =
     else (if is_some (phase_named (word_at words 2)) && is_some (sides_of (word_at words 3)) then Some PhaseApp else None))
     else (if is_bare_form words && is_some (bare_act (word_at words 2)) then Some BareApp else None)
 
--- The form of the words of a reconfiguration.
+-- The form of the words of a reconfiguration, or `None` if they match neither form.
 abbrev pub report_form : Words → Option Form
 report_form words =
     if is_report_form words then
@@ -63,18 +64,18 @@ report_form words =
     else (if is_word words 7 (codes "-") then None else Some Finished))
     else None
 
--- The form of the words of the end line.
+-- The form of the words of the end line, or `None` if they do not match it.
 abbrev pub end_form : Words → Option Form
 end_form words = if is_end_form words then Some Ending else None
 
--- The form of the words of a line, by its first word.
+-- The form of the words of a line, chosen by the line's first word, or `None` if they match no form.
 abbrev pub form_by : Parts → List ℕ → Words → Option Form
 form_by spec line words =
     if begins line (codes "frame") then row_form spec words
     else (if begins line (codes "app") then app_form words
     else (if begins line (codes "reconfiguration") then report_form words else end_form words))
 
--- The form of a line, or nothing if a word is empty or the words match no form.
+-- The form of a line, or `None` if a word is empty, there are more than 16 words, or the words match no form.
 abbrev pub line_form : Parts → List ℕ → Option Form
 line_form spec line = option_and_then (form_by spec line) (words_in line)
 
@@ -99,19 +100,19 @@ knows_names spec words Finished = is_some (conf_named spec (word_at words 1)) &&
 knows_names spec words Unfinished = is_some (conf_named spec (word_at words 1))
 knows_names spec words Ending = true
 
--- The word spells the number of a frame.
+-- The word spells the number of a frame, which is below 20,000.
 abbrev pub is_frame_number : List ℕ → Bool
 is_frame_number word = is_some (spelled_number MAX_FRAMES word)
 
--- The word spells a count of 32 bits.
+-- The word spells an unsigned number of 32 bits.
 abbrev pub is_count : List ℕ → Bool
 is_count word = is_some (spelled_number (2 ^ 32) word)
 
--- Both sides of a slash spell a number of 8 bits.
+-- The text on each side of a slash spells an unsigned number of 8 bits.
 abbrev pub are_bytes : List ℕ × List ℕ → Bool
 are_bytes sides = is_some (spelled_number 256 sides.0) && is_some (spelled_number 256 sides.1)
 
--- Rule 5: each number is spelled as printed, in its range.
+-- Rule 5: each number is spelled as it is printed, and is in its range.
 abbrev pub spells_numbers : Words → Form → Bool
 spells_numbers words StableRow = is_frame_number (word_at words 1) && is_some (world_at words 9)
 spells_numbers words MovingRow = is_frame_number (word_at words 6) && is_frame_number (word_at words 1) && is_some (world_at words 12)
@@ -123,22 +124,22 @@ spells_numbers words Finished =
 spells_numbers words Unfinished = is_frame_number (word_at words 5) && is_count (word_at words 9) && is_some (bound_or_none (word_at words 11))
 spells_numbers words Ending = is_count (word_at words 2) && is_count (word_at words 4)
 
--- The number of the application whose line is due.
+-- The number of the application whose line is due, or 0 if no application's line is due.
 abbrev pub app_due : Expected → ℕ
 app_due Rows = 0
 app_due (Apps a row) = a
 app_due Reports = 0
 app_due Over = 0
 
--- The line's frame is the frame after the rows so far.
+-- The line's frame is the frame that follows the rows so far.
 abbrev pub is_frame_due : ReadingState → Words → Bool
 is_frame_due s words = is_some_and (spelled_number MAX_FRAMES (word_at words 1)) (λ (frame : ℕ). frame == length s.rows)
 
--- The line's application is the one whose line is due.
+-- The application that the line names is the one whose line is due.
 abbrev pub is_app_due : Parts → ReadingState → Words → Bool
 is_app_due spec s words = is_some_and (app_number spec (word_at words 1)) (λ (app : ℕ). app == app_due s.standing)
 
--- Rule 6: the frame or the application is the next one.
+-- Rule 6: the frame of a row, or the application of an application's line, is the next one.
 abbrev pub is_due : Parts → ReadingState → Words → Form → Bool
 is_due spec s words StableRow = is_frame_due s words
 is_due spec s words MovingRow = is_frame_due s words
@@ -149,12 +150,12 @@ is_due spec s words Finished = true
 is_due spec s words Unfinished = true
 is_due spec s words Ending = true
 
--- The frame k is below the length n of a phase, which is at most 16.
+-- The frame before a slash is below the length of a phase after it, and the length is at most 16.
 abbrev pub is_in_phase : List ℕ × List ℕ → Bool
 is_in_phase sides =
     is_some_and (spelled_number 256 sides.0) (λ (k : ℕ). is_some_and (spelled_number 256 sides.1) (λ (n : ℕ). nat_lt k n && nat_le n MAX_PHASE))
 
--- Rule 7: the frame of a phase is below its length, and processors are in order.
+-- Rule 7: the frame of a phase is below the phase's length, and the processors that are up are listed in order.
 abbrev pub is_in_order : Parts → Words → Form → Bool
 is_in_order spec words StableRow = is_some (up_in spec.procs (word_at words 7))
 is_in_order spec words MovingRow = is_some (up_in spec.procs (word_at words 10))
@@ -165,7 +166,8 @@ is_in_order spec words Finished = true
 is_in_order spec words Unfinished = true
 is_in_order spec words Ending = true
 
--- The reconfiguration begins no later than its end, and shows its length and the bound that is given.
+-- The words of a reconfiguration show a begin no later than `end`, the number of frames between the two, and the
+-- bound `given`.
 abbrev pub is_measured : Words → ℕ → Option ℕ → Bool
 is_measured words end given =
     is_some_and (spelled_number MAX_FRAMES (word_at words 5)) (λ (begin : ℕ).
@@ -197,19 +199,19 @@ is_open (Apps a row) = true
 is_open Reports = true
 is_open Over = false
 
--- A line with a form passes the test on its form. A line without a form passes, as does a line after the end line.
+-- The form, if there is one, passes the test `ask`. This holds if there is no form.
 abbrev pub keeps : {A : Type 0} → Option A → (A → Bool) → Bool
 keeps None ask = true
 keeps (Some form) ask = ask form
 
--- The form that rules 4 to 8 test, or nothing if they do not apply.
+-- The form of a line that rules 4 to 8 test, or `None` if the line has no form or follows the end line.
 abbrev pub asked_form : Parts → Expected → List ℕ → Option Form
 asked_form spec Rows line = line_form spec line
 asked_form spec (Apps a row) line = line_form spec line
 asked_form spec Reports line = line_form spec line
 asked_form spec Over line = None
 
--- A line, read after the lines so far, breaks the rule of this number.
+-- A line that is read in state `s` breaks the rule of this number.
 abbrev pub breaks_rule : Parts → ReadingState → List ℕ → ℕ → Bool
 breaks_rule spec s line rule =
     if rule == BROKEN_LINE then not (is_plain line)
@@ -222,11 +224,11 @@ breaks_rule spec s line rule =
     else (if rule == WRONG_COUNT then not (keeps (asked_form spec s.standing line) (counts_rightly spec s (words_of line)))
     else (if rule == WRONG_END then not (is_open s.standing) else false))))))))
 
--- The result of a reading is `Ok` if no rule is broken, or else the first rule that is broken.
+-- The result of a reading is `Ok` if no rule is broken, or else `Err` with the broken rule of the smallest number.
 abbrev pub ReportsLeast : {A : Type 0} → (ℕ → Bool) → Result A ℕ → Type 0
 ReportsLeast breaks (Ok a) = (rule : ℕ) → breaks rule ≡ false
 ReportsLeast breaks (Err least) = (breaks least ≡ true) × ((rule : ℕ) → rule < least → breaks rule ≡ false)
 
--- A line that breaks no rule is read, and for any other line the first rule that it breaks is reported.
+-- A line that breaks no rule is read. For any other line the first rule that it breaks is reported.
 abbrev pub LeastRuleIsReported : Type 0
 LeastRuleIsReported = (spec : Parts) (s : ReadingState) (line : List ℕ) → ReportsLeast (breaks_rule spec s line) (after_line spec s line)

@@ -8,19 +8,19 @@ use Rattle.scram_types.specs.declared.specification.ModeSpec.{ModeSpec}
 use Rattle.scram_types.specs.Specification.{Parts}
 use Rattle.app_model.specs.Names.{mode_text}
 
--- The configuration of this name, no configuration for `-`, or nothing if the name is unknown.
+-- The configuration of this name, `Some None` for `-`, or `None` if the name is unknown.
 abbrev pub conf_or_none : Parts → List ℕ → Option (Option ConfId)
 conf_or_none spec text = if bytes_eq text (codes "-") then Some None else option_map (λ (c : ConfId). Some c) (conf_named spec text)
 
--- The number of the first application of this name, or nothing if there is none.
+-- The number of the first application of this name, or `None` if no application has it.
 abbrev pub app_number : Parts → List ℕ → Option ℕ
 app_number spec text = number_named (λ (app : AppSpec). app.name) spec.apps text
 
--- The first of these modes of a kind that has this name, or nothing if there is none.
+-- The first mode of a list whose name, in the given kind of application, is this text, or `None` if there is none.
 abbrev pub mode_from : ℕ → List ℕ → List ModeSpec → Option Mode
 mode_from kind text [] = None
 mode_from kind text (listed ∷ modes) = if bytes_eq (mode_text kind listed.mode.0) text then Some listed.mode else mode_from kind text modes
 
--- The mode of this name that application a lists, or nothing if it lists no such mode.
+-- The mode of this name that application `a` lists, or `None` if it lists no such mode.
 abbrev pub listed_mode : Parts → ℕ → List ℕ → Option Mode
 listed_mode spec a text = option_and_then (λ (app : AppSpec). mode_from app.kind.0 text app.modes) (slice_get spec.apps a)

@@ -1,4 +1,4 @@
--- The names that a trace shows.
+-- The names that appear in the text of a trace.
 use Rattle.scram_types.specs.Lookups.{value_name, conf_name}
 use Rattle.std.specs.Prelude.{ℕ, ◌==◌, ◌+◌, ◌%◌, ◌/◌, List, [], ◌∷◌, ◌++◌, slice_index, Option, Some, None, codes, if◌then◌else◌}
 use Rattle.scram_types.specs.Specification.{Parts}
@@ -11,7 +11,7 @@ abbrev pub conf_or_dash : Parts → Option ConfId → List ℕ
 conf_or_dash spec None = codes "-"
 conf_or_dash spec (Some c) = conf_name spec c.0
 
--- The names after the first, each preceded by a comma.
+-- The names of a list, each preceded by a comma.
 abbrev pub further_joined : List (List ℕ) → List ℕ
 further_joined [] = []
 further_joined (name ∷ names) = codes "," ++ name ++ further_joined names
@@ -21,12 +21,13 @@ abbrev pub joined : List (List ℕ) → List ℕ
 joined [] = codes "-"
 joined (name ∷ names) = name ++ further_joined names
 
--- The names of the factors' values, where `i` is the number of the first factor.
+-- The names of the values of these factors, given the number `i` of the first of these factors and the values of all
+-- factors.
 abbrev pub values_named : List Factor → ℕ → List ℕ → List (List ℕ)
 values_named [] i values = []
 values_named (factor ∷ factors) i values = value_name factor (slice_index values i) ∷ values_named factors (i + 1) values
 
--- The names of the processors whose bits are set, where the lowest bit of `up` is the first processor's.
+-- The names of the processors whose bits are set in `up`. The lowest bit is that of the first processor.
 abbrev pub names_up : List Proc → ℕ → List (List ℕ)
 names_up [] up = []
 names_up (proc ∷ procs) up = if up % 2 == 1 then proc.name ∷ names_up procs (up / 2) else names_up procs (up / 2)

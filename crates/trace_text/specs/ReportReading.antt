@@ -16,18 +16,19 @@ is_report_form words =
     (length words == 12) && is_word words 2 (codes ">") && is_word words 4 (codes "begin") && is_word words 6 (codes "end")
     && is_word words 8 (codes "took") && is_word words 10 (codes "of")
 
--- The bound that a text spells, no bound for `-`, or nothing if it spells none.
+-- The bound that a text spells, `Some None` for `-`, or `None` if it spells no bound.
 abbrev pub bound_or_none : List ℕ → Option (Option ℕ)
 bound_or_none text = if bytes_eq text (codes "-") then Some None else option_map (λ (b : ℕ). Some b) (spelled_number (2 ^ 32) text)
 
--- Two bounds are the same, or both are missing.
+-- Two bounds are equal, or both are missing.
 abbrev pub same_bound : Option ℕ → Option ℕ → Bool
 same_bound None None = true
 same_bound None (Some b) = false
 same_bound (Some a) None = false
 same_bound (Some a) (Some b) = a == b
 
--- The result of rules 5 and 8, except for the spelling of the end.
+-- The reconfiguration with this source, target and end whose other numbers the words spell, or the first of rules 5
+-- and 8 that they break. `given` is the bound that the words have to show. The spelling of the end is tested before.
 abbrev pub report_end : List (List ℕ) → ConfId → Option ConfId → ℕ → Option ℕ → Result Report ℕ
 report_end words from to end given =
     or_rule WRONG_NUMBER (spelled_number MAX_FRAMES (word_at words 5)) (λ (begin : ℕ).
@@ -37,7 +38,8 @@ report_end words from to end given =
     Ok (record { from = from; to = to; begin = begin; end = end })
     else Err WRONG_COUNT)))
 
--- The result of reading a reconfiguration that ended, which shows its target, its end and the bound of the pair.
+-- The result of reading the words of a reconfiguration that ended. They show its target, its end, and the bound from
+-- its source to its target.
 abbrev pub finished_report : Parts → List (List ℕ) → Result Report ℕ
 finished_report spec words =
     or_rule UNKNOWN_NAME (conf_named spec (word_at words 1)) (λ (from : ConfId).
@@ -45,13 +47,13 @@ finished_report spec words =
     or_rule WRONG_NUMBER (spelled_number MAX_FRAMES (word_at words 7)) (λ (end : ℕ).
     report_end words from (Some to) end (bound_in spec.bounds from.0 to.0))))
 
--- The result of reading a reconfiguration that was cut off, which ends with the frames of the flight.
+-- The result of reading the words of a reconfiguration that was cut off. It ends with the frames of the flight.
 abbrev pub unfinished_report : Parts → ℕ → List (List ℕ) → Result Report ℕ
 unfinished_report spec frames words =
     or_rule UNKNOWN_NAME (conf_named spec (word_at words 1)) (λ (from : ConfId).
     report_end words from None frames (greatest_bound_in spec.bounds from.0))
 
--- The result of reading the words of a reconfiguration, of which the target and the end are both `-` or neither is.
+-- The result of reading the words of a reconfiguration. Either the target and the end are both `-`, or neither is.
 abbrev pub report_in : Parts → ℕ → List (List ℕ) → Result Report ℕ
 report_in spec frames words =
     if is_report_form words then
@@ -60,7 +62,7 @@ report_in spec frames words =
     else (if is_word words 7 (codes "-") then Err NO_FORM else finished_report spec words))
     else Err NO_FORM
 
--- The result of reading the line of a reconfiguration of a flight with this number of frames.
+-- The result of reading the line of a reconfiguration, given the number of frames of the flight.
 abbrev pub report_read : Parts → ℕ → List ℕ → Result Report ℕ
 report_read spec frames line = or_rule NO_FORM (words_in line) (report_in spec frames)
 
@@ -68,7 +70,7 @@ report_read spec frames line = or_rule NO_FORM (words_in line) (report_in spec f
 abbrev pub is_end_form : List (List ℕ) → Bool
 is_end_form words = (length words == 5) && is_word words 1 (codes "frames") && is_word words 3 (codes "reconfigurations")
 
--- The result of reading the words of the end line, which has to show these counts.
+-- The result of reading the words of the end line, which has to show these numbers of frames and reports.
 abbrev pub end_in : ℕ → ℕ → List (List ℕ) → Result ⊤ ℕ
 end_in frames reports words =
     if is_end_form words then
@@ -77,6 +79,6 @@ end_in frames reports words =
     if (f == frames) && (r == reports) then Ok tt else Err WRONG_COUNT))
     else Err NO_FORM
 
--- The result of reading the end line of a trace with these numbers of rows and reports.
+-- The result of reading the end line of a trace with these numbers of frames and reports.
 abbrev pub end_read : ℕ → ℕ → List ℕ → Result ⊤ ℕ
 end_read frames reports line = or_rule NO_FORM (words_in line) (end_in frames reports)

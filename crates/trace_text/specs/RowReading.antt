@@ -21,12 +21,12 @@ use Rattle.trace_text.specs.Rules.{or_rule}
 use Rattle.trace_text.specs.Spelling.{signed_of, spelled_number}
 use Rattle.trace_text.specs.declared.rule.TheConstants.{NOT_NEXT, NO_FORM, OUT_OF_ORDER, UNKNOWN_NAME, WRONG_NUMBER}
 
--- The list has as many values as there are factors, or is `-` if there are no factors.
+-- The list has one name for each factor, or is `-` if there are no factors.
 abbrev pub are_values : List Factor → List ℕ → Bool
 are_values [] list = bytes_eq list (codes "-")
 are_values (factor ∷ factors) list = length (pieces_of 44 list) == length (factor ∷ factors)
 
--- The words from index `at` on have the form of an environment.
+-- The words from index `at` on have the form of an environment and a world.
 abbrev pub is_env_form : Parts → List (List ℕ) → ℕ → Bool
 is_env_form spec words at =
     is_word words at (codes "env") && are_values spec.factors (word_at words (at + 1)) && is_word words (at + 2) (codes "up")
@@ -40,14 +40,16 @@ is_stable_form spec words = (length words == 13) && is_word words 2 (codes "stab
 abbrev pub is_moving_form : Parts → List (List ℕ) → Bool
 is_moving_form spec words = (length words == 16) && is_word words 2 (codes "moving") && is_env_form spec words 7
 
--- The list `values` with the numbers of the named values, from factor i on, or nothing if a name is unknown or missing.
+-- The list `values` with the numbers of the values that `names` names, from factor `i` on, or `None` if a name is
+-- unknown or missing.
 abbrev pub values_from : List Factor → List (List ℕ) → ℕ → List ℕ → Option (List ℕ)
 values_from [] names i values = Some values
 values_from (factor ∷ factors) [] i values = None
 values_from (factor ∷ factors) (name ∷ names) i values =
     option_and_then (λ (v : ℕ). values_from factors names (i + 1) (slice_set values i v)) (value_named factor name)
 
--- The numbers of the values that a list names, one for each factor, and zeros past the last factor.
+-- The numbers of the values that a list names, one for each factor, followed by zeros up to six numbers, or `None` if
+-- a name is unknown or missing.
 abbrev pub values_in : List Factor → List ℕ → Option (List ℕ)
 values_in factors list = values_from factors (pieces_of 44 list) 0 (replicate 6 0)
 
@@ -55,54 +57,56 @@ values_in factors list = values_from factors (pieces_of 44 list) 0 (replicate 6 
 abbrev pub is_proc_name : Parts → List ℕ → Bool
 is_proc_name spec name = option_map_or (λ (p : ProcId). true) (proc_named spec name) false
 
--- The values of an environment, or nothing if it has an unknown name.
+-- The values of the factors of the environment whose words begin at index `at`, or `None` if the name of a value or
+-- of a processor is unknown.
 abbrev pub env_names : Parts → List (List ℕ) → ℕ → Option (List ℕ)
 env_names spec words at =
     if list_all (is_proc_name spec) (items_of (word_at words (at + 3))) then values_in spec.factors (word_at words (at + 1)) else None
 
--- The next name is this processor's.
+-- The first of the names is that of the processor.
 abbrev pub is_next : Proc → List (List ℕ) → Bool
 is_next proc [] = false
 is_next proc (name ∷ names) = bytes_eq proc.name name
 
--- The names that are left after the processor has been passed.
+-- The names without the first one if it is that of the processor, or else all of them.
 abbrev pub left_behind : Proc → List (List ℕ) → List (List ℕ)
 left_behind proc [] = []
 left_behind proc (name ∷ names) = if bytes_eq proc.name name then names else name ∷ names
 
--- The bits `up`, with the processor's bit if the processor is named.
+-- The bits `up`, together with `bit` if the processor is named.
 abbrev pub with_bit : Bool → ℕ → ℕ → ℕ
 with_bit named bit up = if named then up + bit else up
 
--- The bits of the named processors, or nothing if the names are not in the order of the processors. Here `bit` is the
--- bit of the first processor, and `up` has the bits of the preceding ones.
+-- The bits of the named processors, or `None` if the names are not in the order of the processors. `bit` is the bit
+-- of the first processor of the list, and `up` has the bits of the preceding ones.
 abbrev pub up_from : List Proc → List (List ℕ) → ℕ → ℕ → Option ℕ
 up_from [] [] bit up = Some up
 up_from [] (name ∷ names) bit up = None
 up_from (proc ∷ procs) names bit up =
     up_from procs (left_behind proc names) (bit * 2) (with_bit (is_next proc names) bit up)
 
--- The bits of the processors that a list names in order, or nothing if the names are not in order.
+-- The bits of the processors that a list names, or `None` if the names are not in the order of the processors.
 abbrev pub up_in : List Proc → List ℕ → Option ℕ
 up_in procs list = up_from procs (items_of list) 1 0
 
--- The world that the four words from index `at` on spell, or nothing if one spells no number.
+-- The world that the four words from index `at` on spell, or `None` if a word spells no number.
 abbrev pub world_at : List (List ℕ) → ℕ → Option World
 world_at words at =
     option_and_then (λ (alt : ℤ). option_and_then (λ (climb : ℤ). option_and_then (λ (heading : ℤ). option_map (λ (bank : ℤ).
     record { alt = alt; climb = climb; heading = heading; bank = bank })
     (signed_of (word_at words (at + 3)))) (signed_of (word_at words (at + 2)))) (signed_of (word_at words (at + 1)))) (signed_of (word_at words at))
 
--- The environment of these parts.
+-- The environment with these processors up and these values of the factors.
 abbrev pub env_read : ℕ → List ℕ → Env
 env_read up values = record { up = up; factors = values }
 
--- The row before the lines of its applications.
+-- The row before the lines of its applications are read: all acts are `Off`, and all areas are zeros.
 abbrev pub row_begun : ℕ → KMode → Env → World → Row
 row_begun frame mode env world =
     record { frame = frame; env = env; mode = mode; acts = replicate 8 Off; areas = replicate 8 (replicate 8 (pos 0)); world = world }
 
--- The result of rules 5 to 7, except for `since`.
+-- The row with this mode and these values whose other parts the words spell, or the first of rules 5 to 7 that they
+-- break. `at` is the index of the environment's words. The spelling of `since` is tested before.
 abbrev pub row_end : Parts → ℕ → List (List ℕ) → ℕ → KMode → List ℕ → Result Row ℕ
 row_end spec next words at mode values =
     or_rule WRONG_NUMBER (spelled_number MAX_FRAMES (word_at words 1)) (λ (frame : ℕ).
@@ -111,14 +115,14 @@ row_end spec next words at mode values =
     or_rule OUT_OF_ORDER (up_in spec.procs (word_at words (at + 3))) (λ (up : ℕ). Ok (row_begun frame mode (env_read up values) world))
     else Err NOT_NEXT))
 
--- The result of reading the first line of a row whose mode is stable.
+-- The result of reading the words of row `next` if its mode is stable.
 abbrev pub stable_row : Parts → ℕ → List (List ℕ) → Result Row ℕ
 stable_row spec next words =
     or_rule UNKNOWN_NAME (conf_named spec (word_at words 3)) (λ (conf : ConfId).
     or_rule UNKNOWN_NAME (env_names spec words 4) (λ (values : List ℕ).
     row_end spec next words 4 (Stable conf) values))
 
--- The result of reading the first line of a row whose mode is moving.
+-- The result of reading the words of row `next` if its mode is moving.
 abbrev pub moving_row : Parts → ℕ → List (List ℕ) → Result Row ℕ
 moving_row spec next words =
     or_rule UNKNOWN_NAME (conf_named spec (word_at words 3)) (λ (from : ConfId).
@@ -128,7 +132,7 @@ moving_row spec next words =
     or_rule WRONG_NUMBER (spelled_number MAX_FRAMES (word_at words 6)) (λ (since : ℕ).
     row_end spec next words 7 (Moving from halting to since) values)))))
 
--- The result of reading the words of a row's first line, in one of the two forms.
+-- The result of reading the words of the first line of row `next`, which have one of two forms.
 abbrev pub row_of_words : Parts → ℕ → List (List ℕ) → Result Row ℕ
 row_of_words spec next words =
     if is_stable_form spec words then stable_row spec next words

@@ -1,4 +1,5 @@
--- Reading a trace: its rows and reports, or the first line that breaks a rule with the first rule that the line breaks.
+-- Reading a trace. The result is the rows and reports of the trace, or the first line that breaks a rule, with the
+-- first rule that it breaks.
 use Rattle.std.specs.Prelude.{ℕ, ℤ, ◌≡◌, ◌+◌, ◌-◌, ◌&&◌, Bool, List, [], ◌∷◌, ◌++◌, length, codes, nat_le, nat_lt, slice_set, ⊤, Result, Ok, Err, bytes_eq, if◌then◌else◌}
 use Rattle.std.specs.List.{list_all}
 use Rattle.scram_types.specs.declared.limits.TheConstants.{MAX_FRAMES, MAX_LINE_BYTES, MAX_TRACE_BYTES}
@@ -21,13 +22,13 @@ use Rattle.trace_text.specs.ReportReading.{report_read, end_read}
 use Rattle.trace_text.specs.RowReading.{row_read}
 use Rattle.trace_text.specs.declared.rule.TheConstants.{BROKEN_LINE, OUT_OF_PLACE, WRONG_END}
 
--- The contents of the lines so far, and the lines that may come next.
+-- The state of reading a trace: the rows and reports of the lines so far, and the lines that may come next.
 pub record ReadingState : Type 0 where
   pub rows : List Row
   pub reports : List Report
   pub standing : Expected
 
--- The maximum number of rows that have been read, since frames are below 20,000.
+-- The maximum number of rows that have been read when these lines are expected. Frames are below 20,000.
 abbrev pub rows_before : Expected → ℕ
 rows_before Rows = MAX_FRAMES
 rows_before (Apps a row) = MAX_FRAMES - 1
@@ -38,56 +39,59 @@ rows_before Over = MAX_FRAMES
 abbrev pub before_first : ReadingState
 before_first = record { rows = []; reports = []; standing = Rows }
 
--- The byte is printable; the space is.
+-- The byte is printable in ASCII. The space counts as printable.
 abbrev pub is_printable : ℕ → Bool
 is_printable b = nat_le 32 b && nat_le b 126
 
--- Rule 1 for a line that has its line feed: it is short enough, and each byte is printable.
+-- Rule 1 for a line that has its line feed: the line is short enough, and each of its bytes is printable.
 abbrev pub is_plain : List ℕ → Bool
 is_plain line = nat_le (length line) MAX_LINE_BYTES && list_all is_printable line
 
--- The first word of the line is this one.
+-- The first word of the line is `text`.
 abbrev pub begins : List ℕ → List ℕ → Bool
 begins line text = bytes_eq (word_at (words_of line) 0) text
 
--- The row with the act and the area of application a.
+-- The row `row` with this act and this area for application `a`.
 abbrev pub with_app : Row → ℕ → Act → List ℤ → Row
 with_app row a act area =
     record { frame = row.frame; env = row.env; mode = row.mode; acts = slice_set row.acts a act; areas = slice_set row.areas a area; world = row.world }
 
--- The state after application a of a row, which is complete after its last application.
+-- The state after the line of application `a` of a row. The row is complete after its last application.
 abbrev pub after_app : Parts → ReadingState → ℕ → Row → ReadingState
 after_app spec s a row =
     if nat_lt (a + 1) (length spec.apps) then record { rows = s.rows; reports = s.reports; standing = Apps (a + 1) row }
     else record { rows = s.rows ++ row ∷ []; reports = s.reports; standing = Rows }
 
--- The state after the first line of a row, whose applications are due.
+-- The state after the first line of a row, given the result of reading the line. The lines of the row's applications
+-- are due.
 abbrev pub with_row : ReadingState → Result Row ℕ → Result ReadingState ℕ
 with_row s (Ok row) = Ok (record { rows = s.rows; reports = s.reports; standing = Apps 0 row })
 with_row s (Err rule) = Err rule
 
--- The state after the line of application a, whose act and area are added to the row.
+-- The state after the line of application `a`, given the result of reading the line. Its act and area are added to
+-- the row.
 abbrev pub with_done : Parts → ReadingState → ℕ → Row → Result Done ℕ → Result ReadingState ℕ
 with_done spec s a row (Ok done) = Ok (after_app spec s a (with_app row a done.act done.area))
 with_done spec s a row (Err rule) = Err rule
 
--- The state after a reconfiguration, after which no row may come.
+-- The state after the line of a reconfiguration, given the result of reading the line. No row may come after it.
 abbrev pub with_report : ReadingState → Result Report ℕ → Result ReadingState ℕ
 with_report s (Ok report) = Ok (record { rows = s.rows; reports = s.reports ++ report ∷ []; standing = Reports })
 with_report s (Err rule) = Err rule
 
--- The state after the end line, after which no line may come.
+-- The state after the end line, given the result of reading the line. No line may come after it.
 abbrev pub with_end : ReadingState → Result ⊤ ℕ → Result ReadingState ℕ
 with_end s (Ok done) = Ok (record { rows = s.rows; reports = s.reports; standing = Over })
 with_end s (Err rule) = Err rule
 
--- The state after a report or the end line.
+-- The state after a line that has to be a reconfiguration or the end line, or the first rule that the line breaks.
 abbrev pub closing : Parts → ReadingState → List ℕ → Result ReadingState ℕ
 closing spec s line =
     if begins line (codes "reconfiguration") then with_report s (report_read spec (length s.rows) line)
     else (if begins line (codes "end") then with_end s (end_read (length s.rows) (length s.reports) line) else Err OUT_OF_PLACE)
 
--- The state after a further printable line, by the lines that may come here.
+-- The state after a further printable line, given the lines that may come here, or the first rule that the line
+-- breaks.
 abbrev pub standing_line : Parts → ReadingState → Expected → List ℕ → Result ReadingState ℕ
 standing_line spec s Rows line =
     if begins line (codes "frame") then with_row s (row_read spec (length s.rows) line) else closing spec s line
@@ -96,54 +100,56 @@ standing_line spec s (Apps a row) line =
 standing_line spec s Reports line = closing spec s line
 standing_line spec s Over line = Err WRONG_END
 
--- The state after a further line, or the first rule that the line breaks.
+-- The state after a line that is read in state `s`, or the first rule that the line breaks.
 abbrev pub after_line : Parts → ReadingState → List ℕ → Result ReadingState ℕ
 after_line spec s line = if is_plain line then standing_line spec s s.standing line else Err BROKEN_LINE
 
--- The fault of breaking a rule in a line, counted from 1.
+-- The fault of breaking a rule in a line. Lines are counted from 1.
 abbrev pub fault_at : ℕ → ℕ → TraceFault
 fault_at line rule = record { line = line; rule = rule }
 
--- The result at the end of the bytes. Rule 9 requires that the end line has been read.
+-- The result at the end of the bytes, given the number `k` of the line that would follow. Rule 9 requires that the
+-- end line has been read.
 abbrev pub at_end : ℕ → ReadingState → Expected → Result Flown TraceFault
 at_end k s Over = Ok (record { rows = s.rows; reports = s.reports })
 at_end k s Rows = Err (fault_at k WRONG_END)
 at_end k s (Apps a row) = Err (fault_at k WRONG_END)
 at_end k s Reports = Err (fault_at k WRONG_END)
 
--- The result after the last line feed. Rule 1 requires that no bytes follow it.
+-- The result after the last line feed, given the bytes `last` after it. Rule 1 requires that there are none.
 abbrev pub at_last : ℕ → ReadingState → List ℕ → Result Flown TraceFault
 at_last k s last = if is_filled last then Err (fault_at k BROKEN_LINE) else at_end k s s.standing
 
--- The result after line k: the reading continues, or ends with a fault if the line breaks a rule.
+-- The result after line `k`: that of `next` for the state after the line, or a fault if the line breaks a rule.
 abbrev pub go_on : ℕ → Result ReadingState ℕ → (ReadingState → Result Flown TraceFault) → Result Flown TraceFault
 go_on k (Ok s) next = next s
 go_on k (Err rule) next = Err (fault_at k rule)
 
--- The result of reading from line k on, given the lines and the bytes after the last line feed.
+-- The result of reading from line `k` on, given the state before the line, the remaining lines, and the bytes after
+-- the last line feed as the last item of the list.
 abbrev pub trace_from : Parts → ℕ → ReadingState → List (List ℕ) → Result Flown TraceFault
 trace_from spec k s [] = at_end k s s.standing
 trace_from spec k s (last ∷ []) = at_last k s last
 trace_from spec k s (line ∷ next ∷ lines) =
     go_on k (after_line spec s line) (λ (t : ReadingState). trace_from spec (k + 1) t (next ∷ lines))
 
--- The result of reading bytes as a trace. Bytes that are too many break rule 9 at line 0.
+-- The result of reading bytes as a trace. If there are too many bytes, the fault is rule 9 at line 0.
 abbrev pub trace_of : Parts → List ℕ → Result Flown TraceFault
 trace_of spec bytes =
     if nat_lt MAX_TRACE_BYTES (length bytes) then Err (fault_at 0 WRONG_END) else trace_from spec 1 before_first (pieces_of 10 bytes)
 
--- The error of stopping at a line.
+-- The error of reading a trace, given the line that was not accepted and the cause.
 abbrev pub stopped : ℕ → Stop → TraceError
 stopped line (stop.Rule rule) = Fault (fault_at line rule)
 stopped line stop.NoMemory = NoMemory
 
--- The reader's result for a line is the result of the definition, or out of memory.
+-- The reader's result for a line is the result of the definition, or the reader is out of memory.
 abbrev pub AnswersLine : Result ReadingState ℕ → Result ReadingState Stop → Type 0
 AnswersLine reading (Ok s) = reading ≡ Ok s
 AnswersLine reading (Err (stop.Rule rule)) = reading ≡ Err rule
 AnswersLine reading (Err stop.NoMemory) = ⊤
 
--- The reader's result for a whole trace is the result of the definition, or out of memory.
+-- The reader's result for a whole trace is the result of the definition, or the reader is out of memory.
 abbrev pub AnswersTrace : Result Flown TraceFault → Result Flown TraceError → Type 0
 AnswersTrace reading (Ok flown) = reading ≡ Ok flown
 AnswersTrace reading (Err (Fault fault)) = reading ≡ Err fault

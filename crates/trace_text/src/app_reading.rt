@@ -19,7 +19,7 @@ pub struct Done {
     pub area: Area,
 }
 
-/// A phase whose frames are counted.
+/// A phase of an application's act whose frames are numbered.
 #[derive(Clone, Copy, Debug, PartialEq, Eq)]
 pub enum Phase {
     Halting,
@@ -27,10 +27,10 @@ pub enum Phase {
     Initialising,
 }
 
-// The numbers of a phase's frames are below this limit.
+// The numbers of a phase's frames, and its length, are spelled below this limit.
 const PHASE_LIMIT: u64 = 256;
 
-/// Reads the line of application `next`. Returns its act and area, or the first rule that the line breaks.
+/// Reads a line as the line of application `next`. Returns its act and area, or the first rule that the line breaks.
 pub fn read_app(spec: &Spec, next: u8, line: &[u8]) -> Result<Done, u8>
     ensures done { result ≡ app_read spec.now next line.now }
     ensures below { IfOk result (λ done. next < length spec.now.apps) }
@@ -69,7 +69,7 @@ fn is_bare(words: &Words<'_>) -> bool
     words.len() == 12 && words.is(3, b":")
 }
 
-// Returns the act without a processor that a word names, or `None` if it names none.
+// Returns the act without a processor that a word names, or `None` if it names no such act.
 fn find_bare(tag: &[u8]) -> Option<Act>
     ensures { result ≡ bare_act tag.now }
 {
@@ -108,7 +108,7 @@ fn act_of(phase: Phase, k: u8, n: u8, proc: ProcId) -> Act
     }
 }
 
-// Reads the line of an act on a processor.
+// Reads the words of an act on a processor.
 fn read_placed(spec: &Spec, next: u8, words: &Words<'_>) -> Result<Done, u8>
     ensures done { result ≡ placed_line spec.now next words.now }
     ensures below { IfOk result (λ done. next < length spec.now.apps) }
@@ -187,7 +187,7 @@ fn read_phase(
     })
 }
 
-// Reads the line of an act without a processor.
+// Reads the words of an application whose act has no processor.
 fn read_bare(spec: &Spec, next: u8, words: &Words<'_>, act: Act) -> Result<Done, u8>
     ensures done { result ≡ bare_line spec.now next words.now act }
     ensures below { IfOk result (λ done. next < length spec.now.apps) }

@@ -1,4 +1,5 @@
-//! The text of a trace. Each line is written as one piece, whole or, if the sink fails, up to a prefix.
+//! The text of a trace. Each line is passed to the sink in one piece. If the sink fails, a prefix of the line may
+//! have been written.
 #![tactic(auto)]
 
 pub mod app_reading;

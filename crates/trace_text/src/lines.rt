@@ -1,4 +1,4 @@
-//! One line of text, made without allocating.
+//! A line of text that is built without allocation.
 
 ghost use Rattle.std.specs.Prelude.{◌≡◌, ◌+◌, ◌≤◌, ◌++◌, [], ℕ, length, decimal};
 ghost use Rattle.std.specs.Fmt.{signed_decimal};
@@ -32,7 +32,7 @@ impl Line {
         }
     }
 
-    /// Returns the bytes so far.
+    /// Returns the bytes that have been appended so far.
     pub fn as_bytes(&self) -> &[u8]
         ensures { result.now ≡ self.now }
     {
@@ -57,7 +57,7 @@ impl Line {
         self.text(buffer.format(number).as_bytes());
     }
 
-    /// Appends a number in decimal, preceded by `-` if it is negative.
+    /// Appends a signed number in decimal, preceded by `-` if it is negative.
     pub fn signed(&mut self, number: &i64)
         requires { length self.old + 20 ≤ MAX_LINE_BYTES }
         ensures text { self.new ≡ self.old ++ signed_decimal number.now }

@@ -20,7 +20,7 @@ pub fn find_conf_or_none(spec: &Spec, text: &[u8]) -> Option<Option<ConfId>>
     }
 }
 
-/// Returns the number of the application of this name, or `None` if there is none.
+/// Returns the number of the first application of this name, or `None` if no application has it.
 pub fn find_app(spec: &Spec, text: &[u8]) -> Option<usize>
     ensures app { result ≡ app_number spec.now text.now }
     ensures below { IfSome result (λ a. a < length spec.now.apps) }

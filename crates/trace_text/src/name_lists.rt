@@ -8,14 +8,14 @@ ghost use Rattle.trace_text.specs.RowReading.{is_next, left_behind, up_in, value
 use crate::pieces::{first_piece, is_dash};
 use scram_types::{Proc, Spec};
 
-// Returns the names of a list that are left to read, or `None` for the empty list `-`.
+// Returns the names of a list, or `None` for the empty list `-`.
 fn start_of(list: &[u8]) -> Option<&[u8]>
     ensures { pieces_behind 44 (option_map (λ b. b.now) result) ≡ items_of list.now }
 {
     if is_dash(list) { None } else { Some(list) }
 }
 
-/// Returns whether a list has `count` names, where `-` counts as a name.
+/// Returns `true` if a list has `count` names. The text `-` counts as one name.
 pub fn has_names(list: &[u8], count: usize) -> bool
     ensures { result ≡ (length (pieces_of 44 list.now) == count) }
 {
@@ -31,7 +31,7 @@ pub fn has_names(list: &[u8], count: usize) -> bool
     wanted == 0
 }
 
-/// Returns whether each name in a list is the name of a processor.
+/// Returns `true` if each name in a list is the name of a processor.
 pub fn are_procs(spec: &Spec, list: &[u8]) -> bool
     ensures { result ≡ list_all (is_proc_name spec.now) (items_of list.now) }
 {
@@ -46,7 +46,8 @@ pub fn are_procs(spec: &Spec, list: &[u8]) -> bool
     true
 }
 
-/// Returns the numbers of the values that a list names, one for each factor, or `None` if a name is unknown or missing.
+/// Returns the numbers of the values that a list names, one for each factor, followed by zeros. Returns `None` if a
+/// name is unknown or missing.
 pub fn find_values(spec: &Spec, list: &[u8]) -> Option<[u8; 6]>
     ensures { result ≡ values_in spec.now.factors list.now }
 {
@@ -82,7 +83,8 @@ pub fn read_up(procs: &[Proc], list: &[u8]) -> Option<u8>
     }
 }
 
-// Returns whether the next name is this processor's, and the names that are left after it has been passed.
+// Returns `true` if the first name of `left` is that of the processor, and the names that follow it. If it is not,
+// returns `false` and all names.
 fn pass<'a>(proc: &Proc, left: Option<&'a [u8]>) -> (bool, Option<&'a [u8]>)
     ensures named { result.0 ≡ is_next proc.now (pieces_behind 44 (option_map (λ b. b.now) left.entry)) }
     ensures left { pieces_behind 44 (option_map (λ b. b.now) result.1) ≡ left_behind proc.now (pieces_behind 44 (option_map (λ b. b.now) left.entry)) }

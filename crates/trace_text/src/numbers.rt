@@ -7,7 +7,7 @@ use crate::words::Words;
 use arrayvec::ArrayVec;
 use itoa::Buffer;
 
-/// Returns the number below `limit` that a text spells, or `None` if it spells none.
+/// Returns the number below `limit` that a text spells, or `None` if it spells no such number.
 pub fn read_number(text: &[u8], limit: u64) -> Option<u64>
     ensures value { result ≡ spelled_number limit text.now }
     ensures below { IfSome result (λ n. n < limit) }
@@ -28,7 +28,7 @@ pub fn read_number(text: &[u8], limit: u64) -> Option<u64>
     Some(number)
 }
 
-/// Returns the signed number of 64 bits that a text spells, or `None` if it spells none.
+/// Returns the signed number of 64 bits that a text spells, or `None` if it spells no such number.
 pub fn read_signed(text: &[u8]) -> Option<i64>
     ensures { result ≡ signed_of text.now }
 {
@@ -45,7 +45,7 @@ pub fn read_signed(text: &[u8]) -> Option<i64>
     Some(number)
 }
 
-/// Returns the signed numbers that eight words from index `from` on spell, or `None` if one spells none.
+/// Returns the signed numbers that eight words from index `from` on spell, or `None` if a word spells no number.
 pub fn read_eight(words: &Words<'_>, from: usize) -> Option<ArrayVec<i64, 8>>
     requires { from ≤ 6 }
     ensures { option_map (λ v. v.items) result ≡ signed_from 8 from words.now }

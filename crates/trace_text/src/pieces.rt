@@ -39,7 +39,8 @@ pub fn split_once(bytes: &[u8], separator: u8) -> Option<(&[u8], &[u8])>
     }
 }
 
-/// Returns the first piece, and the bytes after its separator if there is one.
+/// Returns the first piece of `bytes`, and the bytes after its separator, or `None` in their place if there is no
+/// separator.
 pub fn first_piece(bytes: &[u8], separator: u8) -> (&[u8], Option<&[u8]>)
     ensures pieces { pieces_of separator bytes.now ≡ result.0.now ∷ pieces_behind separator (option_map (λ b. b.now) result.1) }
     ensures shorter { IfSome result.1 (λ behind. length behind.now < length bytes.now) }
@@ -50,14 +51,14 @@ pub fn first_piece(bytes: &[u8], separator: u8) -> (&[u8], Option<&[u8]>)
     }
 }
 
-/// Returns whether a word is the dash, which means none.
+/// Returns `true` if a word is `-`, which stands for no name or no number.
 pub fn is_dash(word: &[u8]) -> bool
     ensures { result ≡ bytes_eq word.now (codes "-") }
 {
     word == b"-".as_slice()
 }
 
-/// Returns the two sides of the only slash of a word, or `None` if the word has no slash or several.
+/// Returns the texts before and after the slash of a word, or `None` if the word has no slash or several.
 pub fn slash_sides(word: &[u8]) -> Option<(&[u8], &[u8])>
     ensures { option_map (λ halves. (halves.0.now, halves.1.now)) result ≡ sides_of word.now }
 {

@@ -1,4 +1,4 @@
-//! The state of reading a trace: the contents of the lines so far, and the lines that may come next.
+//! The state of reading a trace: the rows and reports of the lines so far, and the lines that may come next.
 
 ghost use Rattle.std.specs.Prelude.{◌≡◌, ◌≤◌, ◌<◌, Ok, length};
 ghost use Rattle.std.specs.List.{list_all};
@@ -19,26 +19,26 @@ use std::alloc::Global;
 /// The lines that may come next.
 #[derive(Clone, Copy, Debug, PartialEq, Eq)]
 pub enum Expected {
-    /// The first line of a row, a reconfiguration or the end line.
+    /// The first line of a row, the line of a reconfiguration, or the end line.
     Rows,
-    /// The line of the application of this number, in a row whose reading has begun.
+    /// The line of the application of this number, in a row that has been read up to this line.
     Apps(u8, Row),
-    /// A reconfiguration or the end line.
+    /// The line of a reconfiguration, or the end line.
     Reports,
     /// No line, since the end line has been read.
     Over,
 }
 
-/// The cause for which a line was not accepted.
+/// The reason why a line was not accepted.
 #[derive(Clone, Copy, Debug, PartialEq, Eq)]
 pub enum Stop {
     /// The first rule that the line breaks.
     Rule(u8),
-    /// Out of memory for a row or a report.
+    /// There is no memory for a further row or report.
     NoMemory,
 }
 
-/// The rows and reports of the lines so far.
+/// The rows and reports of the lines so far, and the lines that may come next.
 #[derive(Drop)]
 pub struct Progress {
     pub rows: Vec<Row>,
@@ -84,7 +84,7 @@ impl Progress {
         }
     }
 
-    // Reads a line where a row may begin.
+    // Reads a line in a state in which a row may begin.
     fn read_open(self, spec: &Spec, line: &[u8]) -> Result<Progress, Stop>
         requires { self.standing ≡ Rows }
         ensures { AnswersLine (standing_line spec.now self Rows line.now) result }
@@ -102,7 +102,7 @@ impl Progress {
         }
     }
 
-    // Reads a line in the place of the line of application `a`.
+    // Reads a line that has to be the line of application `a`.
     fn read_app_line(self, spec: &Spec, a: u8, row: Row, line: &[u8]) -> Result<Progress, Stop>
         requires { length self.rows < MAX_FRAMES }
         ensures { AnswersLine (standing_line spec.now self (Apps a row) line.now) result }
@@ -136,7 +136,7 @@ impl Progress {
         Ok(self)
     }
 
-    // Reads a line where a report or the end line may come.
+    // Reads a line that has to be a reconfiguration or the end line.
     fn read_closing(self, spec: &Spec, line: &[u8]) -> Result<Progress, Stop>
         requires { length self.rows ≤ MAX_FRAMES }
         ensures { AnswersLine (closing spec.now self line.now) result }
@@ -173,7 +173,7 @@ impl Progress {
     }
 }
 
-// Returns the row with the act and the area of application `a`.
+// Returns the row `row` with the act and the area of application `a`.
 fn row_with(row: Row, a: u8, done: &Done) -> Row
     requires { a < 8 }
     ensures { result ≡ with_app row a done.now.act done.now.area }
@@ -196,7 +196,7 @@ fn is_printable_line(line: &[u8]) -> bool
     line.len() <= MAX_LINE_BYTES && is_printable_text(line)
 }
 
-/// Returns whether each byte of a text is printable.
+/// Returns `true` if each byte of a text is printable.
 pub fn is_printable_text(text: &[u8]) -> bool
     ensures { result ≡ list_all is_printable text.now }
 {

@@ -1,4 +1,5 @@
-//! Writing the lines of a trace one at a time. After a line that the sink refuses no further line is written.
+//! Writing the lines of a trace to a sink, one at a time. After the sink has refused a line, no further line is
+//! written.
 
 ghost use Rattle.std.specs.Prelude.{◌<◌, ◌^◌, length};
 ghost use Rattle.trace_text.specs.Text.{text_of, ending_text, rows_text, reports_text, row_text, app_line_in, app_lines, report_line, end_line};
@@ -10,7 +11,7 @@ use crate::row_lines::{make_app_line, make_row_line};
 use scram_io::{Sink, SinkFault};
 use scram_types::{AppSpec, Report, Row, Spec};
 
-/// Writes the lines of a row: its own, and one for each application.
+/// Writes the lines of a row: the first line, and a line for each application.
 pub fn put_row<K: Sink>(out: &mut K, spec: &Spec, row: &Row) -> Result<(), SinkFault>
     ensures { Prints result (K.state out.old) (K.state out.new) (row_text spec.now row.now) }
 {
@@ -27,14 +28,14 @@ pub fn put_report<K: Sink>(out: &mut K, spec: &Spec, report: &Report) -> Result<
     put_line(out, &make_report_line(spec, report))
 }
 
-/// Writes the end line of a trace with these numbers of rows and reports.
+/// Writes the end line of a trace with these numbers of frames and reports.
 pub fn put_end<K: Sink>(out: &mut K, frames: u32, reports: u32) -> Result<(), SinkFault>
     ensures { Prints result (K.state out.old) (K.state out.new) (end_line frames reports) }
 {
     put_line(out, &make_end_line(frames, reports))
 }
 
-/// Writes a whole trace: its rows, its reports and the end line.
+/// Writes a whole trace: its rows, its reports, and the end line.
 pub fn put_trace<K: Sink>(
     out: &mut K,
     spec: &Spec,

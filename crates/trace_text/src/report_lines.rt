@@ -7,7 +7,7 @@ ghost use Rattle.scram_types.specs.declared.limits.TheConstants.{MAX_LINE_BYTES}
 use crate::lines::Line;
 use scram_types::{ConfId, Report, Spec};
 
-/// Returns the line of a reconfiguration: its target, its length and the bound on it.
+/// Returns the line of a reconfiguration: its source, its target, its frames, its length and the bound on it.
 pub fn make_report_line(spec: &Spec, report: &Report) -> Line
     ensures { result ≡ report_line spec.now report.now }
 {
@@ -19,7 +19,7 @@ pub fn make_report_line(spec: &Spec, report: &Report) -> Line
     line
 }
 
-/// Returns the end line of a trace, with the numbers of its rows and of its reports.
+/// Returns the end line of a trace with these numbers of frames and reports.
 pub fn make_end_line(frames: u32, reports: u32) -> Line
     ensures { result ≡ end_line frames reports }
 {
@@ -32,7 +32,8 @@ pub fn make_end_line(frames: u32, reports: u32) -> Line
     line
 }
 
-/// Appends the target of a reconfiguration, its begin, its end, its length and the bound on it: at most 90 bytes.
+/// Appends the target of a reconfiguration, its first frame, its end, its length and the bound on it. The text has at
+/// most 90 bytes.
 pub fn add_target(line: &mut Line, spec: &Spec, report: &Report)
     requires { length line.old + 90 ≤ MAX_LINE_BYTES }
     ensures text { line.new ≡ line.old ++ target_text spec.now report.now report.now.to }

@@ -10,11 +10,11 @@ use crate::words::Words;
 use scram_types::limits::MAX_FRAMES;
 use scram_types::{ConfId, Report, Spec};
 
-// Numbers of 32 bits are below this limit.
+// Counts are below this limit, so that they fit in 32 bits.
 const COUNT_LIMIT: u64 = 4_294_967_296;
 
-/// Reads the line of a reconfiguration of a flight with this number of frames. Returns the reconfiguration, or the
-/// first rule that the line breaks.
+/// Reads the line of a reconfiguration of a flight with `frames` frames. Returns the reconfiguration, or the first
+/// rule that the line breaks.
 pub fn read_report(spec: &Spec, frames: u32, line: &[u8]) -> Result<Report, u8>
     ensures { result ≡ report_read spec.now frames line.now }
 {
@@ -104,7 +104,7 @@ fn read_report_end(
     }
 }
 
-// Returns the bound that a text spells, `Some(None)` for `-`, or `None` if it spells none.
+// Returns the bound that a text spells, `Some(None)` for `-`, or `None` if it spells no bound.
 fn read_bound(text: &[u8]) -> Option<Option<u32>>
     ensures { result ≡ bound_or_none text.now }
 {
@@ -128,8 +128,8 @@ fn is_same_bound(one: Option<u32>, other: Option<u32>) -> bool
     }
 }
 
-/// Reads the end line of a trace with these numbers of rows and reports. Fails with the first rule that the line
-/// breaks.
+/// Reads the end line of a trace with these numbers of frames and reports. Returns the first rule that the line
+/// breaks as the error.
 pub fn read_end(frames: usize, reports: usize, line: &[u8]) -> Result<(), u8>
     ensures { result ≡ end_read frames reports line.now }
 {

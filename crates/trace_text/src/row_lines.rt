@@ -1,4 +1,4 @@
-//! The lines of a row: the frame's own line, and one for each application.
+//! The lines of a row: the first line, and a line for each application.
 
 ghost use Rattle.std.specs.Prelude.{◌≡◌, ◌+◌, ◌*◌, ◌≤◌, ◌++◌, [], length, codes, if◌then◌else◌};
 ghost use Rattle.app_model.specs.Names.{mode_text};
@@ -12,7 +12,7 @@ use scram_types::{
     Act, AppSpec, Area, ConfId, Factor, KMode, KindId, Mode, Name, ProcId, Row, Spec, World,
 };
 
-/// Returns the first line of a row: frame, mode, environment and world.
+/// Returns the first line of a row: its frame, mode, environment and world.
 pub fn make_row_line(spec: &Spec, row: &Row) -> Line
     ensures { result ≡ row_line spec.now row.now }
 {
@@ -57,7 +57,7 @@ pub fn name_of_mode(kind: KindId, mode: Mode) -> &'static str
     }
 }
 
-/// Appends the name of a configuration, or `-` for none.
+/// Appends the name of a configuration, or `-` if there is none.
 pub fn add_conf_or_dash(line: &mut Line, spec: &Spec, conf: Option<ConfId>)
     requires { length line.old + 16 ≤ MAX_LINE_BYTES }
     ensures text { line.new ≡ line.old ++ conf_or_dash spec.now conf }
@@ -123,7 +123,7 @@ fn add_further_values(line: &mut Line, factors: &[Factor], values: &[u8; 6])
     }
 }
 
-/// Appends the names of the processors that are up, or `-` for none.
+/// Appends the names of the processors that are up, joined by commas, or `-` if none is.
 pub fn add_up(line: &mut Line, spec: &Spec, up: u8)
     requires { length line.old + 137 ≤ MAX_LINE_BYTES }
     ensures text { line.new ≡ line.old ++ up_text spec.now up }

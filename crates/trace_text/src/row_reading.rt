@@ -13,8 +13,8 @@ use crate::words::Words;
 use scram_types::limits::MAX_FRAMES;
 use scram_types::{Act, Env, Factor, KMode, Row, Spec, World};
 
-/// Reads the first line of row `next`. Returns the row, still without its applications, or the first rule that the line
-/// breaks.
+/// Reads a line as the first line of row `next`. Returns the row without its applications, or the first rule that the
+/// line breaks.
 pub fn read_row(spec: &Spec, next: usize, line: &[u8]) -> Result<Row, u8>
     ensures row { result ≡ row_read spec.now next line.now }
     ensures below { IfOk result (λ row. next < MAX_FRAMES) }
@@ -116,7 +116,8 @@ fn read_moving(spec: &Spec, next: usize, words: &Words<'_>) -> Result<Row, u8>
     read_row_end(spec, next, words, 7, Begun { mode, values })
 }
 
-// Returns the values of the environment whose words begin at index `at`, or `None` if a name is unknown.
+// Returns the values of the factors of the environment whose words begin at index `at`, or `None` if the name of a
+// value or of a processor is unknown.
 fn find_environment(spec: &Spec, words: &Words<'_>, at: usize) -> Option<[u8; 6]>
     requires { at ≤ 7 }
     ensures { result ≡ env_names spec.now words.now at }

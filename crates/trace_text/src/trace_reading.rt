@@ -11,7 +11,7 @@ use scram_types::limits::MAX_TRACE_BYTES;
 use scram_types::{Flown, List, Spec};
 use std::alloc::Global;
 
-/// The first line, counted from 1, that breaks a rule, and the first rule, 1 to 9, that the line breaks. A trace that
+/// The first line that breaks a rule, counted from 1, and the first rule, from 1 to 9, that it breaks. A trace that
 /// is too long breaks rule 9 at line 0.
 #[derive(Clone, Copy, Debug, PartialEq, Eq)]
 pub struct TraceFault {
@@ -26,8 +26,11 @@ pub enum TraceError {
     NoMemory,
 }
 
-/// Reads a trace from its bytes. Returns its rows and reports, or the first line that breaks a rule with the first rule
-/// that the line breaks.
+/// Reads a trace from its bytes. Returns its rows and reports.
+///
+/// # Errors
+///
+/// Returns the first line that breaks a rule with the first rule that it breaks, or `NoMemory` if memory runs out.
 pub fn read_trace(alloc: Global, bytes: &[u8], spec: &Spec) -> Result<Flown, TraceError>
     ensures read { AnswersTrace (trace_of spec.now bytes.now) result }
     ensures text { IfOk result (λ flown. bytes.now ≡ text_of spec.now flown.rows flown.reports) }
@@ -37,7 +40,7 @@ pub fn read_trace(alloc: Global, bytes: &[u8], spec: &Spec) -> Result<Flown, Tra
     read_lines(alloc, bytes, spec)
 }
 
-// The limits of a specification that bound the lists of a row.
+// States that a specification has at most 6 factors and 8 applications.
 fn lists_are_short(spec: &Spec)
     ensures factors { length spec.now.factors ≤ 6 }
     ensures apps { length spec.now.apps ≤ 8 }
@@ -77,7 +80,7 @@ fn stopped_at(line: u32, stop: Stop) -> TraceError
     }
 }
 
-// Returns the flight that was read, provided the end line has been read and nothing follows the last line feed.
+// Returns the flight that was read. Fails if the end line is missing, or if bytes follow the last line feed.
 fn finish(progress: Progress, line: u32, last: &[u8]) -> Result<Flown, TraceError>
     ensures { AnswersTrace (at_last line progress last.now) result }
 {

@@ -20,7 +20,7 @@ impl<'a> std::marker::Model for Words<'a> {
     ghost view = { λ a. map (λ w. w.now) a.words.items };
 }
 
-/// Returns the first word of a line, which is empty if the line begins with a space.
+/// Returns the first word of a line, or the empty word if the line is empty or begins with a space.
 pub fn first_word(line: &[u8]) -> &[u8]
     ensures { result.now ≡ slice_index_or (words_of line.now) 0 [] }
 {
@@ -28,7 +28,7 @@ pub fn first_word(line: &[u8]) -> &[u8]
 }
 
 impl<'a> Words<'a> {
-    /// Returns the words of a line, or `None` if a word is empty or there are more than 16.
+    /// Returns the words of a line, or `None` if a word is empty or there are more than 16 words.
     pub fn of(line: &'a [u8]) -> Option<Words<'a>>
         ensures { result ≡ words_in line.now }
     {
@@ -55,7 +55,7 @@ impl<'a> Words<'a> {
         }
     }
 
-    /// Returns whether the word at an index is `text`.
+    /// Returns `true` if the word at an index is `text`.
     pub fn is(&self, at: usize, text: &[u8]) -> bool
         ensures { result ≡ is_word self.now at text.now }
     {
