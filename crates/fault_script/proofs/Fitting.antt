@@ -13,7 +13,7 @@ use Rattle.scram_doc.specs.declared.fault.DocFault.{DocFault}
 use Rattle.scram_doc.specs.Lists.{elements_at, elements_from}
 use Rattle.scram_doc.specs.Documents.{parsed}
 use Rattle.scram_doc.specs.Faults.{Answers}
-use Rattle.scram_doc.specs.Members.{needed, no_more_than, object_at}
+use Rattle.scram_doc.specs.Members.{required_at, no_more_than, object_at}
 use Rattle.scram_doc.specs.Values.{list_at, text_at, whole_at}
 use Rattle.scram_doc.specs.Paths.{item_path, member_path}
 use Rattle.scram_types.specs.declared.ids.FactorId.{FactorId}
@@ -28,7 +28,7 @@ use Rattle.scram_types.specs.Specification.{Each, Parts}
 use Rattle.scram_doc.specs.declared.fault.DocError.{DocError}
 use Rattle.scram_doc.specs.Documents.{parsed}
 use Rattle.scram_doc.specs.Faults.{Answers}
-use Rattle.scram_doc.specs.Members.{needed, no_more_than, object_at}
+use Rattle.scram_doc.specs.Members.{required_at, no_more_than, object_at}
 use Rattle.scram_doc.specs.Values.{list_at, text_at, whole_at}
 use Rattle.scram_doc.specs.Paths.{item_path, member_path}
 use Rattle.fault_script.specs.declared.rule.TheConstants.{OUT_OF_ORDER, WRONG_RESTART}
@@ -76,9 +76,9 @@ change_values_ok spec frames at df dx dv c e =
 change_at_ok : (spec : Parts) (frames : ℕ) (at : List ℕ) (d : Data) (c : Change) → read_change spec frames at d ≡ Ok c → IsChange spec frames c
 change_at_ok spec frames at d c e =
     chain_ok (object_at at d) _ c e (λ _ _ e1.
-    chain_ok (needed (codes "frame") at d) _ c e1 (λ df _ e2.
-    chain_ok (needed (codes "factor") at d) _ c e2 (λ dx _ e3.
-    chain_ok (needed (codes "value") at d) _ c e3 (λ dv _ e4.
+    chain_ok (required_at (codes "frame") at d) _ c e1 (λ df _ e2.
+    chain_ok (required_at (codes "factor") at d) _ c e2 (λ dx _ e3.
+    chain_ok (required_at (codes "value") at d) _ c e3 (λ dv _ e4.
     chain_ok (no_more_than 3 at d) _ c e4 (λ _ _ e5. change_values_ok spec frames at df dx dv c e5)))))
 
 comes_after_ok : (a b c d : ℕ) → comes_after a b c d ≡ true → Before a b c d
@@ -154,9 +154,9 @@ make_is_halt spec frames at dp df ds h e =
 halt_at_ok : (spec : Parts) (frames : ℕ) (at : List ℕ) (d : Data) (h : HaltAt) → read_halt spec frames at d ≡ Ok h → IsHalt spec frames h
 halt_at_ok spec frames at d h e =
     chain_ok (object_at at d) _ h e (λ _ _ e1.
-    chain_ok (needed (codes "processor") at d) _ h e1 (λ dp _ e2.
-    chain_ok (needed (codes "frame") at d) _ h e2 (λ df _ e3.
-    chain_ok (needed (codes "step") at d) _ h e3 (λ ds _ e4.
+    chain_ok (required_at (codes "processor") at d) _ h e1 (λ dp _ e2.
+    chain_ok (required_at (codes "frame") at d) _ h e2 (λ df _ e3.
+    chain_ok (required_at (codes "step") at d) _ h e3 (λ ds _ e4.
     chain_ok (no_more_than 3 at d) _ h e4 (λ _ _ e5. make_is_halt spec frames at dp df ds h e5)))))
 
 pub record GoodHalts (spec : Parts) (frames : ℕ) (halts : List HaltAt) : Type 0 where
@@ -196,8 +196,8 @@ make_is_restart spec frames at dp df r e =
 restart_at_ok : (spec : Parts) (frames : ℕ) (at : List ℕ) (d : Data) (r : RestartAt) → read_restart spec frames at d ≡ Ok r → IsRestart spec frames r
 restart_at_ok spec frames at d r e =
     chain_ok (object_at at d) _ r e (λ _ _ e1.
-    chain_ok (needed (codes "processor") at d) _ r e1 (λ dp _ e2.
-    chain_ok (needed (codes "frame") at d) _ r e2 (λ df _ e3.
+    chain_ok (required_at (codes "processor") at d) _ r e1 (λ dp _ e2.
+    chain_ok (required_at (codes "frame") at d) _ r e2 (λ df _ e3.
     chain_ok (no_more_than 2 at d) _ r e3 (λ _ _ e4. make_is_restart spec frames at dp df r e4))))
 
 abbrev pub Differ : RestartAt → RestartAt → Type 0

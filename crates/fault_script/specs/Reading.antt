@@ -6,7 +6,7 @@ use Rattle.scram_doc.specs.Chain.{chain, ok_map}
 use Rattle.scram_doc.specs.Documents.{parsed}
 use Rattle.scram_doc.specs.Faults.{broken, or_broken}
 use Rattle.scram_doc.specs.Lists.{elements_at}
-use Rattle.scram_doc.specs.Members.{needed, no_more_than, object_at}
+use Rattle.scram_doc.specs.Members.{required_at, no_more_than, object_at}
 use Rattle.scram_doc.specs.Paths.{item_path, member_path}
 use Rattle.scram_doc.specs.Values.{text_at, whole_at}
 use Rattle.scram_types.specs.declared.ids.FactorId.{FactorId}
@@ -67,9 +67,9 @@ change_values spec frames at frame factor value =
 abbrev pub read_change : Parts → ℕ → List ℕ → Data → Result Change DocFault
 read_change spec frames at d =
     chain (object_at at d) (λ (_ : ⊤).
-    chain (needed (codes "frame") at d) (λ (frame : Data).
-    chain (needed (codes "factor") at d) (λ (factor : Data).
-    chain (needed (codes "value") at d) (λ (value : Data).
+    chain (required_at (codes "frame") at d) (λ (frame : Data).
+    chain (required_at (codes "factor") at d) (λ (factor : Data).
+    chain (required_at (codes "value") at d) (λ (value : Data).
     chain (no_more_than 3 at d) (λ (_ : ⊤).
     change_values spec frames at frame factor value)))))
 
@@ -100,9 +100,9 @@ halt_values spec frames at proc frame step =
 abbrev pub read_halt : Parts → ℕ → List ℕ → Data → Result HaltAt DocFault
 read_halt spec frames at d =
     chain (object_at at d) (λ (_ : ⊤).
-    chain (needed (codes "processor") at d) (λ (proc : Data).
-    chain (needed (codes "frame") at d) (λ (frame : Data).
-    chain (needed (codes "step") at d) (λ (step : Data).
+    chain (required_at (codes "processor") at d) (λ (proc : Data).
+    chain (required_at (codes "frame") at d) (λ (frame : Data).
+    chain (required_at (codes "step") at d) (λ (step : Data).
     chain (no_more_than 3 at d) (λ (_ : ⊤).
     halt_values spec frames at proc frame step)))))
 
@@ -132,8 +132,8 @@ restart_values spec frames at proc frame =
 abbrev pub read_restart : Parts → ℕ → List ℕ → Data → Result RestartAt DocFault
 read_restart spec frames at d =
     chain (object_at at d) (λ (_ : ⊤).
-    chain (needed (codes "processor") at d) (λ (proc : Data).
-    chain (needed (codes "frame") at d) (λ (frame : Data).
+    chain (required_at (codes "processor") at d) (λ (proc : Data).
+    chain (required_at (codes "frame") at d) (λ (frame : Data).
     chain (no_more_than 2 at d) (λ (_ : ⊤).
     restart_values spec frames at proc frame))))
 
@@ -173,17 +173,17 @@ make_members scram frames changes halts restarts =
 -- must not have it.
 abbrev pub need_restarts : Version → Data → Result (Option Data) DocFault
 need_restarts First d = Ok None
-need_restarts Second d = ok_map (λ (restarts : Data). Some restarts) (needed (codes "restarts") [] d)
+need_restarts Second d = ok_map (λ (restarts : Data). Some restarts) (required_at (codes "restarts") [] d)
 
 -- The values of the members of a script document, or the first broken rule. The document must have exactly the
 -- members of its version.
 abbrev pub find_members : Version → Data → Result ScriptMembers DocFault
 find_members version d =
     chain (object_at [] d) (λ (_ : ⊤).
-    chain (needed (codes "scram") [] d) (λ (scram : Data).
-    chain (needed (codes "frames") [] d) (λ (frames : Data).
-    chain (needed (codes "changes") [] d) (λ (changes : Data).
-    chain (needed (codes "halts") [] d) (λ (halts : Data).
+    chain (required_at (codes "scram") [] d) (λ (scram : Data).
+    chain (required_at (codes "frames") [] d) (λ (frames : Data).
+    chain (required_at (codes "changes") [] d) (λ (changes : Data).
+    chain (required_at (codes "halts") [] d) (λ (halts : Data).
     chain (need_restarts version d) (λ (restarts : Option Data).
     chain (no_more_than (member_count version) [] d) (λ (_ : ⊤).
     Ok (make_members scram frames changes halts restarts))))))))

@@ -7,6 +7,7 @@
 pub mod assumption;
 pub mod inputs;
 pub mod laws;
+mod lists;
 mod order;
 mod reading;
 pub mod rule;
@@ -17,7 +18,8 @@ mod writing;
 
 pub use assumption::{Outside, OutsideKind, within};
 pub use inputs::Input;
-pub use reading::{find_value, read_script};
+pub use lists::find_value;
+pub use reading::read_script;
 pub use scram_doc::{DocError as ScriptError, DocFault as ScriptFault};
 pub use times::{factors_at, halt_in, halt_of, restart_of, up_at};
 pub use walks::{Walk, up_set_at};

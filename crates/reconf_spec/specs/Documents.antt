@@ -22,7 +22,7 @@ use Rattle.scram_doc.specs.Chain.{chain}
 use Rattle.scram_doc.specs.Faults.{broken}
 use Rattle.scram_doc.specs.Documents.{parsed}
 use Rattle.scram_doc.specs.Paths.{member_path}
-use Rattle.scram_doc.specs.Members.{object_at, needed, no_more_than}
+use Rattle.scram_doc.specs.Members.{object_at, required_at, no_more_than}
 use Rattle.scram_doc.specs.Values.{text_at, int_at, whole_at}
 use Rattle.reconf_spec.specs.declared.documents.Assumption.{Assumption}
 use Rattle.reconf_spec.specs.declared.documents.Rest.{Rest}
@@ -43,8 +43,8 @@ use Rattle.spec_table.specs.Vocabulary.{Names}
 abbrev pub read_goal : List ℕ → Data → Result Goal DocFault
 read_goal at d =
     chain (object_at at d) (λ (_ : ⊤).
-    chain (needed (codes "altitude") at d) (λ (altitude : Data).
-    chain (needed (codes "heading") at d) (λ (heading : Data).
+    chain (required_at (codes "altitude") at d) (λ (altitude : Data).
+    chain (required_at (codes "heading") at d) (λ (heading : Data).
     chain (no_more_than 2 at d) (λ (_ : ⊤).
     chain (int_at (pos 0) (pos 40000) (member_path at (codes "altitude")) altitude) (λ (altitude : ℤ).
     chain (int_at (pos 0) (pos 3599) (member_path at (codes "heading")) heading) (λ (heading : ℤ).
@@ -54,9 +54,9 @@ read_goal at d =
 abbrev pub read_assumption : List ℕ → Data → Result Assumption DocFault
 read_assumption at d =
     chain (object_at at d) (λ (_ : ⊤).
-    chain (needed (codes "halts") at d) (λ (halts : Data).
-    chain (needed (codes "changes") at d) (λ (changes : Data).
-    chain (needed (codes "window") at d) (λ (window : Data).
+    chain (required_at (codes "halts") at d) (λ (halts : Data).
+    chain (required_at (codes "changes") at d) (λ (changes : Data).
+    chain (required_at (codes "window") at d) (λ (window : Data).
     chain (no_more_than 3 at d) (λ (_ : ⊤).
     chain (whole_at 0 9 (member_path at (codes "halts")) halts) (λ (halts : ℕ).
     chain (whole_at 0 17 (member_path at (codes "changes")) changes) (λ (changes : ℕ).

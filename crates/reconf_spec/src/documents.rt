@@ -11,7 +11,7 @@ ghost use Rattle.scram_doc.specs.Lists.{AllAfter};
 ghost use Rattle.spec_members.specs.Found.{AreMembers};
 ghost use Rattle.spec_table.specs.Facts.{IsNewDemand};
 
-use scram_doc::{DocError, DocFault, Path, int_in, need, no_more, object, text, whole_in};
+use scram_doc::{DocError, DocFault, Path, int_in, required, no_more_than, object, text, whole_in};
 use scram_types::limits::{
     MAX_ALTITUDE, MAX_ASSUMED_CHANGES, MAX_ASSUMED_HALTS, MAX_HEADING, MAX_WINDOW,
 };
@@ -34,9 +34,9 @@ fn read_goal(v: &Value, at: &Path) -> Result<Goal, DocFault>
     ensures fits { IfOk result (λ goal. IsGoal goal) }
 {
     object(v, at)?;
-    let altitude = need(v, "altitude", at)?;
-    let heading = need(v, "heading", at)?;
-    no_more(v, 2, at)?;
+    let altitude = required(v, "altitude", at)?;
+    let heading = required(v, "heading", at)?;
+    no_more_than(v, 2, at)?;
     let altitude = int_in(altitude, 0, MAX_ALTITUDE, &at.member("altitude"))?;
     let heading = int_in(heading, 0, MAX_HEADING, &at.member("heading"))?;
     Ok(Goal { altitude, heading })
@@ -56,10 +56,10 @@ fn read_assumption(v: &Value, at: &Path) -> Result<Assumption, DocFault>
     ensures fits { IfOk result (λ assumed. FitsAssumption assumed) }
 {
     object(v, at)?;
-    let halts = need(v, "halts", at)?;
-    let changes = need(v, "changes", at)?;
-    let window = need(v, "window", at)?;
-    no_more(v, 3, at)?;
+    let halts = required(v, "halts", at)?;
+    let changes = required(v, "changes", at)?;
+    let window = required(v, "window", at)?;
+    no_more_than(v, 3, at)?;
     let halts = whole_in(
         halts,
         0,

@@ -15,8 +15,8 @@ object_at at d = ok_map (λ (_ : Members). tt) (or_broken NO_OBJECT at (as_objec
 
 -- The value of member `name` of the value at path `at`. Rule 3 is broken at the member's path if there is no such
 -- member.
-abbrev pub needed : List ℕ → List ℕ → Data → Result Data DocFault
-needed name at d = or_broken MISSING_MEMBER (member_path at name) (get name d)
+abbrev pub required_at : List ℕ → List ℕ → Data → Result Data DocFault
+required_at name at d = or_broken MISSING_MEMBER (member_path at name) (get name d)
 
 -- The check that there are at most `most` members. Rule 4 is broken at the path if there are more. A value that is
 -- not an object has no members.

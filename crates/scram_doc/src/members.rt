@@ -3,7 +3,7 @@ ghost use Rattle.serde_json.specs.Find.{get};
 ghost use Rattle.serde_json.specs.View.{view, members_view};
 ghost use Rattle.serde_json.specs.Events.{members_len};
 ghost use Rattle.scram_doc.specs.Chain.{ok_map};
-ghost use Rattle.scram_doc.specs.Members.{object_at, needed, no_more_than};
+ghost use Rattle.scram_doc.specs.Members.{object_at, required_at, no_more_than};
 
 use crate::{DocFault, Path, rule};
 use serde_json::{Map, Value};
@@ -28,16 +28,16 @@ pub fn field<'a>(v: &'a Value, name: &str) -> Option<&'a Value>
 
 /// Returns the value of member `name` of the value at path `at`. Rule 3 is broken at the member's path if there is no
 /// such member. The member's path has to fit the maximum length of a path.
-pub fn need<'a>(v: &'a Value, name: &str, at: &Path) -> Result<&'a Value, DocFault>
+pub fn required<'a>(v: &'a Value, name: &str, at: &Path) -> Result<&'a Value, DocFault>
     requires { length at.now + 1 + length name.now ≤ 64 }
-    ensures { ok_map (λ d. view d.now) result ≡ needed name.now at.now (view v.now) }
+    ensures { ok_map (λ d. view d.now) result ≡ required_at name.now at.now (view v.now) }
 {
     field(v, name).ok_or_else(|| DocFault::new(rule::MISSING_MEMBER, &at.member(name)))
 }
 
 /// Checks that an object has at most `count` members. Rule 4 is broken at its path if it has more. A member that the
 /// text repeats counts once. A value that is not an object has no members.
-pub fn no_more(v: &Value, count: usize, at: &Path) -> Result<(), DocFault>
+pub fn no_more_than(v: &Value, count: usize, at: &Path) -> Result<(), DocFault>
     ensures { result ≡ no_more_than count at.now (view v.now) }
 {
     match v.as_object() {

@@ -9,7 +9,7 @@ use Rattle.scram_doc.specs.declared.fault.DocFault.{DocFault}
 use Rattle.scram_doc.specs.Chain.{chain}
 use Rattle.scram_doc.specs.Faults.{broken, or_broken}
 use Rattle.scram_doc.specs.Paths.{member_path}
-use Rattle.scram_doc.specs.Members.{object_at, needed, no_more_than}
+use Rattle.scram_doc.specs.Members.{object_at, required_at, no_more_than}
 use Rattle.scram_doc.specs.Values.{list_at, text_at, whole_at}
 use Rattle.spec_members.specs.declared.rule.TheConstants.{UNKNOWN_KIND, MODE_TWICE}
 use Rattle.scram_doc.specs.Lists.{elements_at, folded_from}
@@ -30,11 +30,11 @@ read_phase at d = whole_at 1 17 at d
 abbrev pub read_mode : ℕ → List ℕ → List ModeSpec → Data → Result ModeSpec DocFault
 read_mode kind at done d =
     chain (object_at at d) (λ (_ : ⊤).
-    chain (needed (codes "mode") at d) (λ (mode : Data).
-    chain (needed (codes "load") at d) (λ (load : Data).
-    chain (needed (codes "halt") at d) (λ (halt : Data).
-    chain (needed (codes "prepare") at d) (λ (prepare : Data).
-    chain (needed (codes "init") at d) (λ (init : Data).
+    chain (required_at (codes "mode") at d) (λ (mode : Data).
+    chain (required_at (codes "load") at d) (λ (load : Data).
+    chain (required_at (codes "halt") at d) (λ (halt : Data).
+    chain (required_at (codes "prepare") at d) (λ (prepare : Data).
+    chain (required_at (codes "init") at d) (λ (init : Data).
     chain (no_more_than 5 at d) (λ (_ : ⊤).
     chain (read_new_mode kind done (member_path at (codes "mode")) mode) (λ (mode : ℕ).
     chain (whole_at 0 1000001 (member_path at (codes "load")) load) (λ (load : ℕ).
@@ -64,10 +64,10 @@ check_text_list at d = chain (list_at 0 8 at d) (λ (ds : Items). folded_from ch
 abbrev pub read_app : List ℕ → List AppSpec → Data → Result AppSpec DocFault
 read_app at done d =
     chain (object_at at d) (λ (_ : ⊤).
-    chain (needed (codes "name") at d) (λ (name : Data).
-    chain (needed (codes "kind") at d) (λ (kind : Data).
-    chain (needed (codes "needs") at d) (λ (needs : Data).
-    chain (needed (codes "modes") at d) (λ (modes : Data).
+    chain (required_at (codes "name") at d) (λ (name : Data).
+    chain (required_at (codes "kind") at d) (λ (kind : Data).
+    chain (required_at (codes "needs") at d) (λ (needs : Data).
+    chain (required_at (codes "modes") at d) (λ (modes : Data).
     chain (no_more_than 4 at d) (λ (_ : ⊤).
     chain (read_new_name name_of_app done (member_path at (codes "name")) name) (λ (name : List ℕ).
     chain (read_kind (member_path at (codes "kind")) kind) (λ (kind : ℕ).

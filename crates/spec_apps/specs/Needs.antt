@@ -8,7 +8,7 @@ use Rattle.scram_doc.specs.declared.fault.DocFault.{DocFault}
 use Rattle.scram_doc.specs.Chain.{chain}
 use Rattle.scram_doc.specs.Faults.{broken}
 use Rattle.scram_doc.specs.Paths.{member_path}
-use Rattle.scram_doc.specs.Members.{needed}
+use Rattle.scram_doc.specs.Members.{required_at}
 use Rattle.scram_doc.specs.Values.{list_at}
 use Rattle.dep_order.specs.Ranks.{rank_after}
 use Rattle.dep_order.specs.Timetables.{is_named}
@@ -27,7 +27,7 @@ read_need apps at done d =
 -- The needs of the application at a path, or the first broken rule.
 abbrev pub read_needs : List AppSpec → List ℕ → List (List AppId) → Data → Result (List AppId) DocFault
 read_needs apps at done d =
-    chain (needed (codes "needs") at d) (λ (needs : Data).
+    chain (required_at (codes "needs") at d) (λ (needs : Data).
     elements_at (read_need apps) 0 8 (member_path at (codes "needs")) needs)
 
 -- Applications, in order, with these needs.

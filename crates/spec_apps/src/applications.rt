@@ -12,7 +12,7 @@ ghost use Rattle.spec_apps.specs.Facts.{IsNewMode, IsNewApp};
 
 use app_model::{kind_named, mode_named};
 use scram_doc::{
-    DocError, DocFault, Elements, Lengths, NamedElements, Numbered, Path, list, need, no_more,
+    DocError, DocFault, Elements, Lengths, NamedElements, Numbered, Path, list, required, no_more_than,
     object, read_list, text, whole_in,
 };
 use scram_types::limits::{MAX_APPLICATIONS, MAX_LOAD, MAX_MODES, MAX_PHASE};
@@ -76,12 +76,12 @@ impl Elements<ModeSpec> for Modes {
         at: &Path,
     ) -> Result<ModeSpec, DocError> {
         object(v, at)?;
-        let mode = need(v, "mode", at)?;
-        let load = need(v, "load", at)?;
-        let halt = need(v, "halt", at)?;
-        let prepare = need(v, "prepare", at)?;
-        let init = need(v, "init", at)?;
-        no_more(v, 5, at)?;
+        let mode = required(v, "mode", at)?;
+        let load = required(v, "load", at)?;
+        let halt = required(v, "halt", at)?;
+        let prepare = required(v, "prepare", at)?;
+        let init = required(v, "init", at)?;
+        no_more_than(v, 5, at)?;
         let mode = read_new_mode(self.kind, done, mode, &at.member("mode"))?;
         let load = whole_in(load, 0, MAX_LOAD + 1, &at.member("load"))?;
         let halt = read_phase(halt, &at.member("halt"))?;
@@ -139,11 +139,11 @@ impl NamedElements<AppSpec, ByName> for Apps {
         at: &Path,
     ) -> Result<AppSpec, DocError> {
         object(v, at)?;
-        let name = need(v, "name", at)?;
-        let kind = need(v, "kind", at)?;
-        let needs = need(v, "needs", at)?;
-        let modes = need(v, "modes", at)?;
-        no_more(v, 4, at)?;
+        let name = required(v, "name", at)?;
+        let kind = required(v, "kind", at)?;
+        let needs = required(v, "needs", at)?;
+        let modes = required(v, "modes", at)?;
+        no_more_than(v, 4, at)?;
         let name = read_new_name(done, name, &at.member("name"))?;
         let kind = read_kind(kind, &at.member("kind"))?;
         check_text_list(needs, &at.member("needs"))?;

@@ -21,7 +21,7 @@ use crate::{SpecError, SpecFault};
 use arrayvec::ArrayVec;
 use dep_order::{Cycle, rank};
 use scram_doc::{
-    DocError, DocFault, Elements, Lengths, Numbered, Path, list, need, read_items, read_list,
+    DocError, DocFault, Elements, Lengths, Numbered, Path, list, required, read_items, read_list,
     read_named_items,
 };
 use scram_types::limits::MAX_APPLICATIONS;
@@ -83,7 +83,7 @@ impl Elements<List<AppId>> for Needs<'_> {
         v: &Value,
         at: &Path,
     ) -> Result<List<AppId>, DocError> {
-        let needs = need(v, "needs", at)?;
+        let needs = required(v, "needs", at)?;
         let at = at.member("needs");
         let needs: Vec<AppId> = read_list(
             alloc,

@@ -5,7 +5,7 @@ use Rattle.scram_types.specs.declared.specification.Factor.{Factor}
 use Rattle.scram_doc.specs.declared.fault.DocFault.{DocFault}
 use Rattle.scram_doc.specs.Chain.{chain}
 use Rattle.scram_doc.specs.Paths.{member_path}
-use Rattle.scram_doc.specs.Members.{object_at, needed, no_more_than}
+use Rattle.scram_doc.specs.Members.{object_at, required_at, no_more_than}
 use Rattle.scram_doc.specs.Lists.{elements_at}
 use Rattle.scram_doc.specs.Numbering.{itself}
 use Rattle.spec_members.specs.Names.{read_new_name, name_of_factor}
@@ -19,8 +19,8 @@ read_value_name at done d = read_new_name itself done at d
 abbrev pub read_factor : List ℕ → List Factor → Data → Result Factor DocFault
 read_factor at done d =
     chain (object_at at d) (λ (_ : ⊤).
-    chain (needed (codes "name") at d) (λ (name : Data).
-    chain (needed (codes "values") at d) (λ (values : Data).
+    chain (required_at (codes "name") at d) (λ (name : Data).
+    chain (required_at (codes "values") at d) (λ (values : Data).
     chain (no_more_than 2 at d) (λ (_ : ⊤).
     chain (read_new_name name_of_factor done (member_path at (codes "name")) name) (λ (name : List ℕ).
     chain (elements_at read_value_name 2 4 (member_path at (codes "values")) values) (λ (values : List (List ℕ)).

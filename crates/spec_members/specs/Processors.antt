@@ -5,7 +5,7 @@ use Rattle.scram_types.specs.declared.specification.Proc.{Proc}
 use Rattle.scram_doc.specs.declared.fault.DocFault.{DocFault}
 use Rattle.scram_doc.specs.Chain.{chain}
 use Rattle.scram_doc.specs.Paths.{member_path}
-use Rattle.scram_doc.specs.Members.{object_at, needed, no_more_than}
+use Rattle.scram_doc.specs.Members.{object_at, required_at, no_more_than}
 use Rattle.scram_doc.specs.Values.{whole_at}
 use Rattle.scram_doc.specs.Lists.{elements_at}
 use Rattle.spec_members.specs.Names.{read_new_name, name_of_proc}
@@ -14,8 +14,8 @@ use Rattle.spec_members.specs.Names.{read_new_name, name_of_proc}
 abbrev pub read_proc : List ℕ → List Proc → Data → Result Proc DocFault
 read_proc at done d =
     chain (object_at at d) (λ (_ : ⊤).
-    chain (needed (codes "name") at d) (λ (name : Data).
-    chain (needed (codes "capacity") at d) (λ (capacity : Data).
+    chain (required_at (codes "name") at d) (λ (name : Data).
+    chain (required_at (codes "capacity") at d) (λ (capacity : Data).
     chain (no_more_than 2 at d) (λ (_ : ⊤).
     chain (read_new_name name_of_proc done (member_path at (codes "name")) name) (λ (name : List ℕ).
     chain (whole_at 0 1000001 (member_path at (codes "capacity")) capacity) (λ (capacity : ℕ).

@@ -4,7 +4,7 @@ use Rattle.serde_json.specs.Data.{Data}
 use Rattle.serde_json.specs.Find.{get, as_number, as_u64}
 use Rattle.scram_doc.specs.declared.fault.DocFault.{DocFault}
 use Rattle.scram_doc.specs.Chain.{chain}
-use Rattle.scram_doc.specs.Members.{object_at, needed, no_more_than}
+use Rattle.scram_doc.specs.Members.{object_at, required_at, no_more_than}
 
 -- There is a number, and it equals `number`.
 abbrev pub is_version : ℕ → Option ℕ → Bool
@@ -50,17 +50,17 @@ members_count d = if has_demands d then 14 else (if has_policy d then 13 else 12
 -- The policy of a document is present if the document is of version 2 or 3, and is `None` otherwise.
 abbrev pub IsPolicy : Data → Option Data → Type 0
 IsPolicy d None = has_policy d ≡ false
-IsPolicy d (Some policy) = (has_policy d ≡ true) × (needed (codes "policy") [] d ≡ Ok policy)
+IsPolicy d (Some policy) = (has_policy d ≡ true) × (required_at (codes "policy") [] d ≡ Ok policy)
 
 -- The demands of a document are present if the document is of version 3, and are `None` otherwise.
 abbrev pub AreDemands : Data → Option Data → Type 0
 AreDemands d None = has_demands d ≡ false
-AreDemands d (Some demands) = (has_demands d ≡ true) × (needed (codes "demands") [] d ≡ Ok demands)
+AreDemands d (Some demands) = (has_demands d ≡ true) × (required_at (codes "demands") [] d ≡ Ok demands)
 
 -- The result `rest` if each of these members is present, else the fault of the first missing one.
 abbrev pub each_then : List (List ℕ) → Data → Result ⊤ DocFault → Result ⊤ DocFault
 each_then [] d rest = rest
-each_then (name ∷ names) d rest = chain (needed name [] d) (λ (_ : Data). each_then names d rest)
+each_then (name ∷ names) d rest = chain (required_at name [] d) (λ (_ : Data). each_then names d rest)
 
 -- `Ok` if each of these members is present, else the fault of the first missing one.
 abbrev pub each_needed : List (List ℕ) → Data → Result ⊤ DocFault
@@ -68,11 +68,11 @@ each_needed names d = each_then names d (Ok tt)
 
 -- `Ok` if the policy is present or the document's version has none, else the fault of the missing member.
 abbrev pub policy_tested : Data → Result ⊤ DocFault
-policy_tested d = if has_policy d then chain (needed (codes "policy") [] d) (λ (_ : Data). Ok tt) else Ok tt
+policy_tested d = if has_policy d then chain (required_at (codes "policy") [] d) (λ (_ : Data). Ok tt) else Ok tt
 
 -- `Ok` if the demands are present or the document's version has none, else the fault of the missing member.
 abbrev pub demands_tested : Data → Result ⊤ DocFault
-demands_tested d = if has_demands d then chain (needed (codes "demands") [] d) (λ (_ : Data). Ok tt) else Ok tt
+demands_tested d = if has_demands d then chain (required_at (codes "demands") [] d) (λ (_ : Data). Ok tt) else Ok tt
 
 -- `Ok` if the document is an object with the members of version 1, the policy and the demands of its version, and no
 -- others. Otherwise it is the first broken rule.

@@ -12,7 +12,7 @@ ghost use Rattle.spec_members.specs.Found.{AreMembers};
 use crate::members::Members;
 use crate::names::{ByName, read_new_name};
 use scram_doc::{
-    DocError, Lengths, NamedElements, Numbered, Path, need, no_more, object, read_named_list,
+    DocError, Lengths, NamedElements, Numbered, Path, required, no_more_than, object, read_named_list,
 };
 use scram_types::limits::{MAX_FACTORS, MAX_VALUES, MIN_VALUES};
 use scram_types::{Factor, List, Name};
@@ -60,9 +60,9 @@ impl NamedElements<Factor, ByName> for Factors {
         at: &Path,
     ) -> Result<Factor, DocError> {
         object(v, at)?;
-        let name = need(v, "name", at)?;
-        let values = need(v, "values", at)?;
-        no_more(v, 2, at)?;
+        let name = required(v, "name", at)?;
+        let values = required(v, "values", at)?;
+        no_more_than(v, 2, at)?;
         let name = read_new_name(done, name, &at.member("name"))?;
         let at = at.member("values");
         let values = read_named_list(

@@ -3,11 +3,11 @@
 ghost use Rattle.std.specs.Prelude.{◌≡◌, [], Ok, Some, codes, option_map, IfOk};
 ghost use Rattle.serde_json.specs.View.{view};
 ghost use Rattle.scram_doc.specs.Chain.{ok_map};
-ghost use Rattle.scram_doc.specs.Members.{needed, no_more_than};
+ghost use Rattle.scram_doc.specs.Members.{required_at, no_more_than};
 ghost use Rattle.spec_members.specs.Found.{AreMembers, AreMembersAfterNames, AreNamingMembers};
 ghost use Rattle.spec_members.specs.Versions.{AreDemands, IsPolicy, demands_tested, each_needed, is_version_in, members_after_names, members_count, members_tested, naming_members, policy_tested};
 
-use scram_doc::{DocFault, Path, need, no_more, object};
+use scram_doc::{DocFault, Path, required, no_more_than, object};
 use serde_json::Value;
 
 /// The values of a document's members. `policy` is `None` for version 1, and `demands` is `None` for each version but
@@ -40,12 +40,12 @@ fn is_version(scram: &Value, number: u64) -> bool
 
 /// Returns the policy of a document, or `None` if the document's version has no policy.
 fn find_policy<'a>(document: &'a Value, scram: &Value) -> Result<Option<&'a Value>, DocFault>
-    requires scram { needed (codes "scram") [] (view document.now) ≡ Ok (view scram.now) }
+    requires scram { required_at (codes "scram") [] (view document.now) ≡ Ok (view scram.now) }
     ensures tested { ok_map (λ _. tt) result ≡ policy_tested (view document.now) }
     ensures policy { IfOk result (λ policy. IsPolicy (view document.now) (option_map (λ d. view d.now) policy)) }
 {
     if is_version(scram, 2) || is_version(scram, 3) {
-        Ok(Some(need(document, "policy", &Path::root())?))
+        Ok(Some(required(document, "policy", &Path::root())?))
     } else {
         Ok(None)
     }
@@ -53,12 +53,12 @@ fn find_policy<'a>(document: &'a Value, scram: &Value) -> Result<Option<&'a Valu
 
 /// Returns the demands of a document, or `None` if the document's version has no demands.
 fn find_demands<'a>(document: &'a Value, scram: &Value) -> Result<Option<&'a Value>, DocFault>
-    requires scram { needed (codes "scram") [] (view document.now) ≡ Ok (view scram.now) }
+    requires scram { required_at (codes "scram") [] (view document.now) ≡ Ok (view scram.now) }
     ensures tested { ok_map (λ _. tt) result ≡ demands_tested (view document.now) }
     ensures demands { IfOk result (λ demands. AreDemands (view document.now) (option_map (λ d. view d.now) demands)) }
 {
     if is_version(scram, 3) {
-        Ok(Some(need(document, "demands", &Path::root())?))
+        Ok(Some(required(document, "demands", &Path::root())?))
     } else {
         Ok(None)
     }
@@ -66,7 +66,7 @@ fn find_demands<'a>(document: &'a Value, scram: &Value) -> Result<Option<&'a Val
 
 /// Checks that a document has no more members than its version.
 fn check_count(document: &Value, scram: &Value) -> Result<(), DocFault>
-    requires scram { needed (codes "scram") [] (view document.now) ≡ Ok (view scram.now) }
+    requires scram { required_at (codes "scram") [] (view document.now) ≡ Ok (view scram.now) }
     ensures { result ≡ no_more_than (members_count (view document.now)) [] (view document.now) }
 {
     let count = if is_version(scram, 3) {
@@ -76,7 +76,7 @@ fn check_count(document: &Value, scram: &Value) -> Result<(), DocFault>
     } else {
         12
     };
-    no_more(document, count, &Path::root())
+    no_more_than(document, count, &Path::root())
 }
 
 /// The values of the version and of the members that contain names.
@@ -94,11 +94,11 @@ fn find_naming(document: &Value) -> Result<NamingMembers<'_>, DocFault>
     ensures members { IfOk result (AreNamingMembers (view document.now)) }
 {
     let root = Path::root();
-    let scram = need(document, "scram", &root)?;
-    let procs = need(document, "processors", &root)?;
-    let apps = need(document, "apps", &root)?;
-    let confs = need(document, "configurations", &root)?;
-    let factors = need(document, "factors", &root)?;
+    let scram = required(document, "scram", &root)?;
+    let procs = required(document, "processors", &root)?;
+    let apps = required(document, "apps", &root)?;
+    let confs = required(document, "configurations", &root)?;
+    let factors = required(document, "factors", &root)?;
     Ok(NamingMembers {
         scram,
         procs,
@@ -125,13 +125,13 @@ fn find_after_names(document: &Value) -> Result<MembersAfterNames<'_>, DocFault>
     ensures members { IfOk result (AreMembersAfterNames (view document.now)) }
 {
     let root = Path::root();
-    let rules = need(document, "rules", &root)?;
-    let bounds = need(document, "bounds", &root)?;
-    let start = need(document, "start", &root)?;
-    let goal = need(document, "goal", &root)?;
-    let invariants = need(document, "invariants", &root)?;
-    let preconditions = need(document, "preconditions", &root)?;
-    let assumption = need(document, "assumption", &root)?;
+    let rules = required(document, "rules", &root)?;
+    let bounds = required(document, "bounds", &root)?;
+    let start = required(document, "start", &root)?;
+    let goal = required(document, "goal", &root)?;
+    let invariants = required(document, "invariants", &root)?;
+    let preconditions = required(document, "preconditions", &root)?;
+    let assumption = required(document, "assumption", &root)?;
     Ok(MembersAfterNames {
         rules,
         bounds,

@@ -12,7 +12,7 @@ ghost use Rattle.spec_members.specs.Found.{AreMembers};
 use crate::members::Members;
 use crate::names::{ByName, read_new_name};
 use scram_doc::{
-    DocError, Lengths, NamedElements, Numbered, Path, need, no_more, object, read_named_list,
+    DocError, Lengths, NamedElements, Numbered, Path, required, no_more_than, object, read_named_list,
     whole_in,
 };
 use scram_types::Proc;
@@ -39,9 +39,9 @@ impl NamedElements<Proc, ByName> for Procs {
         at: &Path,
     ) -> Result<Proc, DocError> {
         object(v, at)?;
-        let name = need(v, "name", at)?;
-        let capacity = need(v, "capacity", at)?;
-        no_more(v, 2, at)?;
+        let name = required(v, "name", at)?;
+        let capacity = required(v, "capacity", at)?;
+        no_more_than(v, 2, at)?;
         let name = read_new_name(done, name, &at.member("name"))?;
         let capacity = whole_in(capacity, 0, MAX_LOAD + 1, &at.member("capacity"))?;
         Ok(Proc { name, capacity })

@@ -9,7 +9,7 @@ use Rattle.scram_doc.specs.declared.fault.DocFault.{DocFault}
 use Rattle.scram_doc.specs.Chain.{chain}
 use Rattle.scram_doc.specs.Faults.{broken}
 use Rattle.scram_doc.specs.Paths.{member_path}
-use Rattle.scram_doc.specs.Members.{object_at, needed, no_more_than}
+use Rattle.scram_doc.specs.Members.{object_at, required_at, no_more_than}
 use Rattle.scram_doc.specs.Values.{whole_at}
 use Rattle.spec_members.specs.declared.rule.TheConstants.{TWICE_IN_LIST}
 use Rattle.scram_doc.specs.Lists.{elements_at}
@@ -25,9 +25,9 @@ read_new_target confs done from at d =
 abbrev pub read_bound : List Conf → List ℕ → List Bound → Data → Result Bound DocFault
 read_bound confs at done d =
     chain (object_at at d) (λ (_ : ⊤).
-    chain (needed (codes "from") at d) (λ (from : Data).
-    chain (needed (codes "to") at d) (λ (to : Data).
-    chain (needed (codes "frames") at d) (λ (frames : Data).
+    chain (required_at (codes "from") at d) (λ (from : Data).
+    chain (required_at (codes "to") at d) (λ (to : Data).
+    chain (required_at (codes "frames") at d) (λ (frames : Data).
     chain (no_more_than 3 at d) (λ (_ : ⊤).
     chain (read_conf_id confs (member_path at (codes "from")) from) (λ (from : ConfId).
     chain (read_new_target confs done from (member_path at (codes "to")) to) (λ (to : ConfId).

@@ -13,7 +13,7 @@ use Rattle.scram_doc.specs.declared.fault.DocFault.{DocFault}
 use Rattle.scram_doc.specs.Chain.{chain, ok_map}
 use Rattle.scram_doc.specs.Faults.{broken, or_broken}
 use Rattle.scram_doc.specs.Paths.{member_path}
-use Rattle.scram_doc.specs.Members.{object_at, needed, no_more_than}
+use Rattle.scram_doc.specs.Members.{object_at, required_at, no_more_than}
 use Rattle.scram_doc.specs.Values.{text_at}
 use Rattle.spec_members.specs.declared.rule.TheConstants.{UNKNOWN_CONFIGURATION, UNKNOWN_FACTOR_OR_VALUE, TWICE_IN_LIST}
 use Rattle.scram_doc.specs.Lists.{elements_at}
@@ -55,8 +55,8 @@ read_value_of (Some factor) at d = read_named itself factor.values UNKNOWN_FACTO
 abbrev pub read_want : List Factor → List ℕ → List Want → Data → Result Want DocFault
 read_want factors at done d =
     chain (object_at at d) (λ (_ : ⊤).
-    chain (needed (codes "factor") at d) (λ (factor : Data).
-    chain (needed (codes "value") at d) (λ (value : Data).
+    chain (required_at (codes "factor") at d) (λ (factor : Data).
+    chain (required_at (codes "value") at d) (λ (value : Data).
     chain (no_more_than 2 at d) (λ (_ : ⊤).
     chain (read_new_factor factors done (member_path at (codes "factor")) factor) (λ (f : ℕ).
     chain (read_value_of (slice_get factors f) (member_path at (codes "value")) value) (λ (value : ℕ).
@@ -66,10 +66,10 @@ read_want factors at done d =
 abbrev pub read_choice : List Proc → List Conf → List Factor → List ℕ → List Choice → Data → Result Choice DocFault
 read_choice procs confs factors at done d =
     chain (object_at at d) (λ (_ : ⊤).
-    chain (needed (codes "from") at d) (λ (from : Data).
-    chain (needed (codes "when") at d) (λ (wants : Data).
-    chain (needed (codes "up") at d) (λ (up : Data).
-    chain (needed (codes "to") at d) (λ (to : Data).
+    chain (required_at (codes "from") at d) (λ (from : Data).
+    chain (required_at (codes "when") at d) (λ (wants : Data).
+    chain (required_at (codes "up") at d) (λ (up : Data).
+    chain (required_at (codes "to") at d) (λ (to : Data).
     chain (no_more_than 4 at d) (λ (_ : ⊤).
     chain (read_source confs (member_path at (codes "from")) from) (λ (from : Option ConfId).
     chain (elements_at (read_want factors) 0 6 (member_path at (codes "when")) wants) (λ (wants : List Want).

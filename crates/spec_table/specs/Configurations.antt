@@ -10,7 +10,7 @@ use Rattle.scram_doc.specs.declared.fault.DocFault.{DocFault}
 use Rattle.scram_doc.specs.Chain.{chain}
 use Rattle.scram_doc.specs.Faults.{broken}
 use Rattle.scram_doc.specs.Paths.{member_path}
-use Rattle.scram_doc.specs.Members.{object_at, needed, no_more_than}
+use Rattle.scram_doc.specs.Members.{object_at, required_at, no_more_than}
 use Rattle.scram_doc.specs.Values.{list_at}
 use Rattle.spec_members.specs.declared.rule.TheConstants.{UNKNOWN_PROCESSOR, UNKNOWN_APPLICATION, TWICE_IN_LIST, MODE_NOT_LISTED}
 use Rattle.scram_doc.specs.Lists.{elements_at, folded_from}
@@ -38,9 +38,9 @@ read_listed_mode (Some app) at d =
 abbrev pub read_place : List Proc → List AppSpec → List ℕ → List (Option Place) → Data → Result (List (Option Place)) DocFault
 read_place procs apps at places d =
     chain (object_at at d) (λ (_ : ⊤).
-    chain (needed (codes "app") at d) (λ (app : Data).
-    chain (needed (codes "mode") at d) (λ (mode : Data).
-    chain (needed (codes "on") at d) (λ (on : Data).
+    chain (required_at (codes "app") at d) (λ (app : Data).
+    chain (required_at (codes "mode") at d) (λ (mode : Data).
+    chain (required_at (codes "on") at d) (λ (on : Data).
     chain (no_more_than 3 at d) (λ (_ : ⊤).
     chain (read_new_app apps places (member_path at (codes "app")) app) (λ (a : ℕ).
     chain (read_listed_mode (slice_get apps a) (member_path at (codes "mode")) mode) (λ (mode : ℕ).
@@ -56,8 +56,8 @@ read_place_list procs apps at d =
 abbrev pub read_conf : List Proc → List AppSpec → List ℕ → List Conf → Data → Result Conf DocFault
 read_conf procs apps at done d =
     chain (object_at at d) (λ (_ : ⊤).
-    chain (needed (codes "name") at d) (λ (name : Data).
-    chain (needed (codes "apps") at d) (λ (places : Data).
+    chain (required_at (codes "name") at d) (λ (name : Data).
+    chain (required_at (codes "apps") at d) (λ (places : Data).
     chain (no_more_than 2 at d) (λ (_ : ⊤).
     chain (read_new_name name_of_conf done (member_path at (codes "name")) name) (λ (name : List ℕ).
     chain (read_place_list procs apps (member_path at (codes "apps")) places) (λ (places : List (Option Place)).

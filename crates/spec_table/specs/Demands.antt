@@ -14,7 +14,7 @@ use Rattle.scram_doc.specs.declared.fault.DocFault.{DocFault}
 use Rattle.scram_doc.specs.Chain.{chain}
 use Rattle.scram_doc.specs.Faults.{broken}
 use Rattle.scram_doc.specs.Lists.{elements_at, folded_from}
-use Rattle.scram_doc.specs.Members.{object_at, needed, no_more_than}
+use Rattle.scram_doc.specs.Members.{object_at, required_at, no_more_than}
 use Rattle.scram_doc.specs.Paths.{member_path}
 use Rattle.scram_doc.specs.Values.{list_at}
 use Rattle.spec_members.specs.declared.rule.TheConstants.{MODE_TWICE}
@@ -38,8 +38,8 @@ read_on_modes found at d = chain (list_at 0 3 at d) (λ (ds : Items). folded_fro
 abbrev pub read_on_app : List AppSpec → List ℕ → List (Option (List Mode)) → Data → Result (List (Option (List Mode))) DocFault
 read_on_app apps at on d =
     chain (object_at at d) (λ (_ : ⊤).
-    chain (needed (codes "app") at d) (λ (app : Data).
-    chain (needed (codes "modes") at d) (λ (modes : Data).
+    chain (required_at (codes "app") at d) (λ (app : Data).
+    chain (required_at (codes "modes") at d) (λ (modes : Data).
     chain (no_more_than 2 at d) (λ (_ : ⊤).
     chain (read_new_app apps on (member_path at (codes "app")) app) (λ (a : ℕ).
     chain (read_on_modes (slice_get apps a) (member_path at (codes "modes")) modes) (λ (modes : List Mode).
@@ -68,14 +68,14 @@ read_requirements procs apps confs at up down to on off =
 abbrev pub read_demand : List Proc → List AppSpec → List Conf → List Factor → List ℕ → List Demand → Data → Result Demand DocFault
 read_demand procs apps confs factors at done d =
     chain (object_at at d) (λ (_ : ⊤).
-    chain (needed (codes "name") at d) (λ (name : Data).
-    chain (needed (codes "from") at d) (λ (from : Data).
-    chain (needed (codes "when") at d) (λ (wants : Data).
-    chain (needed (codes "up") at d) (λ (up : Data).
-    chain (needed (codes "down") at d) (λ (down : Data).
-    chain (needed (codes "to") at d) (λ (to : Data).
-    chain (needed (codes "on") at d) (λ (on : Data).
-    chain (needed (codes "off") at d) (λ (off : Data).
+    chain (required_at (codes "name") at d) (λ (name : Data).
+    chain (required_at (codes "from") at d) (λ (from : Data).
+    chain (required_at (codes "when") at d) (λ (wants : Data).
+    chain (required_at (codes "up") at d) (λ (up : Data).
+    chain (required_at (codes "down") at d) (λ (down : Data).
+    chain (required_at (codes "to") at d) (λ (to : Data).
+    chain (required_at (codes "on") at d) (λ (on : Data).
+    chain (required_at (codes "off") at d) (λ (off : Data).
     chain (no_more_than 8 at d) (λ (_ : ⊤).
     chain (read_new_name name_of_demand done (member_path at (codes "name")) name) (λ (name : List ℕ).
     chain (read_confs_set confs (member_path at (codes "from")) from) (λ (from : ℕ).

@@ -13,7 +13,7 @@ use Rattle.scram_doc.specs.declared.fault.DocFault.{DocFault}
 use Rattle.scram_doc.specs.Chain.{chain, ok_map}
 use Rattle.scram_doc.specs.Faults.{broken, or_broken}
 use Rattle.scram_doc.specs.Paths.{member_path}
-use Rattle.scram_doc.specs.Members.{object_at, needed, no_more_than}
+use Rattle.scram_doc.specs.Members.{object_at, required_at, no_more_than}
 use Rattle.scram_doc.specs.Values.{text_at, int_at}
 use Rattle.spec_members.specs.declared.rule.TheConstants.{UNKNOWN_APPLICATION, UNKNOWN_VARIABLE, EMPTY_INTERVAL}
 use Rattle.spec_table.specs.declared.intervals.Ends.{Ends}
@@ -55,11 +55,11 @@ read_interval apps at app variable least greatest =
 abbrev pub read_invariant : List AppSpec → List Conf → List ℕ → List Invariant → Data → Result Invariant DocFault
 read_invariant apps confs at done d =
     chain (object_at at d) (λ (_ : ⊤).
-    chain (needed (codes "from") at d) (λ (from : Data).
-    chain (needed (codes "app") at d) (λ (app : Data).
-    chain (needed (codes "variable") at d) (λ (variable : Data).
-    chain (needed (codes "least") at d) (λ (least : Data).
-    chain (needed (codes "greatest") at d) (λ (greatest : Data).
+    chain (required_at (codes "from") at d) (λ (from : Data).
+    chain (required_at (codes "app") at d) (λ (app : Data).
+    chain (required_at (codes "variable") at d) (λ (variable : Data).
+    chain (required_at (codes "least") at d) (λ (least : Data).
+    chain (required_at (codes "greatest") at d) (λ (greatest : Data).
     chain (no_more_than 5 at d) (λ (_ : ⊤).
     chain (read_source confs (member_path at (codes "from")) from) (λ (from : Option ConfId).
     chain (read_interval apps at app variable least greatest) (λ (i : Interval).
@@ -73,11 +73,11 @@ read_invariants apps confs at d = elements_at (read_invariant apps confs) 0 64 a
 abbrev pub read_precondition : List AppSpec → List Conf → List ℕ → List Precondition → Data → Result Precondition DocFault
 read_precondition apps confs at done d =
     chain (object_at at d) (λ (_ : ⊤).
-    chain (needed (codes "configuration") at d) (λ (conf : Data).
-    chain (needed (codes "app") at d) (λ (app : Data).
-    chain (needed (codes "variable") at d) (λ (variable : Data).
-    chain (needed (codes "least") at d) (λ (least : Data).
-    chain (needed (codes "greatest") at d) (λ (greatest : Data).
+    chain (required_at (codes "configuration") at d) (λ (conf : Data).
+    chain (required_at (codes "app") at d) (λ (app : Data).
+    chain (required_at (codes "variable") at d) (λ (variable : Data).
+    chain (required_at (codes "least") at d) (λ (least : Data).
+    chain (required_at (codes "greatest") at d) (λ (greatest : Data).
     chain (no_more_than 5 at d) (λ (_ : ⊤).
     chain (read_conf_id confs (member_path at (codes "configuration")) conf) (λ (conf : ConfId).
     chain (read_interval apps at app variable least greatest) (λ (i : Interval).

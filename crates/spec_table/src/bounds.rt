@@ -13,7 +13,7 @@ ghost use Rattle.spec_members.specs.Found.{AreMembers};
 use crate::choices::read_conf_id;
 use crate::vocabulary::Vocabulary;
 use scram_doc::{
-    DocError, DocFault, Elements, Lengths, Numbered, Path, need, no_more, object, read_list,
+    DocError, DocFault, Elements, Lengths, Numbered, Path, required, no_more_than, object, read_list,
     whole_in,
 };
 use scram_types::limits::{MAX_BOUND, MAX_BOUNDS};
@@ -75,10 +75,10 @@ impl Elements<Bound> for Bounds<'_> {
         at: &Path,
     ) -> Result<Bound, DocError> {
         object(v, at)?;
-        let from = need(v, "from", at)?;
-        let to = need(v, "to", at)?;
-        let frames = need(v, "frames", at)?;
-        no_more(v, 3, at)?;
+        let from = required(v, "from", at)?;
+        let to = required(v, "to", at)?;
+        let frames = required(v, "frames", at)?;
+        no_more_than(v, 3, at)?;
         let vocabulary = self.vocabulary;
         let confs = &vocabulary.confs;
         let from = read_conf_id(confs, from, &at.member("from"))?;

@@ -17,7 +17,7 @@ ghost use Rattle.spec_members.specs.Found.{AreMembers};
 use crate::sets::read_procs_set;
 use crate::vocabulary::Vocabulary;
 use scram_doc::{
-    DocError, DocFault, Elements, Lengths, Numbered, Path, need, no_more, object, read_list, text,
+    DocError, DocFault, Elements, Lengths, Numbered, Path, required, no_more_than, object, read_list, text,
 };
 use scram_types::limits::{MAX_FACTORS, MAX_RULES};
 use scram_types::{Choice, Conf, ConfId, Factor, FactorId, List, Want};
@@ -124,9 +124,9 @@ impl Elements<Want> for Wants<'_> {
 
     fn read(&self, _alloc: Global, done: &[Want], v: &Value, at: &Path) -> Result<Want, DocError> {
         object(v, at)?;
-        let factor = need(v, "factor", at)?;
-        let value = need(v, "value", at)?;
-        no_more(v, 2, at)?;
+        let factor = required(v, "factor", at)?;
+        let value = required(v, "value", at)?;
+        no_more_than(v, 2, at)?;
         let vocabulary = self.vocabulary;
         let factors = &vocabulary.factors;
         let factor = read_new_factor(factors, done, factor, &at.member("factor"))?;
@@ -155,11 +155,11 @@ impl Elements<Choice> for Choices<'_> {
         at: &Path,
     ) -> Result<Choice, DocError> {
         object(v, at)?;
-        let from = need(v, "from", at)?;
-        let wants = need(v, "when", at)?;
-        let up = need(v, "up", at)?;
-        let to = need(v, "to", at)?;
-        no_more(v, 4, at)?;
+        let from = required(v, "from", at)?;
+        let wants = required(v, "when", at)?;
+        let up = required(v, "up", at)?;
+        let to = required(v, "to", at)?;
+        no_more_than(v, 4, at)?;
         let vocabulary = self.vocabulary;
         let confs = &vocabulary.confs;
         let from = read_source(confs, from, &at.member("from"))?;

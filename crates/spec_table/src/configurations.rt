@@ -12,7 +12,7 @@ ghost use Rattle.spec_table.specs.Facts.{ListsMode, IsPlacedAfter, ArePlaces, Is
 ghost use Rattle.spec_members.specs.Found.{AreMembers};
 
 use scram_doc::{
-    DocError, DocFault, Lengths, NamedElements, Numbered, Path, list, need, no_more, object,
+    DocError, DocFault, Lengths, NamedElements, Numbered, Path, list, required, no_more_than, object,
     read_named_list,
 };
 use scram_types::limits::{MAX_APPLICATIONS, MAX_CONFIGURATIONS};
@@ -87,10 +87,10 @@ fn read_place(
     ensures fits { IfOk result (λ more. IsPlacedAfter procs.now apps.now places more) }
 {
     object(v, at)?;
-    let app = need(v, "app", at)?;
-    let mode = need(v, "mode", at)?;
-    let on = need(v, "on", at)?;
-    no_more(v, 3, at)?;
+    let app = required(v, "app", at)?;
+    let mode = required(v, "mode", at)?;
+    let on = required(v, "on", at)?;
+    no_more_than(v, 3, at)?;
     let app = read_new_app(apps, &places, app, &at.member("app"))?;
     let mode = read_listed_mode(
         apps.items().get(usize::from(app.0)),
@@ -149,9 +149,9 @@ impl NamedElements<Conf, ByName> for Confs<'_> {
         at: &Path,
     ) -> Result<Conf, DocError> {
         object(v, at)?;
-        let name = need(v, "name", at)?;
-        let places = need(v, "apps", at)?;
-        no_more(v, 2, at)?;
+        let name = required(v, "name", at)?;
+        let places = required(v, "apps", at)?;
+        no_more_than(v, 2, at)?;
         let name = read_new_name(done, name, &at.member("name"))?;
         let at = at.member("apps");
         let items = list(places, 0, MAX_APPLICATIONS, &at)?;

@@ -16,7 +16,7 @@ use crate::configurations::read_listed_mode;
 use crate::sets::{read_apps_set, read_confs_set, read_procs_set};
 use crate::vocabulary::Vocabulary;
 use scram_doc::{
-    DocError, DocFault, Lengths, NamedElements, Numbered, Path, list, need, no_more, object,
+    DocError, DocFault, Lengths, NamedElements, Numbered, Path, list, required, no_more_than, object,
     read_list, read_named_list,
 };
 use scram_types::limits::{MAX_APPLICATIONS, MAX_DEMANDS, MAX_FACTORS, MAX_MODES};
@@ -109,9 +109,9 @@ fn read_on_app(
     ensures fits { IfOk result (λ more. IsOnAfter apps.now on more) }
 {
     object(v, at)?;
-    let app = need(v, "app", at)?;
-    let modes = need(v, "modes", at)?;
-    no_more(v, 2, at)?;
+    let app = required(v, "app", at)?;
+    let modes = required(v, "modes", at)?;
+    no_more_than(v, 2, at)?;
     let app = read_new_app(apps, &on, app, &at.member("app"))?;
     let modes = read_on_modes(find_app(apps, app), modes, &at.member("modes"))?;
     let mut on = on;
@@ -218,15 +218,15 @@ impl NamedElements<Demand, ByName> for Demands<'_> {
         at: &Path,
     ) -> Result<Demand, DocError> {
         object(v, at)?;
-        let name = need(v, "name", at)?;
-        let from = need(v, "from", at)?;
-        let wants = need(v, "when", at)?;
-        let up = need(v, "up", at)?;
-        let down = need(v, "down", at)?;
-        let to = need(v, "to", at)?;
-        let on = need(v, "on", at)?;
-        let off = need(v, "off", at)?;
-        no_more(v, 8, at)?;
+        let name = required(v, "name", at)?;
+        let from = required(v, "from", at)?;
+        let wants = required(v, "when", at)?;
+        let up = required(v, "up", at)?;
+        let down = required(v, "down", at)?;
+        let to = required(v, "to", at)?;
+        let on = required(v, "on", at)?;
+        let off = required(v, "off", at)?;
+        no_more_than(v, 8, at)?;
         let vocabulary = self.vocabulary;
         let name = read_new_name(done, name, &at.member("name"))?;
         let from = read_confs_set(&vocabulary.confs, from, &at.member("from"))?;

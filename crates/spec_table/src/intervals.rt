@@ -14,7 +14,7 @@ use crate::choices::{read_conf_id, read_source};
 use crate::vocabulary::Vocabulary;
 use app_model::variable_named;
 use scram_doc::{
-    DocError, DocFault, Elements, Lengths, Numbered, Path, int_in, need, no_more, object,
+    DocError, DocFault, Elements, Lengths, Numbered, Path, int_in, required, no_more_than, object,
     read_list, text,
 };
 use scram_types::limits::{MAX_INTERVAL_END, MAX_INTERVALS};
@@ -136,12 +136,12 @@ impl Elements<Invariant> for Intervals<'_> {
         at: &Path,
     ) -> Result<Invariant, DocError> {
         object(v, at)?;
-        let from = need(v, "from", at)?;
-        let app = need(v, "app", at)?;
-        let variable = need(v, "variable", at)?;
-        let least = need(v, "least", at)?;
-        let greatest = need(v, "greatest", at)?;
-        no_more(v, 5, at)?;
+        let from = required(v, "from", at)?;
+        let app = required(v, "app", at)?;
+        let variable = required(v, "variable", at)?;
+        let least = required(v, "least", at)?;
+        let greatest = required(v, "greatest", at)?;
+        no_more_than(v, 5, at)?;
         let vocabulary = self.vocabulary;
         let from = read_source(&vocabulary.confs, from, &at.member("from"))?;
         let apps = &vocabulary.apps;
@@ -177,12 +177,12 @@ impl Elements<Precondition> for Intervals<'_> {
         at: &Path,
     ) -> Result<Precondition, DocError> {
         object(v, at)?;
-        let conf = need(v, "configuration", at)?;
-        let app = need(v, "app", at)?;
-        let variable = need(v, "variable", at)?;
-        let least = need(v, "least", at)?;
-        let greatest = need(v, "greatest", at)?;
-        no_more(v, 5, at)?;
+        let conf = required(v, "configuration", at)?;
+        let app = required(v, "app", at)?;
+        let variable = required(v, "variable", at)?;
+        let least = required(v, "least", at)?;
+        let greatest = required(v, "greatest", at)?;
+        no_more_than(v, 5, at)?;
         let vocabulary = self.vocabulary;
         let conf = read_conf_id(&vocabulary.confs, conf, &at.member("configuration"))?;
         let apps = &vocabulary.apps;

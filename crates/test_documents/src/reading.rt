@@ -4,7 +4,7 @@
 ghost use Rattle.std.specs.Prelude.{◌≤◌, length};
 
 use scram_doc::{
-    DocError, DocFault, Path, field, int_in, list, name_of, need, no_more, object, parse, text,
+    DocError, DocFault, Path, field, int_in, list, name_of, required, no_more_than, object, parse, text,
     whole_in,
 };
 use serde_json::Value;
@@ -21,9 +21,9 @@ use std::test::Fail;
 fn read_document(v: &Value) -> Result<(), DocFault> {
     let root = Path::root();
     object(v, &root)?;
-    let scram = need(v, "scram", &root)?;
-    let processors = need(v, "processors", &root)?;
-    no_more(v, 2, &root)?;
+    let scram = required(v, "scram", &root)?;
+    let processors = required(v, "processors", &root)?;
+    no_more_than(v, 2, &root)?;
     int_in(scram, 0, 1000, &root.member("scram"))?;
     let at = Path::root().member("processors");
     for (i, processor) in list(processors, 1, 8, &at)?.iter().enumerate() {
@@ -36,9 +36,9 @@ fn read_processor(v: &Value, at: &Path) -> Result<(), DocFault>
     requires { length at.now ≤ 40 }
 {
     object(v, at)?;
-    let name = need(v, "name", at)?;
-    let capacity = need(v, "capacity", at)?;
-    no_more(v, 2, at)?;
+    let name = required(v, "name", at)?;
+    let capacity = required(v, "capacity", at)?;
+    no_more_than(v, 2, at)?;
     text(name, &at.member("name"))?;
     whole_in(capacity, 0, 1_000_001, &at.member("capacity"))?;
     Ok(())
