@@ -13,11 +13,11 @@ toward x target n = x +ℤ part (target -ℤ x) n
 unfoldable pub plus_tenth : ℤ → ℤ → ℤ
 plus_tenth x y = x +ℤ part y 10
 
--- The climb after the step, in tenths of a foot per frame: a quarter of the way from the old climb to the elevator.
+-- The climb after the step, in tenths of a foot per frame: the old climb, moved a quarter of the way to the elevator.
 unfoldable pub climb_after : Motion → ℤ
 climb_after m = clamp_in (limit 300 300) (toward (clamp_in (limit 300 300) m.world.climb) (clamp_in (limit 300 300) m.elevator) 4)
 
--- The bank after the step, in tenths of a degree: half of the way from the old bank to the aileron.
+-- The bank after the step, in tenths of a degree: the old bank, moved half of the way to the aileron.
 unfoldable pub bank_after : Motion → ℤ
 bank_after m = clamp_in (limit 300 300) (toward (clamp_in (limit 300 300) m.world.bank) (clamp_in (limit 300 300) m.aileron) 2)
 

@@ -52,7 +52,7 @@ at_zero = always 0 0
 abbrev pub by_mode : Range → Range → List Range
 by_mode first second = first ∷ second ∷ []
 
--- The names by number of a kind with two modes, which are `first` for mode 1 and `second` for mode 2.
+-- The names of the modes of a kind with two modes, by number: `first` for mode 1 and `second` for mode 2.
 abbrev pub two_modes : List ℕ → List ℕ → List (Option (List ℕ))
 two_modes first second = None ∷ Some first ∷ Some second ∷ []
 

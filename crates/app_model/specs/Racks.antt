@@ -9,10 +9,10 @@ RackFits kind boxes = map kind boxes ≡ 0 ∷ 1 ∷ 2 ∷ 3 ∷ 4 ∷ []
 abbrev pub AllRacksFit : {B R : Type 0} → (B → ℕ) → (R → List B) → List R → Type 0
 AllRacksFit kind boxes racks = All (λ r. RackFits kind (boxes r)) racks
 
--- There are eight racks, one for each processor, and each rack has a box of each kind, in order.
+-- There are eight racks, one for each processor, and each rack has the boxes of kinds 0 to 4, in the order of kinds.
 abbrev pub RacksFit : {B R : Type 0} → (B → ℕ) → (R → List B) → List R → Type 0
 RacksFit kind boxes racks = (length racks ≡ 8) × AllRacksFit kind boxes racks
 
--- Every element of the list is unchanged, except that at index `place`.
+-- Every element of the list except the element at index `place` is unchanged.
 abbrev pub OthersStay : {A : Type 0} → List A → List A → ℕ → Type 0
 OthersStay old new place = (i : ℕ) → (i ≡ place → ⊥) → slice_get new i ≡ slice_get old i

@@ -1,4 +1,4 @@
-//! Applications as objects that a caller passes to the kernel.
+//! Applications as objects that callers pass in.
 
 ghost use Rattle.std.specs.Prelude.{◌≡◌, ℕ};
 ghost use Rattle.app_model.specs.Law.{law};

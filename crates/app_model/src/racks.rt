@@ -1,4 +1,4 @@
-//! Racks. A rack holds the boxes of one processor, one for each kind.
+//! Racks. A rack holds the boxes of one processor, one for each of the kinds 0 to 4.
 
 ghost use Rattle.std.specs.Prelude.{◌≡◌, ◌↔◌, ◌<◌, All, IfOk, IsTrue, [], map, vec_len};
 ghost use Rattle.app_model.specs.Law.{law};
@@ -38,7 +38,7 @@ pub fn empty_racks(alloc: Global) -> Result<Vec<Rack>, AllocError>
     Ok(racks)
 }
 
-/// Returns the kind of a box.
+/// Returns the kind of the application in a box.
 pub fn box_kind(app: &Box<dyn App + Send>) -> KindId
     ensures { result.0 ≡ kind_of app.now }
 {

@@ -1,8 +1,9 @@
--- The marks of processors. A mark encodes the number of frames that a processor has committed, and the bank that
--- holds the last one.
+-- The marks of processors. A mark encodes the number of frames up to and including the last frame that the processor
+-- committed, and the bank that holds this frame.
 use Rattle.std.specs.Prelude.{ℕ, ◌+◌, ◌-◌, ◌*◌, ◌/◌, ◌%◌, nat_le, if◌then◌else◌}
 
--- The mark of a processor that committed `count` frames, the last of which is in bank `bank`, 0 or 1.
+-- The mark that encodes the number `count` of frames up to and including the last committed frame, and the bank
+-- `bank`, 0 or 1, that holds this frame.
 abbrev pub mark_word : ℕ → ℕ → ℕ
 mark_word count bank = 2 * count + bank
 

@@ -1,10 +1,11 @@
-//! Marks: the number of frames that a processor has committed, and the bank that holds the last one.
+//! Marks: the number of frames up to and including the last frame that a processor committed, and the bank that holds
+//! this frame.
 
 ghost use Rattle.std.specs.Prelude.{◌≡◌, ◌≤◌, ◌/◌, ◌%◌};
 ghost use Rattle.bank_words.specs.Marks.{mark_word, pick};
 
-/// Returns the mark of a processor that committed `count` frames, the last of which is in bank `bank`, either 0 or 1.
-/// The mark is twice the count plus the bank.
+/// Returns the mark of a processor, given the number `count` of frames up to and including its last committed frame,
+/// and the bank that holds this frame, 0 or 1. The mark is twice the count plus the bank.
 pub fn mark_word(count: u32, bank: u8) -> u64
     requires { bank ≤ 1 }
     ensures mark { result ≡ mark_word count bank }

@@ -11,8 +11,8 @@ use Rattle.app_model.specs.Law.{law}
 abbrev pub after_run : Seen → ℕ → ℤ
 after_run seen i = word (law 4 Run seen) i
 
--- If both counts are below their maximum after a run, the sum of the messages sent, queued and dropped equals their
--- sum before the run plus the number of new messages.
+-- If both counts are below their maximum after a run, the sum of the messages sent, queued and dropped equals the sum
+-- that was read before the run plus the number of new messages.
 abbrev pub KeepsCount : Type 0
 KeepsCount = (seen : Seen) → after_run seen 2 <ℤ pos 1000000 → after_run seen 4 <ℤ pos 1000000
     → (after_run seen 2 +ℤ after_run seen 1) +ℤ after_run seen 4

@@ -31,7 +31,7 @@ pub fact_after : {A : Type 0} (Fact : List A → A → Type 0) (before : List A)
 fact_after {A} Fact before x after all =
     subst (λ (ys : List A). Fact ys x) (take-append_seam before (x ∷ after)) (all (length before) x (seam before x after))
 
--- Elements that are written and read back are mapped by `give`, if reading an element gives its image.
+-- If each written element `x` is read as `give x`, the written list is read as the list of these values.
 pub elements_given : {A B : Type 0} (Fact : List B → B → Type 0) (read : List ℕ → List A → Data → Result A DocFault) (f : B → Data) (give : B → A)
     → ((at : List ℕ) (done : List B) (x : B) → Fact done x → read at (map give done) (f x) ≡ Ok (give x))
     → (at : List ℕ) (i : ℕ) (before xs whole : List B) → before ++ xs ≡ whole → AllAfter Fact whole
@@ -63,7 +63,7 @@ items_back f least most at xs enough few =
     let count = items_count f xs in
     within_back least most at (items_of (map f xs)) (omega (arith, count, enough)) (omega (arith, count, few))
 
--- If each element is read back as written, the whole list is.
+-- If each element is read back as written, the whole list is read back as written.
 pub list_back : {A : Type 0} (Fact : List A → A → Type 0) (read : List ℕ → List A → Data → Result A DocFault) (f : A → Data)
     → ((at : List ℕ) (done : List A) (x : A) → Fact done x → read at done (f x) ≡ Ok x)
     → (least most : ℕ) (at : List ℕ) (xs : List A) → least ≤ length xs → length xs ≤ most → AllAfter Fact xs

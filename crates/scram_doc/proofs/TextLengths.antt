@@ -14,7 +14,7 @@ use Rattle.scram_doc.specs.Canonical.{count_data}
 use Rattle.scram_doc.specs.Names.{is_letter_of_name, is_spelled_name}
 use Rattle.scram_doc.proofs.QuotedNames.{name_short, quoted_letters, quoted_name}
 
--- A text of letters that names may contain is written with its bytes and two quotes.
+-- A text of bytes that names may contain is written as its bytes between two quotes.
 pub quoted_length : (text : List ℕ) → list_all is_letter_of_name text ≡ true → length (quoted text) ≡ length text + 2
 quoted_length text named = omega (arith, ap length (quoted_letters text named), length-append text (34 ∷ []))
 
@@ -22,8 +22,8 @@ quoted_length text named = omega (arith, ap length (quoted_letters text named), 
 pub name_length : (text : List ℕ) → is_spelled_name text ≡ true → length (quoted text) ≤ 18
 name_length text named = omega (arith, ap length (quoted_name text named), length-append text (34 ∷ []), name_short text named)
 
--- The name of an item that may not be found is written with at most 18 bytes. An item that is not found is written as
--- two quotes alone.
+-- The name of an optional item is written with at most 18 bytes. An item that is not found has no name and is written
+-- as two quotes alone.
 pub found_length : {A : Type 0} (name : A → List ℕ) (found : Option A) → ((x : A) → found ≡ Some x → is_spelled_name (name x) ≡ true) → length (quoted (option_map_or name found [])) ≤ 18
 found_length name None named = omega arith
 found_length name (Some x) named = name_length (name x) (named x refl)

@@ -10,7 +10,7 @@ use std::alloc::Global;
 ///
 /// # Errors
 ///
-/// Returns rule 1 at the root if the bytes are not a JSON text, and `NoMemory` if memory runs out.
+/// Returns a fault of rule 1 at the root if the bytes are not a JSON text, and `NoMemory` if memory runs out.
 pub fn parse(alloc: Global, bytes: &[u8]) -> Result<Value, DocError>
     ensures { Answers (parsed bytes.now) view result }
 {

@@ -30,7 +30,7 @@ pub trait Elements<T: Drop> {
     ///
     /// # Errors
     ///
-    /// Returns the rule that the value breaks, and `NoMemory` if memory runs out.
+    /// Returns a fault of the rule that the value breaks, and `NoMemory` if memory runs out.
     fn read(&self, alloc: Global, done: &[T], v: &Value, at: &Path) -> Result<T, DocError>
         requires room { length at.now ≤ room }
         ensures value { Answers (reading self.now at.now done.now (view v.now)) (λ x. x) result }
@@ -41,7 +41,7 @@ pub trait Elements<T: Drop> {
 ///
 /// # Errors
 ///
-/// Returns the rule that the first faulty element breaks, and `NoMemory` if memory runs out.
+/// Returns a fault of the rule that the first faulty element breaks, and `NoMemory` if memory runs out.
 pub fn read_items<T: Drop, E: Elements<T>>(
     alloc: Global,
     elements: &E,
@@ -86,8 +86,8 @@ impl Lengths {
 ///
 /// # Errors
 ///
-/// Returns rule 5 if the value is not a list, rule 6 if its length is not within `lengths`, or else the rule that the
-/// first faulty element breaks. Returns `NoMemory` if memory runs out.
+/// Returns a fault of rule 5 if the value is not a list, of rule 6 if its length is not within `lengths`, and
+/// otherwise of the rule that the first faulty element breaks. Returns `NoMemory` if memory runs out.
 pub fn read_list<T: Drop, E: Elements<T>>(
     alloc: Global,
     elements: &E,

@@ -176,7 +176,7 @@ pub trait NamedElements<T: Drop, N: Naming<T>> {
     ///
     /// # Errors
     ///
-    /// Returns the rule that the value breaks, and `NoMemory` if memory runs out.
+    /// Returns a fault of the rule that the value breaks, and `NoMemory` if memory runs out.
     fn read(
         &self,
         alloc: Global,
@@ -218,8 +218,8 @@ pub fn read_named_items<T: Drop, N: Naming<T>, E: NamedElements<T, N>>(
 ///
 /// # Errors
 ///
-/// Returns rule 5 if the value is not a list, rule 6 if its length is not within `lengths`, or else the rule that the
-/// first faulty element breaks. Returns `NoMemory` if memory runs out.
+/// Returns a fault of rule 5 if the value is not a list, of rule 6 if its length is not within `lengths`, and
+/// otherwise of the rule that the first faulty element breaks. Returns `NoMemory` if memory runs out.
 pub fn read_named_list<T: Drop, N: Naming<T>, E: NamedElements<T, N>>(
     alloc: Global,
     elements: &E,

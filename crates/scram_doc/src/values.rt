@@ -11,8 +11,8 @@ use serde_json::Value;
 ///
 /// # Errors
 ///
-/// Returns rule 5 at the path if the value is not a list. Returns rule 6 at the path if the list has fewer than
-/// `least` or more than `most` elements.
+/// Returns a fault of rule 5 at the path if the value is not a list, and of rule 6 at the path if the list has fewer
+/// than `least` or more than `most` elements.
 pub fn list<'a>(v: &'a Value, least: usize, most: usize, at: &Path) -> Result<&'a [Value], DocFault>
     ensures items { ok_map (λ ds. items_view ds.now) result ≡ list_at least most at.now (view v.now) }
     ensures least { IfOk result (λ ds. least ≤ length ds.now) }

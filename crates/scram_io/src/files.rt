@@ -10,7 +10,7 @@ use std::io;
 use std::io::ErrorKind;
 use thiserror::Error;
 
-/// The reason why a file was not read. Running out of memory is a reason of its own, never merged with another.
+/// The reason why a file was not read. Out of memory is a separate reason and is never merged with another reason.
 #[derive(Clone, Copy, Debug, PartialEq, Eq, Error)]
 pub enum ReadFault {
     /// The file could not be read. The count of faults rose.

@@ -1,4 +1,4 @@
-//! The test if a call is listed among the calls that are to fail.
+//! The test of whether a call is listed among the calls that are to fail.
 ghost use Rattle.std.specs.Prelude.{◌≡◌};
 ghost use Rattle.scram_io.specs.Memory.{is_listed};
 

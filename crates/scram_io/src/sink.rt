@@ -1,4 +1,4 @@
-//! Sinks that are written.
+//! Sinks to which bytes are written.
 ghost use Rattle.std.specs.Prelude.{◌<◌, IfSome};
 ghost use Rattle.scram_io.specs.Outside.{Flushes, Prints, SinkState, greatest_count};
 

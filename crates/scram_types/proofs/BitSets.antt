@@ -32,7 +32,7 @@ no_bit_past set n p few past = rw (no_bit set n p few past) refl
 pub no_high_bit : (set p : ℕ) → set < 256 → 8 ≤ p → has_bit set p ≡ false
 no_high_bit set p few high = rw (no_bit set 8 p few high) refl
 
--- The lower `n + 1` bits of a number are bit `n` and the lower `n` bits.
+-- The lower `n + 1` bits of a number consist of bit `n` and the lower `n` bits.
 pub low_bits : (set n : ℕ) → set % 2 ^ suc n ≡ bit_at set n * 2 ^ n + set % 2 ^ n
 low_bits set n = let e : suc n ≡ 1 + n = omega arith in rw e (mod-pow-add set 1 n)
 
@@ -157,7 +157,7 @@ last_more : (b t : Bool) (c : ℕ) → (b ≡ true → t ≡ false) → c + bit_
 last_more true t c f = rw (f refl) (omega arith)
 last_more false t c f = omega arith
 
--- If a number that did not pass a test passes the extended test, the count rises by one.
+-- If a test is extended by a number that did not pass it, the count of the numbers that pass rises by one.
 pub count_more : (s : ℕ → Bool) (q n : ℕ) (b : Bool) → q < n → (b ≡ true → s q ≡ false) → count_below (λ p. (q == p && b) || s p) n ≡ count_below s n + bit_of b
 count_more s q zero b less apart = absurd (omega arith)
 count_more s q (suc n) b less apart = elim (below_or_at q n less) [

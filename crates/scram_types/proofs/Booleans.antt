@@ -28,7 +28,7 @@ same_test true b h k = sym (h refl)
 same_test false true h k = k refl
 same_test false false h k = refl
 
--- If the first test implies that the second one fails, not both pass.
+-- If the second test fails whenever the first one passes, the two tests do not both pass.
 pub both_false : (a b : Bool) → (a ≡ true → b ≡ false) → (a && b) ≡ false
 both_false true b f = f refl
 both_false false b f = refl

@@ -218,7 +218,8 @@ pub record IsPrecondition (apps : List AppSpec) (confs : List Conf) (pre : Preco
   pub conf : IsIn confs pre.conf
   pub interval : IsInterval apps pre.app pre.variable pre.least pre.greatest
 
--- Application `a` exists and lists each of the modes, which are at most three and differ from each other.
+-- Application `a`, which a demand requires to be on, exists and lists each mode that the demand allows. There are at
+-- most three such modes, and no mode is listed twice.
 pub record IsOn (apps : List AppSpec) (a : ℕ) (modes : List Mode) : Type 0 where
   pub app : AppSpec
   pub there : slice_get apps a ≡ Some app

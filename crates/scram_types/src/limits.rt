@@ -18,7 +18,7 @@ pub const MIN_VALUES: usize = 2;
 pub const MAX_RULES: usize = 64;
 /// The maximum number of bounds on reconfigurations: one for each pair of configurations.
 pub const MAX_BOUNDS: usize = 144;
-/// The maximum number of invariants, and also of preconditions.
+/// The maximum number of invariants of a specification, and the maximum number of its preconditions.
 pub const MAX_INTERVALS: usize = 64;
 /// The maximum number of demands of a specification.
 pub const MAX_DEMANDS: usize = 64;
@@ -28,9 +28,10 @@ pub const MAX_LOAD: u32 = 1_000_000;
 pub const MAX_PHASE: u8 = 16;
 /// The maximum bound on a reconfiguration, in frames; the minimum is 1.
 pub const MAX_BOUND: u32 = 1_000;
-/// The maximum number of processors that the failure assumption can allow to be down at once.
+/// The maximum number of processors that the failure assumption can allow to be down at the same time.
 pub const MAX_ASSUMED_HALTS: u8 = 8;
-/// The maximum number of further changes that the failure assumption can allow in a window.
+/// The maximum number of changes of the environment, after the first change, that the failure assumption can allow in
+/// a window.
 pub const MAX_ASSUMED_CHANGES: u8 = 16;
 /// The maximum length of the window of the failure assumption, in frames; the minimum is 1.
 pub const MAX_WINDOW: u32 = 1_000;

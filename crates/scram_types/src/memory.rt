@@ -2,7 +2,7 @@
 
 use std::alloc::{AllocError, AllocFailed};
 
-/// The error of an allocation that failed. It is an error of its own everywhere and is never merged with another.
+/// The error of an allocation that failed. It is a separate error everywhere and is never merged with another error.
 #[derive(Clone, Copy, Debug, PartialEq, Eq)]
 pub struct NoMemory;
 

@@ -27,8 +27,9 @@ pub struct Goal {
     pub heading: i64,
 }
 
-/// The environment, which the choice table takes into account. Bit `p` of `up` is set if processor `p` is up; bits
-/// past the last processor are clear. `factors` holds the number of each factor's value, and 0 past the last factor.
+/// The environment, on which the choices of the choice table depend. Bit `p` of `up` is set if processor `p` is up;
+/// bits past the last processor are clear. `factors` holds the number of each factor's value, and 0 past the last
+/// factor.
 #[derive(Clone, Copy, Debug, PartialEq, Eq)]
 pub struct Env {
     pub up: u8,

@@ -136,8 +136,8 @@ pub struct Demand {
 }
 
 /// A specification. Its creator proves `IsSpec`: names differ within their class, indexes are in range, the limits
-/// hold, and a needed application has a lower rank. Modes are modes of their kind, and the mode of a place is one that
-/// its application lists.
+/// hold, and a needed application has a lower rank. Modes are modes of their kind, and the mode of a place is listed
+/// by its application.
 ///
 /// `halts`, `changes` and `window` are the failure assumption. At most `halts` processors are down at once, and any
 /// `window` consecutive frames hold at most `changes + 1` frames in which the environment changes.
