@@ -34,8 +34,8 @@ applies_from demand c = is_empty_or_holds demand.from c
 abbrev pub modes_allow : List Mode → Mode → Bool
 modes_allow modes mode = length modes == 0 || is_among modes mode.0
 
--- A place meets a demand for an application. If the demand lists modes, the application is on, in an allowed mode. If
--- the modes are `None`, any place meets the demand, and so does no place.
+-- A place meets a demand for an application. If the demand requires the application to be on, the place is in an
+-- allowed mode. If the modes are `None`, the application may have any place or be off.
 abbrev pub is_placed : Option (List Mode) → Option Place → Bool
 is_placed None place = true
 is_placed (Some modes) None = false

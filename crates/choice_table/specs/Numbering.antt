@@ -36,7 +36,7 @@ values_of (factor ∷ factors) digits = digits / combinations factors ∷ values
 abbrev pub number_of : Parts → Env → ℕ
 number_of spec v = down_set spec v * combinations spec.factors + digits_of spec.factors v.factors
 
--- The number of environments. The environments have the numbers from 0 on below it.
+-- The number of environments. They are numbered from 0 to one less than this number.
 abbrev pub environments : Parts → ℕ
 environments spec = 2 ^ length spec.procs * combinations spec.factors
 

@@ -145,7 +145,7 @@ fn count_environments(spec: &Spec) -> u32
     count_sets(spec) * count_combinations(spec)
 }
 
-// Returns the number of sets of processors, from none to all.
+// Returns the number of sets of processors, the empty set included.
 fn count_sets(spec: &Spec) -> u32
     ensures value { result ≡ 2 ^ length spec.now.procs }
     ensures least { 1 ≤ result }

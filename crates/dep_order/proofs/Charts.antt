@@ -5,7 +5,7 @@ use Rattle.scram_types.proofs.Searches.{greatest_same, greatest_within}
 use Rattle.scram_types.specs.Searches.{greatest_below}
 use Rattle.dep_order.specs.Chains.{Chart, longest, offset, time_added}
 
--- Charts that agree have equal offsets.
+-- Two charts agree in their applications, in what is on, in the order and in the times.
 
 pub record Agree (one other : Chart) : Type 0 where
   pub apps : one.apps ≡ other.apps

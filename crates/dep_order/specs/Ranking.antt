@@ -11,8 +11,8 @@ rank_in ranks a = option_and_then (λ (rank : Option ℕ). rank) (slice_get rank
 abbrev pub is_unranked : List (Option ℕ) → ℕ → Bool
 is_unranked ranks a = is_none (rank_in ranks a)
 
--- The maximum of `least` and one more than each rank of the needed applications, or `None` if one of them has no
--- rank.
+-- The maximum of `least` and one more than each rank of the needed applications, or `None` if a needed application
+-- has no rank.
 abbrev pub ready : ℕ → List (Option ℕ) → List AppId → Option ℕ
 ready least ranks [] = Some least
 ready least ranks (needed ∷ needs) = option_and_then (λ (rank : ℕ). ready (max least (rank + 1)) ranks needs) (rank_in ranks needed.0)

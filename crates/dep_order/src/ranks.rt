@@ -76,8 +76,8 @@ fn is_without_rank(ranks: &Ranks, a: usize) -> bool
     ranks[a].is_none()
 }
 
-// Returns one more than the maximum rank of the needed applications, 0 if there are none, or `None` if one of them has
-// no rank.
+// Returns one more than the maximum rank of the needed applications, or 0 if no application is needed. Returns `None`
+// if a needed application has no rank.
 fn rank_after(ranks: &Ranks, needs: &[AppId]) -> Option<u8>
     requires { AreSmall ranks.now }
     ensures { result ≡ ready 0 ranks.now needs.now }
@@ -132,7 +132,7 @@ fn find_waiting(ranks: &Ranks, needs: &[AppId]) -> Option<AppId>
     None
 }
 
-// Returns the first application without a rank that `a` needs. `a` has no rank, and its needs determine none yet.
+// Returns the first application without a rank among the needs of application `a`, which has no rank either.
 fn wait_of(apps: &[AppSpec], ranks: &Ranks, a: AppId) -> AppId
     requires needs { NeedsInRange apps.now }
     requires stuck { IsStuck apps.now ranks.now }

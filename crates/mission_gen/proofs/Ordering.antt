@@ -55,7 +55,7 @@ length_more : (xs ys : List Turn) → length (xs ++ ys) ≡ length xs + length y
 length_more [] ys = omega arith
 length_more (x ∷ xs) ys = let known = length_more xs ys in omega (arith, known)
 
--- The turns of a block, given the results of its three tests, are sorted and number at most three.
+-- The turns of a block, given the results of its three tests, are sorted, and there are at most three.
 block_kept : (k x : ℕ) (fifth third other : Bool) →
     Kept (60 * k) (60 * k + 16) 3
     (if fifth then []

@@ -11,7 +11,8 @@ use Rattle.spec_apps.specs.declared.fault.SpecError.TheVariants.{Fault, NoMemory
 use Rattle.spec_members.specs.Names.{name_of_app}
 use Rattle.spec_apps.specs.Needs.{are_ranked}
 
--- A result is that of the reading, without the cycle of a fault, or `NoMemory`.
+-- A result agrees with that of the reading, apart from the cycle and the names that a fault contains, or it is
+-- `NoMemory`.
 abbrev pub AnswersSpec : {A : Type 0} → Result A DocFault → Result A SpecError → Type 0
 AnswersSpec reading (Ok a) = reading ≡ Ok a
 AnswersSpec reading (Err (Fault fault)) = reading ≡ Err (record { rule = fault.rule; path = fault.path })

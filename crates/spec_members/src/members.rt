@@ -64,7 +64,7 @@ fn find_demands<'a>(document: &'a Value, scram: &Value) -> Result<Option<&'a Val
     }
 }
 
-/// Checks that a document has no more members than its version.
+/// Checks that a document has no more members than its version allows.
 fn check_count(document: &Value, scram: &Value) -> Result<(), DocFault>
     requires scram { required_at (codes "scram") [] (view document.now) ≡ Ok (view scram.now) }
     ensures { result ≡ no_more_than (members_count (view document.now)) [] (view document.now) }
