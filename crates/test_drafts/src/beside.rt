@@ -1,4 +1,4 @@
-//! Frames that two live processors draft, compared with the frames of one thread.
+//! Frames that two live processors draft, compared with the same frames on one thread.
 
 ghost use Rattle.std.specs.Prelude.{◌<◌};
 
@@ -15,8 +15,8 @@ use std::io::{self, ErrorKind};
 use std::rt::HostRuntime;
 use test_kit::{Counters, print_image};
 
-/// Flies `uav`, and prints how often the autopilots were called. The racks are those of its processors, and the racks
-/// of the one thread have no boxes.
+/// Flies `uav` with these racks for its two processors, and prints the results and the numbers of calls of the
+/// autopilots. The racks of the flight on one thread have no boxes.
 pub fn start(rt: &HostRuntime, rack: Rack, other: Rack, counters: &Counters) -> io::Result<()> {
     let racks = empty_racks(rt.alloc())?;
     let one = Live::new(ProcId(0), rack);
@@ -36,7 +36,7 @@ pub fn start(rt: &HostRuntime, rack: Rack, other: Rack, counters: &Counters) -> 
     )
 }
 
-/// Flies the frames, and halts the second processor after them.
+/// Flies all frames, halts the second processor after them, and restarts it.
 fn fly(
     rt: &HostRuntime,
     spec: &Spec,
@@ -60,7 +60,7 @@ fn fly(
     }
 }
 
-/// Halts a processor after the last frame, and restarts it if there is a rack for it.
+/// Halts a processor after the last frame, and restarts it if there is a spare rack. Prints both.
 fn print_return(rt: &HostRuntime, live: Live, spare: Option<Rack>) -> io::Result<()>
     requires { live.proc.0 < 8 }
 {
@@ -72,7 +72,7 @@ fn print_return(rt: &HostRuntime, live: Live, spare: Option<Rack>) -> io::Result
     }
 }
 
-/// Flies fourteen frames, and prints the drafts of three frames and the results of all.
+/// Flies fourteen frames. Prints the start images, the drafts of three frames, and each area that differs.
 fn fly_all(
     rt: &HostRuntime,
     spec: &Spec,
@@ -100,7 +100,7 @@ fn fly_all(
     Ok(())
 }
 
-/// Returns the input of a frame. The first alternator is failed from frame 10 on.
+/// Returns the input of a frame. The first alternator has failed from frame 10 on.
 fn input_of(frame: u32) -> Input {
     let mut factors = [0; 6];
     if frame >= 10 {
@@ -114,7 +114,7 @@ fn input_of(frame: u32) -> Input {
     }
 }
 
-/// Returns the snapshot that the processors see in a frame.
+/// Returns the snapshot that the processors see in a frame, given the state before the frame and its input.
 fn snapshot(spec: &Spec, sys: &Sys, input: &Input, images: &[Image; 8]) -> Snapshot {
     let factors = input.factors;
     let env = Env {
@@ -135,7 +135,7 @@ fn snapshot(spec: &Spec, sys: &Sys, input: &Input, images: &[Image; 8]) -> Snaps
     }
 }
 
-/// Returns the start images, with each area in its keeper's image.
+/// Returns the start images. The image of each keeper has the areas that it keeps.
 fn start_images(sys: &Sys) -> [Image; 8] {
     let mut images = [[0; 64]; 8];
     for a in 0..8 {
@@ -156,7 +156,7 @@ fn put_area(image: &mut Image, a: usize, area: &Area)
     }
 }
 
-/// Prints the drafts of frames 0, 10 and 13.
+/// Prints the drafts of a frame if it is frame 0, 10 or 13.
 fn print_frame(rt: &HostRuntime, spec: &Spec, row: &Row, images: &[Image; 8]) -> io::Result<()> {
     if row.frame != 0 && row.frame != 10 && row.frame != 13 {
         return Ok(());
@@ -165,13 +165,13 @@ fn print_frame(rt: &HostRuntime, spec: &Spec, row: &Row, images: &[Image; 8]) ->
     print_images(rt, spec, images)
 }
 
-/// Prints the images of the two processors.
+/// Prints the images of the first two processors.
 fn print_images(rt: &HostRuntime, spec: &Spec, images: &[Image; 8]) -> io::Result<()> {
     print_image(rt, spec, 0, &images[0])?;
     print_image(rt, spec, 1, &images[1])
 }
 
-/// Prints each area that is not in its keeper's image after the frame.
+/// Prints a line for each area of a row that differs from the slot in its keeper's image.
 fn print_areas(rt: &HostRuntime, sys: &Sys, row: &Row, images: &[Image; 8]) -> io::Result<()> {
     for a in 0..8 {
         if let Some(keeper) = sys.keepers[a] {

@@ -1,8 +1,8 @@
-//! Drafts of live processors with real boxes. The aircraft `uav` flies fourteen frames, and its first alternator fails
-//! in frame 10. Each processor drafts every frame from what it sees, and all images are those drafts. The same frames
-//! are flown on one thread, without boxes. The program prints the start images and the drafts of frames 0, 10 and 13,
-//! worked out by hand. It also prints each flown area that is not in its keeper's image, and how often the boxes at the
-//! autopilots' places were called.
+//! Drafts of live processors with real boxes, compared with the same frames on one thread without boxes. The aircraft
+//! `uav` flies fourteen frames, and its first alternator fails in frame 10. Each processor drafts every frame from
+//! what it sees, and all images are these drafts. The program prints the start images and the drafts of frames 0, 10
+//! and 13, which are worked out by hand. It also prints each area of a row that differs from its keeper's image, and
+//! the number of calls of the box at each autopilot's place.
 #![tactic(auto)]
 
 mod beside;

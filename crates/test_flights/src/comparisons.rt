@@ -16,8 +16,8 @@ use test_kit::{fly_alone, is_same, number, split_word};
 /// The number of times that each mission is flown with a thread for each processor.
 const TIMES: u32 = 50;
 
-/// The numbers of flights that gave what was expected: over words, over a lock, and by the histories of the flights
-/// over the lock.
+/// The numbers of flights with the expected result: over words, over a lock, and flown again by the histories of the
+/// flights over the lock.
 #[derive(Clone, Copy, Debug)]
 struct Counts {
     words: u32,
@@ -25,8 +25,8 @@ struct Counts {
     again: u32,
 }
 
-/// Flights of one mission. It has the processors for which a thread is asked, as text and by index, and how often the
-/// mission is flown.
+/// A series of flights of one mission: a description of the processors that get a thread, these processors by index,
+/// or `None` for all, and the number of flights.
 #[derive(Clone, Copy, Debug)]
 struct Trial<'a> {
     whom: &'a str,
@@ -35,7 +35,7 @@ struct Trial<'a> {
 }
 
 impl<'a> Trial<'a> {
-    /// Returns a trial of one flight with threads for these processors.
+    /// Returns a trial of one flight with threads for the processors in `asked`.
     fn once(whom: &'a str, asked: [bool; 8]) -> Trial<'a> {
         Trial {
             whom,
@@ -62,7 +62,8 @@ impl Counts {
     }
 }
 
-/// Flies the mission of two files on one thread and on threads, over words and over a lock, and prints the results.
+/// Flies the mission whose files are named in `words` on one thread and on threads, over words and over a lock, and
+/// prints the results.
 pub fn fly<R: AllocGlobal + Threads + Wait + Sync>(
     rt: &HostRuntime,
     threads: &R,
@@ -109,7 +110,7 @@ fn fly_trials<R: AllocGlobal + Threads + Wait + Sync>(
     print_flights(rt, threads, mission, wanted, last)
 }
 
-/// Flies a mission as often as a trial says, and prints how often the result was the expected one.
+/// Flies a mission for a trial, and prints how often the result was the expected one.
 fn print_flights<R: AllocGlobal + Threads + Wait + Sync>(
     rt: &HostRuntime,
     threads: &R,
@@ -133,8 +134,8 @@ fn count_flights<R: AllocGlobal + Threads + Wait + Sync>(
     Ok(counts)
 }
 
-/// Flies the mission of two files for each step below a count, and prints how often the result was that of one thread
-/// and step 0.
+/// Flies a mission for each step below a count, and prints how often the result was that of one thread and step 0.
+/// The count and the names of the mission's files are in `words`.
 pub fn fly_steps<R: AllocGlobal + Threads + Wait + Sync>(
     rt: &HostRuntime,
     threads: &R,
@@ -206,7 +207,7 @@ fn print_wanted(rt: &HostRuntime, wanted: &Flown) -> io::Result<()> {
     )
 }
 
-/// Returns all processors but the one at an index.
+/// Returns the set of all processors except for the one at an index.
 fn all_but(place: usize) -> [bool; 8] {
     let mut asked = [true; 8];
     if place < 8 {
@@ -215,7 +216,7 @@ fn all_but(place: usize) -> [bool; 8] {
     asked
 }
 
-/// Flies a mission over words, over a lock, and by the history of the flight over the lock, and counts the expected
+/// Flies a mission over words, over a lock, and again by the history of the flight over the lock. Counts the expected
 /// results.
 fn fly_both<R: AllocGlobal + Threads + Wait + Sync>(
     rt: &R,

@@ -1,4 +1,4 @@
-//! Flights over both decks.
+//! Flights over both decks: over words, and over a core under a lock.
 
 ghost use Rattle.std.specs.Prelude.{◌≡◌, IfOk};
 ghost use Rattle.event_core.specs.Cores.{core_places, core_flight};
@@ -15,14 +15,14 @@ use std::sync::Wait;
 use std::thread::Threads;
 use word_deck::WordFlight;
 
-/// The state that the processors of a flight share: words, or a core under a lock.
+/// The state that the threads of a flight share: words, or a core under a lock.
 #[derive(Clone, Copy, Debug)]
 pub enum Deck {
     Words,
     Lock,
 }
 
-/// Flies a mission with a thread for each processor, and with racks without boxes.
+/// Flies a mission with a thread for each processor and without boxes.
 pub fn fly_over<R: AllocGlobal + Threads + Wait + Sync>(
     rt: &R,
     mission: &Mission,
@@ -32,7 +32,7 @@ pub fn fly_over<R: AllocGlobal + Threads + Wait + Sync>(
     fly_with(rt, mission, deck, boxes)
 }
 
-/// Flies a mission with a thread for each processor, with these racks.
+/// Flies a mission with a thread for each processor, and with these racks.
 pub fn fly_with<R: AllocGlobal + Threads + Wait + Sync>(
     rt: &R,
     mission: &Mission,
@@ -45,7 +45,7 @@ pub fn fly_with<R: AllocGlobal + Threads + Wait + Sync>(
     }
 }
 
-/// Flies a mission over words, with a thread for each processor or for those in `asked`.
+/// Flies a mission over words, with a thread for each processor in `asked`, or for all processors if it is `None`.
 pub fn fly_over_words<R: AllocGlobal + Threads + Wait + Sync>(
     rt: &R,
     mission: &Mission,
@@ -61,8 +61,8 @@ pub fn fly_over_words<R: AllocGlobal + Threads + Wait + Sync>(
     }
 }
 
-/// Flies a mission over a lock, with a thread for each processor or for those in `asked`, and returns the core at its
-/// end.
+/// Flies a mission over a lock, with a thread for each processor in `asked`, or for all processors if it is `None`.
+/// Returns the core at the end of the flight.
 pub fn fly_over_lock<'a, R: AllocGlobal + Threads + Wait + Sync>(
     rt: &R,
     mission: &'a Mission,

@@ -13,7 +13,7 @@ pub struct Documents {
     pub script: String,
 }
 
-/// Returns the texts of the files of these two names.
+/// Reads the two files whose names are given, separated by a space.
 pub fn read_documents(rt: &HostRuntime, names: &str) -> io::Result<Documents> {
     let (spec, script) = split_word(names);
     Ok(Documents {
@@ -22,13 +22,13 @@ pub fn read_documents(rt: &HostRuntime, names: &str) -> io::Result<Documents> {
     })
 }
 
-/// Returns the mission of the files of these two names.
+/// Reads the mission from the two files whose names are given, separated by a space.
 pub fn read_mission(rt: &HostRuntime, names: &str) -> io::Result<Mission> {
     read_documents(rt, names)?.mission(rt.alloc(), 0)
 }
 
 impl Documents {
-    /// Returns the mission of both texts, with a step in the place of `STEP`, if the script has it.
+    /// Returns the mission of the two texts. The step replaces `STEP` in the script, if it occurs there.
     pub fn mission(&self, alloc: Global, step: u32) -> io::Result<Mission> {
         let script = fill(alloc, self.script.as_str(), "STEP", step)?;
         mission_of_texts(alloc, self.spec.as_str(), script.as_str())

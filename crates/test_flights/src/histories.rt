@@ -1,4 +1,4 @@
-//! Flights over a lock, flown again by their histories.
+//! Flights over a lock that are flown again by their histories.
 
 ghost use Rattle.std.specs.Prelude.{◌≡◌};
 ghost use Rattle.event_core.specs.Cores.{core_places, core_flight};
@@ -17,7 +17,7 @@ use std::io::{self, ErrorKind};
 use std::sync::Wait;
 use std::thread::Threads;
 
-/// Flies a mission over a lock, and returns the result and the history as text.
+/// Flies a mission over a lock, and returns the result and the history, which is written as text.
 pub fn fly_and_write<R: AllocGlobal + Threads + Wait + Sync>(
     rt: &R,
     mission: &Mission,
@@ -30,7 +30,7 @@ pub fn fly_and_write<R: AllocGlobal + Threads + Wait + Sync>(
     }
 }
 
-/// Returns what came of a flight that is over, and its history as a text.
+/// Returns the result of a flight that is over, and its history, which is written as text.
 fn finish(alloc: Global, mission: &Mission, core: Core) -> io::Result<(Flown, Vec<u8>)>
     requires spec { core.spec ≡ mission.now.spec }
     requires over { IsOver (core_flight core) (core_places core) }
@@ -54,8 +54,8 @@ fn write_history(alloc: Global, mission: &Mission, core: &Core) -> io::Result<Ve
     }
 }
 
-/// Reads a history that was written, flies by it again on one thread, and returns the result. The history must be a
-/// schedule at whose end the flight is over.
+/// Reads the text of a history, flies a mission by it on one thread, and returns the result. Returns an error if the
+/// history is not a schedule of the whole flight.
 pub fn fly_again<R: AllocGlobal>(rt: &R, mission: &Mission, text: &[u8]) -> io::Result<Flown> {
     match read_schedule(rt.alloc(), text, mission.spec()) {
         Ok(events) => replay_events(rt, mission, &events),

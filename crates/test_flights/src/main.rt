@@ -1,13 +1,23 @@
-//! Flights on threads. A row of `rows.txt` is a form with its words. The specifications and scripts are files beside
-//! it, and blank lines separate the rows. `fly SPEC SCRIPT` flies the mission on one thread, and many times on threads
-//! over words and over a lock. Each processor has a thread, or only some of them have. It writes the history of each
-//! flight over the lock, reads it and flies by it again. It prints how often each result was that of one thread. `steps
-//! COUNT SPEC SCRIPT` does so once for each step below `COUNT`, which replaces `STEP` in the script, and compares all
-//! with the one thread of step 0. `meet SPEC SCRIPT` flies the mission over both decks with boxes that count their
-//! calls. Each box of the first two processors waits until a box of the other one was called. So no box waits in vain
-//! if both have threads, and the first one called does if one thread flies both. A box is called once in each frame in
-//! which its processor hosts its application, in its first rack until a halt, and in its spare rack after a restart.
-//! `repeat DECK TIMES SPEC SCRIPT` flies the mission `TIMES` times and compares nothing, so that it can be timed.
+//! Flights on threads, compared with flights on one thread.
+//!
+//! Each row of `rows.txt` has one of the following forms, and blank lines separate the rows. `SPEC` and `SCRIPT` are
+//! names of files beside `rows.txt`.
+//!
+//! - `fly SPEC SCRIPT`: Flies the mission on one thread, and then on threads over words and over a lock: many times
+//!   with a thread for each processor, and once each with threads for none, for all but the first, and for all but
+//!   the last. The history of each flight over the lock is written, read, and flown again. Prints how often each
+//!   result was that of one thread.
+//! - `steps COUNT SPEC SCRIPT`: Does the same once for each step below `COUNT`, with a thread for each processor. The
+//!   step replaces `STEP` in the script. All results are compared with that of one thread and step 0.
+//! - `meet SPEC SCRIPT`: Flies the mission over words and over a lock with boxes that count their calls, and prints
+//!   the counts.
+//! - `repeat DECK TIMES SPEC SCRIPT`: Flies the mission `TIMES` times without comparing the results, so that the
+//!   flights can be timed.
+//!
+//! In a row of the form `meet`, each box of the first two processors waits until a box of the other one has been
+//! called. If both processors have threads, no box waits in vain. If one thread flies both, the box that is called
+//! first waits in vain. A box is called once in each frame in which its processor hosts its application. The box is
+//! in the first rack of the processor until a halt, and in its spare rack after a restart.
 #![tactic(auto)]
 
 mod comparisons;
@@ -30,7 +40,7 @@ fn main(rt: HostRuntime) -> io::Result<()> {
     each_row(&rt, |title, _lines| answer(&rt, &rt, title))
 }
 
-/// Answers a row.
+/// Does what a row requests, and prints the results.
 fn answer<R: AllocGlobal + Threads + Wait + Sync>(
     rt: &HostRuntime,
     threads: &R,

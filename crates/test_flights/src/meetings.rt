@@ -1,4 +1,5 @@
-//! Flights in which boxes of two processors wait for one another, so that they end in time only if each has a thread.
+//! Flights in which boxes of two processors wait for one another. Such a flight ends in time only if both processors
+//! have a thread.
 
 use crate::decks::{Deck, fly_with};
 use crate::documents::read_mission;
@@ -12,7 +13,8 @@ use std::sync::Wait;
 use std::thread::Threads;
 use test_kit::{Counters, counted_racks, counted_spares, fly_alone, is_same};
 
-/// Flies the mission of two files over words and over a lock with boxes that count their calls, and prints the counts.
+/// Flies the mission whose files are named in `words`, over words and over a lock, with boxes that count their calls.
+/// Prints the counts.
 pub fn meet<R: AllocGlobal + Threads + Wait + Sync>(
     rt: &HostRuntime,
     threads: &R,
@@ -71,7 +73,7 @@ fn fly_counted<R: AllocGlobal + Threads + Wait + Sync>(
     fly_fitting(rt, mission, deck, racks, spares)
 }
 
-/// Flies a mission with these boxes, if each is of the kind of its place.
+/// Flies a mission with these boxes, or returns an error if a box is not of the kind of its place in the rack.
 fn fly_fitting<R: AllocGlobal + Threads + Wait + Sync>(
     rt: &R,
     mission: &Mission,

@@ -1,4 +1,4 @@
-//! Flights to be timed.
+//! Flights that are repeated so that they can be timed.
 
 use crate::decks::{Deck, fly_over};
 use crate::documents::read_mission;
@@ -11,8 +11,8 @@ use std::sync::Wait;
 use std::thread::Threads;
 use test_kit::{fly_alone, number, split_word};
 
-/// Flies the mission of two files over a deck again and again. It prints the number of rows of the last flight, and how
-/// many flights had a row for each frame.
+/// Flies a mission over a deck a number of times. Prints the number of rows of the last flight, and the number of
+/// flights that had a row for each frame. The deck, the number and the names of the mission's files are in `words`.
 pub fn repeat<R: AllocGlobal + Threads + Wait + Sync>(
     rt: &HostRuntime,
     threads: &R,
@@ -58,7 +58,7 @@ fn fly_once<R: AllocGlobal + Threads + Wait + Sync>(
     }
 }
 
-/// Returns the deck of a name, or `None` for one thread.
+/// Returns the deck of this name, `None` for the name of flights on one thread, or an error for any other name.
 fn deck_named(name: &str) -> io::Result<Option<Deck>> {
     match name {
         "words" => Ok(Some(Deck::Words)),

@@ -1,4 +1,4 @@
-//! A box that counts its calls.
+//! Boxes that count their calls.
 
 ghost use Rattle.std.specs.Prelude.{◌≡◌};
 
@@ -8,11 +8,11 @@ use scram_types::{Area, KindId, Order};
 use std::hint::spin_loop;
 use std::sync::atomic::Ordering;
 
-/// The maximum number of times that a waiting box checks for the awaited call.
+/// The maximum number of times that a box checks whether the awaited call has come.
 const TURNS: u32 = 50_000_000;
 
-/// A wrapper of a box that counts its calls and gives the wrapped box's results. If it has a rack to wait for, each
-/// call first spins until a box of that rack has been called.
+/// A wrapper of a box that counts the calls and returns the results of the box. If it has a rack to wait for, each
+/// call first spins until a box of that rack has been called, or until the wait is given up.
 #[derive(Drop)]
 pub struct Counted<B: App> {
     app: B,
@@ -56,7 +56,8 @@ fn count(calls: &Calls, kind: KindId) {
     }
 }
 
-/// Spins until a box has been called, at most `TURNS` times, and returns whether one has.
+/// Spins until a box has been called, or until `TURNS` checks have been made. Returns `true` if a box has been
+/// called.
 fn wait_for(calls: &Calls) -> bool {
     for _ in 0..TURNS {
         if calls.any() {

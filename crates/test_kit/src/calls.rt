@@ -5,12 +5,12 @@ use std::io;
 use std::rt::HostRuntime;
 use std::sync::atomic::{AtomicU64, Ordering};
 
-/// The numbers of calls of a rack's boxes, by kind, and the number of calls that waited in vain.
+/// The numbers of calls of the boxes of a rack, by kind, and the number of calls that waited in vain.
 #[derive(Drop)]
 pub struct Calls {
-    /// The number of calls of the boxes of each kind: `kinds[k]` is that of kind `k`.
+    /// The numbers of calls of the boxes: `kinds[k]` is that of the box of kind `k`.
     pub kinds: [AtomicU64; 5],
-    /// The number of calls that waited for a call that did not come.
+    /// The number of calls that waited for a call of another rack that did not come.
     pub in_vain: AtomicU64,
 }
 
@@ -28,7 +28,7 @@ impl Calls {
         }
     }
 
-    /// Returns the number of calls of the boxes of a kind below 5, or 0 for any other kind.
+    /// Returns the number of calls of the box of a kind below 5, or 0 for any other kind.
     pub fn of_kind(&self, kind: u8) -> u64 {
         match self.kinds.get(usize::from(kind)) {
             Some(calls) => calls.load(Ordering::SeqCst),
@@ -36,7 +36,7 @@ impl Calls {
         }
     }
 
-    /// Returns whether any box has been called.
+    /// Returns `true` if any box has been called.
     pub fn any(&self) -> bool {
         let mut any = false;
         for kind in 0..5 {
@@ -57,8 +57,8 @@ impl Calls {
     }
 }
 
-/// The counts of the boxes of the first processor, of the second, and of all others, and of their spare racks. The
-/// counts live as long as the program, as do the boxes that are sent to threads.
+/// The counts for the first rack and the spare rack of the first processor, of the second, and of all others
+/// together. The counts live as long as the program, as do the boxes that are sent to threads.
 #[derive(Drop)]
 pub struct Counters {
     first: &'static Calls,
@@ -70,11 +70,11 @@ pub struct Counters {
 }
 
 impl Counters {
-    /// Creates counters that are all 0.
+    /// Creates counters whose counts are all 0.
     ///
     /// # Errors
     ///
-    /// Out of memory.
+    /// Returns an error if memory runs out.
     pub fn new(alloc: Global) -> Result<Counters, AllocError> {
         Ok(Counters {
             first: Box::leak(Box::new(alloc, Calls::new())?),
@@ -86,7 +86,7 @@ impl Counters {
         })
     }
 
-    /// Returns the counts of the boxes of a processor.
+    /// Returns the counts for the first rack of a processor.
     pub fn own(&self, proc: u32) -> &'static Calls {
         match proc {
             0 => self.first,
@@ -95,7 +95,7 @@ impl Counters {
         }
     }
 
-    /// Returns the counts of the boxes of a processor's spare rack.
+    /// Returns the counts for the spare rack of a processor.
     pub fn spare(&self, proc: u32) -> &'static Calls {
         match proc {
             0 => self.first_spare,
@@ -104,7 +104,7 @@ impl Counters {
         }
     }
 
-    /// Returns the counts of the boxes that the boxes of a processor wait for, or `None` if they wait for none.
+    /// Returns the counts for the rack that the boxes of a processor wait for, or `None` if they do not wait.
     pub fn awaited(&self, proc: u32) -> Option<&'static Calls> {
         match proc {
             0 => Some(self.second),

@@ -5,7 +5,7 @@ use scram_types::{Area, Image, Spec};
 use std::io;
 use std::rt::HostRuntime;
 
-/// Prints the image of processor `proc`, below 8: a line for the area of each application.
+/// Prints the image of processor `proc`, which is below 8. There is a line for the area of each application.
 ///
 /// # Errors
 ///

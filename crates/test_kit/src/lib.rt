@@ -1,7 +1,7 @@
-//! Helpers of the test programs: rows and their lines, missions made from texts, flights on one thread, printing
-//! images, and boxes that count their calls. If a box of one processor waits until a box of another has been called,
-//! and the other way round, the flight ends in time only if both processors have threads. No contract states this: the
-//! number of calls of a box is a matter of test.
+//! Helpers of the test programs: rows and their lines, missions that are made from texts, flights on one thread,
+//! printing of images, and boxes that count their calls. If the boxes of two processors wait for calls of one
+//! another, a flight ends in time only if both processors have threads. No contract states the number of calls of a
+//! box; it can only be tested.
 #![tactic(auto)]
 
 pub mod boxes;

@@ -1,7 +1,8 @@
-//! Macros that make racks of boxes that count. They are macros, since no function can make boxes and return them. Each
-//! `?` in them returns from the calling function if out of memory.
+//! Macros that make racks of boxes that count their calls. They are macros, since no function can make boxes and
+//! return them. If memory runs out, each `?` in them returns from the calling function.
 
-/// Makes a rack of five boxes that count in `$own` and, if `$awaited` is given, wait for a call that is counted there.
+/// Makes a rack of five boxes that count their calls in `$own` and, if `$awaited` is given, wait for a call that is
+/// counted there.
 #[macro_export]
 macro_rules! counted_rack {
     ($rt:expr, $own:expr, $awaited:expr) => {{
@@ -21,8 +22,8 @@ macro_rules! counted_rack {
     }};
 }
 
-/// Makes eight racks of boxes that count in these `Counters`. The boxes of the first two processors wait for each
-/// other.
+/// Makes the first racks of eight processors, with boxes that count their calls in the given `Counters`. The boxes of
+/// the first two processors wait for each other.
 #[macro_export]
 macro_rules! counted_racks {
     ($rt:expr, $counters:expr) => {{
@@ -34,7 +35,7 @@ macro_rules! counted_racks {
     }};
 }
 
-/// Makes eight racks for restarts, of boxes that count in these `Counters`, each for its own processor, and do not
+/// Makes the spare racks of eight processors, with boxes that count their calls in the given `Counters` and do not
 /// wait.
 #[macro_export]
 macro_rules! counted_spares {

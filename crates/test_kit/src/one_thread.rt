@@ -1,4 +1,4 @@
-//! Flights on one thread, with racks without boxes.
+//! Flights on one thread, without boxes.
 
 ghost use Rattle.std.specs.Prelude.{◌≡◌, IfOk, Ok};
 ghost use Rattle.fault_script.specs.Fits.{Fits};
@@ -12,11 +12,11 @@ use std::alloc::Global;
 use std::io::{self, ErrorKind};
 use trace_props::one_thread;
 
-/// Returns the value of a result that may be out of memory.
+/// Returns the value of a result whose only error is out of memory.
 ///
 /// # Errors
 ///
-/// Returns an error if the call ran out of memory.
+/// Returns the error `OutOfMemory` if the result is an error.
 pub fn given<T>(answer: Result<T, NoMemory>) -> io::Result<T>
     ensures { IfOk result (λ value. answer ≡ Ok value) }
 {
@@ -26,11 +26,11 @@ pub fn given<T>(answer: Result<T, NoMemory>) -> io::Result<T>
     }
 }
 
-/// Flies a mission. Returns its rows, and the reconfigurations that are read off them.
+/// Flies a mission on one thread. Returns its rows, and the reconfigurations that are read off them.
 ///
 /// # Errors
 ///
-/// Out of memory.
+/// Returns an error if memory runs out.
 pub fn fly_alone(alloc: Global, mission: &Mission) -> io::Result<Flown>
     ensures rows { IfOk result (λ flown. flown.rows ≡ rows_of mission.now.spec mission.now.script) }
     ensures reports { IfOk result (λ flown. flown.reports ≡ reports_of mission.now.spec mission.now.script) }
@@ -39,12 +39,12 @@ pub fn fly_alone(alloc: Global, mission: &Mission) -> io::Result<Flown>
     given(one_thread(alloc, mission, racks))
 }
 
-/// Flies a script frame by frame, whether or not it keeps to the failure assumption. Returns its rows, and the
+/// Flies a script on one thread, whether or not it keeps to the failure assumption. Returns its rows, and the
 /// reconfigurations that are read off them.
 ///
 /// # Errors
 ///
-/// Out of memory.
+/// Returns an error if memory runs out.
 pub fn fly_frames(alloc: Global, spec: &Spec, script: &Script) -> io::Result<Flown>
     requires { Fits spec.now script.now }
     ensures rows { IfOk result (λ flown. flown.rows ≡ rows_of spec.now script.now) }
@@ -61,7 +61,7 @@ pub fn fly_frames(alloc: Global, spec: &Spec, script: &Script) -> io::Result<Flo
     }
 }
 
-/// Returns whether two flights have equal rows and reports.
+/// Returns `true` if two flights have equal rows and reports.
 pub fn is_same(one: &Flown, other: &Flown) -> bool {
     one.rows.items() == other.rows.items() && one.reports.items() == other.reports.items()
 }

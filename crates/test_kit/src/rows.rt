@@ -1,15 +1,16 @@
-//! The rows that a test program answers.
+//! The rows of a test program.
 
 use std::rt::HostRuntime;
 use std::{fs, io};
 
-/// Answers the rows of `rows.txt`, in order. Rows are separated by a blank line, and the first line of a row is its
-/// title. For each row, the title is printed after `> `, and then `answer` is called with the title and the lines below
-/// it.
+/// Calls `answer` for each row of `rows.txt`, in order. Rows are separated by a blank line, and the first line of a
+/// row is its title. For each row, the title is printed after `> `, and then `answer` is called with the title and
+/// the other lines.
 ///
 /// # Errors
 ///
-/// Returns an error if `rows.txt` cannot be read or a title cannot be printed, or the first error of `answer`.
+/// Returns an error if `rows.txt` cannot be read or a title cannot be printed, and otherwise the first error of
+/// `answer`.
 pub fn each_row<F: Fn(&str, &str) -> io::Result<()>>(rt: &HostRuntime, answer: F) -> io::Result<()>
     requires { F.IsAlwaysCallable answer }
 {

@@ -1,4 +1,4 @@
-//! Specifications, scripts and missions made from texts.
+//! Specifications, scripts and missions that are made from texts.
 
 ghost use Rattle.std.specs.Prelude.{IfOk};
 ghost use Rattle.fault_script.specs.Fits.{Fits};
@@ -19,7 +19,7 @@ use std::rt::HostRuntime;
 ///
 /// # Errors
 ///
-/// Out of memory.
+/// Returns an error if memory runs out.
 pub fn uav_text(alloc: Global) -> io::Result<String> {
     match uav(alloc) {
         Ok(spec) => {
@@ -38,12 +38,12 @@ fn canonical_text(alloc: Global, spec: &Spec) -> io::Result<String> {
     }
 }
 
-/// Returns the specification of a row: the one in the file that its line `on ` names, or `uav` if there is no such
-/// line.
+/// Returns the specification of a row. It is in the file that the line `on FILE` names. If there is no such line, it
+/// is `uav`.
 ///
 /// # Errors
 ///
-/// Returns an error if the file cannot be read or is not a specification, or if out of memory.
+/// Returns an error if the file cannot be read or is not a specification, or if memory runs out.
 pub fn spec_of_row(rt: &HostRuntime, row: &str) -> io::Result<Spec> {
     match line_after(row, "on ") {
         Some(name) => spec_of_file(rt, name),
@@ -56,11 +56,11 @@ fn spec_of_file(rt: &HostRuntime, name: &str) -> io::Result<Spec> {
     spec_of_text(rt.alloc(), text.as_str())
 }
 
-/// Returns the script of a text.
+/// Reads a script from its text.
 ///
 /// # Errors
 ///
-/// Returns an error if the text is not a script for the specification, or if out of memory.
+/// Returns an error if the text is not a script for the specification, or if memory runs out.
 pub fn script_of_text(alloc: Global, spec: &Spec, text: &str) -> io::Result<Script>
     ensures { IfOk result (λ script. Fits spec.now script) }
 {
@@ -70,11 +70,11 @@ pub fn script_of_text(alloc: Global, spec: &Spec, text: &str) -> io::Result<Scri
     }
 }
 
-/// Returns the specification of a text.
+/// Reads a specification from its text.
 ///
 /// # Errors
 ///
-/// Returns an error if the text is not a specification, or if out of memory.
+/// Returns an error if the text is not a specification, or if memory runs out.
 pub fn spec_of_text(alloc: Global, text: &str) -> io::Result<Spec> {
     match read_spec(alloc, text.as_bytes()) {
         Ok(spec) => Ok(spec),
@@ -82,11 +82,12 @@ pub fn spec_of_text(alloc: Global, text: &str) -> io::Result<Spec> {
     }
 }
 
-/// Returns the mission that the texts of a specification and of a script give.
+/// Returns the mission of a specification and a script, which are given as texts.
 ///
 /// # Errors
 ///
-/// Returns an error if a text is not valid or the mission is not accepted, or if out of memory.
+/// Returns an error if a text is not valid, if the specification or the mission is not accepted, or if memory runs
+/// out.
 pub fn mission_of_texts(alloc: Global, spec: &str, script: &str) -> io::Result<Mission> {
     let spec = spec_of_text(alloc, spec)?;
     match script_of_text(alloc, &spec, script) {

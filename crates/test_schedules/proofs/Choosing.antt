@@ -1,4 +1,4 @@
--- If no place of the order has a next event, the flight is over.
+-- If no place of the order has an actor with a next event, the flight is over.
 use Rattle.std.proofs.Common.{◌≡◌, ◌∙◌, ◌⊎◌, ℕ, suc, ◌+◌, ◌-◌, ◌<◌, ◌≤◌, Bool, true, false, inl, inr, refl, ap, subst, sym, arith}
 use Rattle.std.specs.Prelude.{IfSome, Option, Some, None, nat_eq, nat_lt, if◌then◌else◌}
 use Rattle.std.proofs.lemmas.Bool.Decides.{nat_tests}
@@ -60,7 +60,7 @@ module _ (m : Flight) (at : Places) (words : Word → ℕ) (backwards : Bool) wh
     over_without (inl over) = over
     over_without (inr next) = absurd (no_next next.0 next.1)
 
-  -- two ranges make the whole
+  -- Two ranges of places together are the whole order.
   pub none_at_all : (begin end : ℕ) → suc m.procs ≡ end
       → ((place : ℕ) → begin ≤ place → place < end → next_in_order m at words backwards place ≡ None) → ((place : ℕ) → 0 ≤ place → place < begin → next_in_order m at words backwards place ≡ None)
       → (place : ℕ) → place ≤ m.procs → next_in_order m at words backwards place ≡ None
@@ -69,7 +69,7 @@ module _ (m : Flight) (at : Places) (words : Word → ℕ) (backwards : Bool) wh
     by_side (yes d) = late place d (omega (arith, low, is))
     by_side (no d) = early place (omega arith) (omega (arith, d))
 
-  -- the next place
+  -- The place after the last event's actor.
   pub none_more : (begin at' : ℕ) → ((place : ℕ) → begin ≤ place → place < at' → next_in_order m at words backwards place ≡ None) → next_in_order m at words backwards at' ≡ None
       → (place : ℕ) → begin ≤ place → place < at' + 1 → next_in_order m at words backwards place ≡ None
   none_more begin at' before none place low high = by_side (dec_le at' place) where
@@ -77,7 +77,7 @@ module _ (m : Flight) (at : Places) (words : Word → ℕ) (backwards : Bool) wh
     by_side (yes d) = let same : at' ≡ place = omega (arith, d, high) in subst (λ place. next_in_order m at words backwards place ≡ None) same none
     by_side (no d) = before place low (omega (arith, d))
 
-  -- if two ranges that make the whole have no next event, the flight is over
+  -- If two ranges that together are the whole order have no next event, the flight is over.
   pub over_by : (begin end : ℕ) → suc m.procs ≡ end → IsOver m at ⊎ ((event : Event) × IsNext m at words event)
       → ((place : ℕ) → begin ≤ place → place < end → next_in_order m at words backwards place ≡ None) → ((place : ℕ) → 0 ≤ place → place < begin → next_in_order m at words backwards place ≡ None)
       → IsOver m at

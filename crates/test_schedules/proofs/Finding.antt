@@ -1,4 +1,4 @@
--- The first place that has a next event, place by place.
+-- Searching for the first place with a next event, place by place.
 use Rattle.std.proofs.Common.{◌≡◌, ◌∙◌, ℕ, suc, ◌+◌, ◌-◌, ◌<◌, ap, sym, arith}
 use Rattle.std.specs.Prelude.{Option, Some, None}
 use Rattle.bank_words.specs.declared.events.Event.{Event}
@@ -8,7 +8,7 @@ module _ (next : ℕ → Option Event) (place end : ℕ) where
   opened : place < end → first_in next place (end - place) ≡ found_at place (next place) (first_in next (suc place) (end - suc place))
   opened low = let many : end - place ≡ suc (end - suc place) = omega (arith, low) in ap (first_in next place) many
 
-  -- one place further, if nothing is next here
+  -- If the actor at a place has no next event, the search continues with the place after it.
   pub one_further : place < end → next place ≡ None → first_in next (place + 1) (end - (place + 1)) ≡ first_in next place (end - place)
   one_further low none = let step : place + 1 ≡ suc place = omega arith in
       ap (λ p. first_in next p (end - p)) step ∙ sym (opened low ∙ ap (λ o. found_at place o (first_in next (suc place) (end - suc place))) none)

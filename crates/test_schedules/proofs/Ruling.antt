@@ -1,4 +1,4 @@
--- A history by a rule continues with the event that the rule chooses.
+-- If a history is chosen by a rule, it continues with the event that the rule chooses.
 use Rattle.std.proofs.Common.{◌≡◌, ◌∙◌, ℕ, ◌-◌, Bool, refl, ap, sym, subst, List, [], ◌∷◌, ◌++◌}
 use Rattle.std.specs.Prelude.{Option, Some, None, IfSome, nat_eq, option_map, if◌then◌else◌}
 use Rattle.std.proofs.Math.Path.{fun_ext}
@@ -17,7 +17,7 @@ use Rattle.test_schedules.specs.Ruled.{AreChosen, IsByRule}
 use Rattle.test_schedules.specs.declared.choices.Chooser.{Chooser}
 use Rattle.test_schedules.specs.declared.choices.Rule.{Rule}
 
--- the chooser after the events of the rule
+-- The rule chooses the events of a history, and the chooser after them is `chooser`.
 abbrev pub IsRuledTo : Flight → Rule → Chooser → List Event → Places → (Word → ℕ) → Type 0
 IsRuledTo m rule chooser events at words = (b : IsByRule m rule events at words) × (b.chooser ≡ chooser)
 
@@ -39,7 +39,7 @@ chosen_more m chooser s [] last t place e is next =
     (place, at_s, (ap (λ (c : Chooser). chooser_after c place) is.0, ap (λ (u : Machine). happened m u e) is.1))
 chosen_more m chooser s (x ∷ es) last t place e is next = (is.0, is.1, chosen_more m (chooser_after chooser is.0) (happened m s x) es last t place e is.2 next)
 
--- words that agree have the same choice
+-- If two assignments of words agree on the words that are stored, they give the same choice.
 module _ (m : Flight) (at : Places) (v w : Word → ℕ) (same : (x : Word) → IsStored m x → v x ≡ w x) where
   order_same : (backwards : Bool) (place : ℕ) → next_in_order m at v backwards place ≡ next_in_order m at w backwards place
   order_same backwards place =
@@ -68,7 +68,7 @@ ruled_more m rule chooser events at at2 words words2 e place ruled is next happe
       ap (λ (c : Chooser). chooser_after c place) ruled.1,
     )
 
--- the actor that was chosen, by the event alone
+-- If an event is chosen, there is a place of its actor, and the later chooser is the chooser after that place.
 place_of : (o : Option (ℕ × Event)) (e : Event) (chooser later : Chooser) → Some e ≡ option_map (λ found. found.1) o → IfSome o (λ found. later ≡ chooser_after chooser found.0)
     → (place : ℕ) × (o ≡ Some (place, e)) × (later ≡ chooser_after chooser place)
 place_of None e chooser later is after = cc
@@ -85,7 +85,7 @@ ruled_by m rule chooser later events events2 at at2 words words2 e ruled is afte
 flown_same : (core core2 : CoreParts) → core2.spec ≡ core.spec → core2.script ≡ core.script → core_flight core ≡ core_flight core2
 flown_same core core2 spec script = ap (λ (spec : Parts). flight_of spec core.script) (sym spec) ∙ ap (λ (script : ScriptParts). flight_of core2.spec script) (sym script)
 
--- the same over cores
+-- If the rule chooses the next event of a core, the history of the next core is chosen by the rule.
 pub ruled_on : (core core2 : CoreParts) (rule : Rule) (chooser later : Chooser) (e : Event) → IsRuledTo (core_flight core) rule chooser core.history (core_places core) (core_words core)
     → core2.spec ≡ core.spec → core2.script ≡ core.script
     → Some e ≡ option_map (λ found. found.1) (chosen (core_flight core) (core_places core) (core_words core) chooser)

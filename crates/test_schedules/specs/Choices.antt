@@ -1,4 +1,5 @@
--- The order in which actors are asked for the next event, and the actor that makes it.
+-- The choice of the actor that makes the next event. A rule asks the actors in an order, and chooses the first one
+-- that has a next event.
 use Rattle.std.specs.Prelude.{ℕ, zero, suc, ◌+◌, ◌-◌, ◌%◌, Bool, true, false, Option, Some, None, nat_eq, nat_lt, if◌then◌else◌}
 use Rattle.rand_pcg.specs.Lcg.{Lcg, increment_of, started}
 use Rattle.rand_pcg.specs.Pcg.{multiplier_64, pcg32}
@@ -9,7 +10,7 @@ use Rattle.test_schedules.specs.declared.choices.Chooser.{Chooser}
 use Rattle.test_schedules.specs.declared.choices.Rule.{Rule}
 use Rattle.test_schedules.specs.declared.choices.Rule.TheVariants.{InTurns, LeastFirst, GreatestFirst, KernelFirst, Seeded}
 
--- The processors are asked from the last one down.
+-- The rule asks the processors in descending order.
 abbrev pub is_backwards : Rule → Bool
 is_backwards InTurns = false
 is_backwards LeastFirst = false
@@ -17,40 +18,42 @@ is_backwards GreatestFirst = true
 is_backwards KernelFirst = false
 is_backwards (Seeded seed) = false
 
--- The next event of the actor at a place. The order has the processors, from the first or from the last, and then the
--- kernel.
+-- The next event of the actor at place `place` of the order, or `None` if the actor has none. The order has the
+-- processors, in descending order if `backwards` is `true`, and then the kernel.
 abbrev pub next_in_order : Flight → Places → (Word → ℕ) → Bool → ℕ → Option Event
 next_in_order m at words backwards place =
     if nat_eq place m.procs then next_kernel m at words
     else next_of m at words (if backwards then m.procs - 1 - place else place)
 
--- The place with its actor's next event if there is one, else what is found after the place.
+-- The place with the next event of its actor, or else `rest`, the result for the places after it.
 abbrev pub found_at : ℕ → Option Event → Option (ℕ × Event) → Option (ℕ × Event)
 found_at place None rest = rest
 found_at place (Some event) rest = Some (place, event)
 
--- The first place whose actor has a next event, among a number of places from this one on, and the event.
+-- The first place whose actor has a next event, with the event, among the given number of places from `place` on, or
+-- `None` if there is none.
 abbrev pub first_in : (ℕ → Option Event) → ℕ → ℕ → Option (ℕ × Event)
 first_in next place zero = None
 first_in next place (suc many) = found_at place (next place) (first_in next (suc place) many)
 
--- The first of two results if it is found, else the second.
+-- The first of two results if it is not `None`, or else the second.
 abbrev pub either_found : Option (ℕ × Event) → Option (ℕ × Event) → Option (ℕ × Event)
 either_found None other = other
 either_found (Some found) other = Some found
 
--- The first place whose actor has a next event, with the event. The places from `begin` to the kernel's are asked
--- first, and then those before `begin`.
+-- The first place whose actor has a next event, with the event, or `None` if there is none. The places from `begin`
+-- up to that of the kernel come first, and then the places before `begin`.
 abbrev pub first_from : (ℕ → Option Event) → ℕ → ℕ → Option (ℕ × Event)
 first_from next procs begin = either_found (first_in next begin (procs + 1 - begin)) (first_in next 0 begin)
 
--- The place after that of the actor that made the last event. After the kernel, and before any event, it is the first
--- place.
+-- The place after the given place of the last event's actor. It is the first place if that actor is the kernel, or if
+-- there has been no event.
 abbrev pub place_behind : ℕ → Option ℕ → ℕ
 place_behind procs None = 0
 place_behind procs (Some place) = if nat_lt place procs then suc place else 0
 
--- The place that a rule asks first, given the place of the last event's actor and the number from the generator.
+-- The place that a rule asks first, given the number of processors, the place of the last event's actor, and a number
+-- from the generator.
 abbrev pub begin_by : Rule → ℕ → Option ℕ → ℕ → ℕ
 begin_by InTurns procs last word = place_behind procs last
 begin_by LeastFirst procs last word = 0
@@ -58,7 +61,8 @@ begin_by GreatestFirst procs last word = 0
 begin_by KernelFirst procs last word = procs
 begin_by (Seeded seed) procs last word = word % (procs + 1)
 
--- The generator after a choice, from which a seeded rule takes one number for each choice.
+-- The generator of random numbers after a choice. A seeded rule takes one number for each choice, and other rules
+-- take none.
 abbrev pub generator_after : Rule → Lcg → Lcg
 generator_after InTurns generator = generator
 generator_after LeastFirst generator = generator
@@ -82,10 +86,11 @@ first_chooser rule = record { rule = rule; last = None; generator = started 64 m
 abbrev pub chooser_after : Chooser → ℕ → Chooser
 chooser_after chooser place = record { rule = chooser.rule; last = Some place; generator = generator_after chooser.rule chooser.generator }
 
--- The place that is asked first.
+-- The place that a chooser asks first, given the number of processors.
 abbrev pub begin_of : ℕ → Chooser → ℕ
 begin_of procs chooser = begin_by chooser.rule procs chooser.last (pcg32 chooser.generator).0
 
--- The place of the actor that a rule chooses, and the next event of that actor, or none if no actor has one.
+-- The place of the actor that a chooser chooses, with the next event of that actor, or `None` if no actor has a next
+-- event.
 abbrev pub chosen : Flight → Places → (Word → ℕ) → Chooser → Option (ℕ × Event)
 chosen m at words chooser = first_from (next_in_order m at words (is_backwards chooser.rule)) m.procs (begin_of m.procs chooser)

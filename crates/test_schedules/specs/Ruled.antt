@@ -1,4 +1,4 @@
--- Schedules by a rule.
+-- Schedules that are chosen by a rule.
 use Rattle.std.specs.Prelude.{◌≡◌, ℕ, List, [], ◌∷◌, Some}
 use Rattle.bank_words.specs.declared.events.Event.{Event}
 use Rattle.event_core.specs.Replays.{IsReplay}
@@ -9,14 +9,14 @@ use Rattle.test_schedules.specs.Choices.{chooser_after, chosen, first_chooser}
 use Rattle.test_schedules.specs.declared.choices.Chooser.{Chooser}
 use Rattle.test_schedules.specs.declared.choices.Rule.{Rule}
 
--- The events take the machine from state `s` to state `t`, and each is the next event of the actor that the rule
--- chooses in its state.
+-- The events take the machine from state `s` to state `t` and the chooser to `last`. Each event is the next event of
+-- the actor that the chooser chooses in the state before it.
 abbrev pub AreChosen : Flight → Chooser → Machine → List Event → Chooser → Machine → Type 0
 AreChosen m chooser s [] last t = (last ≡ chooser) × (t ≡ s)
 AreChosen m chooser s (e ∷ es) last t =
     (place : ℕ) × (chosen m s.at s.words chooser ≡ Some (place, e)) × AreChosen m (chooser_after chooser place) (happened m s e) es last t
 
--- The events are a schedule from the opening to these places and words, and the rule chose each of them.
+-- The events are a schedule from the opening state to these places and words, and the rule chooses each of them.
 pub record IsByRule (m : Flight) (rule : Rule) (events : List Event) (at : Places) (words : Word → ℕ) : Type 0 where
   pub replay : IsReplay m events at words
   pub chooser : Chooser

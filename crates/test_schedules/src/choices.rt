@@ -11,10 +11,11 @@ use rand_core::utils::NextWord;
 use rand_pcg::Pcg32;
 use scram_types::ProcId;
 
-/// The rule that chooses the actor of the next event. Actors without a next event are skipped.
+/// A rule that chooses the actor of the next event. Actors without a next event are skipped.
 #[derive(Clone, Copy, Debug)]
 pub enum Rule {
-    /// The actor after that of the last event, in the order of the processors and then the kernel.
+    /// The actor after that of the last event, in the order of the processors and then the kernel. After the kernel,
+    /// the first processor follows.
     InTurns,
     /// The first processor that has a next event, or the kernel if none has one.
     LeastFirst,
@@ -22,11 +23,11 @@ pub enum Rule {
     GreatestFirst,
     /// The kernel, or the first processor that has a next event if the kernel has none.
     KernelFirst,
-    /// The actor given by a generator of random numbers with this seed.
+    /// The actor whose place is a random number from a generator with this seed.
     Seeded(u64),
 }
 
-/// The state of a rule from one choice to the next.
+/// A rule, with the state that it keeps from one choice to the next.
 #[derive(Drop)]
 pub(crate) struct Chooser {
     rule: Rule,
@@ -35,7 +36,7 @@ pub(crate) struct Chooser {
 }
 
 impl Chooser {
-    /// Returns the state of a rule before the first choice.
+    /// Creates the state of a rule before the first choice.
     pub(crate) fn new(rule: Rule) -> Chooser
         ensures { result ≡ first_chooser rule }
     {
@@ -46,7 +47,8 @@ impl Chooser {
         }
     }
 
-    // Returns the place of the actor that is asked first.
+    // Returns the place of the actor that is asked first, and takes a number from the generator if the rule is
+    // seeded.
     fn begin(&mut self, procs: usize) -> usize
         requires { procs ≤ 8 }
         ensures begin { result ≡ begin_of procs self.old }
@@ -99,8 +101,8 @@ fn seed_of(rule: Rule) -> u64
     }
 }
 
-// Returns the place after that of the actor that made the last event. After the kernel, and before any event, it is the
-// first place.
+// Returns the place after the given place of the last event's actor. It is the first place if that actor is the
+// kernel, or if there has been no event.
 fn place_behind(procs: usize, last: Option<usize>) -> usize
     requires { procs ≤ 8 }
     ensures place { result ≡ place_behind procs last }
@@ -124,8 +126,8 @@ fn is_backwards(rule: Rule) -> bool
     }
 }
 
-// Returns the next event of the actor at a place. The order has the processors, from the first or from the last, and
-// then the kernel.
+// Returns the next event of the actor at a place of the order, or `None` if the actor has none. The order has the
+// processors, in descending order if `backwards` is `true`, and then the kernel.
 fn next_in_order(core: &Core, procs: usize, backwards: bool, place: usize) -> Option<Event>
     requires procs { procs ≡ length core.now.spec.procs }
     requires few { procs ≤ 8 }
@@ -142,8 +144,8 @@ fn next_in_order(core: &Core, procs: usize, backwards: bool, place: usize) -> Op
     }
 }
 
-// Returns the first place whose actor has a next event, with the event. The places from `begin` on are asked first, and
-// then those before it.
+// Returns the first place whose actor has a next event, with the event, or `None` if there is none. The places from
+// `begin` on come first, and then the places before it.
 fn first_from(core: &Core, procs: usize, backwards: bool, begin: usize) -> Option<(usize, Event)>
     requires procs { procs ≡ length core.now.spec.procs }
     requires few { procs ≤ 8 }
@@ -159,7 +161,8 @@ fn first_from(core: &Core, procs: usize, backwards: bool, begin: usize) -> Optio
     }
 }
 
-// Returns the first place from `begin` on and below `end` whose actor has a next event, with the event.
+// Returns the first place whose actor has a next event, with the event, among the places from `begin` to before
+// `end`, or `None` if there is none.
 fn first_in(
     core: &Core,
     procs: usize,

@@ -1,4 +1,4 @@
-//! Flights to their end, compared.
+//! Flights to their end by many schedules, compared with each other and with the flight on one thread.
 
 ghost use Rattle.fault_script.specs.Fits.{Fits};
 
@@ -12,9 +12,9 @@ use std::rt::HostRuntime;
 use test_kit::{fly_frames, is_same, line_after, number_after};
 use trace_props::props;
 
-/// The results of the flights of a row: their number, how many gave another answer than one thread, and how many were
-/// not judged Ok. It also has how many gave another answer than the first flight, and the first answer with its number
-/// of events.
+/// The results of the flights of a row: the number of flights, of those whose result differs from that of one thread,
+/// of those that are not judged `Ok`, and of those whose result differs from that of the first flight. The last two
+/// fields are of the first flight: its number of events and its result.
 #[derive(Drop)]
 struct Compared {
     flights: u32,
@@ -25,7 +25,8 @@ struct Compared {
     first: Option<Flown>,
 }
 
-/// Flies each script of a row by each of its rules and seeds, and on one thread, and prints the results.
+/// Flies each script of a row on one thread and by each rule and seed of the row, and prints the results. Does
+/// nothing if the row has no rules.
 pub(crate) fn fly_row(rt: &HostRuntime, spec: &Spec, row: &str) -> io::Result<()> {
     if line_after(row, "by ").is_none() {
         return Ok(());
@@ -43,7 +44,7 @@ pub(crate) fn fly_row(rt: &HostRuntime, spec: &Spec, row: &str) -> io::Result<()
     printed
 }
 
-/// Flies the script of a row with each of its halts, and prints what came of it.
+/// Flies the script of a row with each halt of the row, and prints the results.
 fn fly_halts(rt: &HostRuntime, spec: &Spec, row: &str, compared: &mut Compared) -> io::Result<()> {
     let halts = Halts::of_row(row)?;
     for number in 0..halts.count() {
@@ -52,7 +53,7 @@ fn fly_halts(rt: &HostRuntime, spec: &Spec, row: &str, compared: &mut Compared) 
     print_compared(rt, row, compared)
 }
 
-/// A script with its specification, and its result on one thread.
+/// A script with its specification, and the result of flying it on one thread.
 #[derive(Drop)]
 struct Case<'a> {
     spec: &'a Spec,
@@ -60,7 +61,7 @@ struct Case<'a> {
     alone: &'a Flown,
 }
 
-/// Flies the script of a row with this halt.
+/// Flies the script of a row with one halt, and adds the results to `compared`.
 fn fly_halt(
     rt: &HostRuntime,
     spec: &Spec,
@@ -106,7 +107,8 @@ fn fly_case(rt: &HostRuntime, case: &Case, row: &str, compared: &mut Compared) -
     Ok(())
 }
 
-/// Flies a script by a rule, compares the answer with that of one thread and with the first one, and judges it.
+/// Flies a script by a rule, judges the result, and compares it with that of one thread and with that of the first
+/// flight.
 fn compare(rt: &HostRuntime, case: &Case, rule: Rule, compared: &mut Compared) -> io::Result<()>
     requires { Fits case.now.spec.now case.now.script.now }
 {
@@ -121,7 +123,7 @@ fn compare(rt: &HostRuntime, case: &Case, rule: Rule, compared: &mut Compared) -
     Ok(())
 }
 
-/// Counts a flight, and what it is not.
+/// Counts a flight, and each comparison or judgement that fails for it.
 fn count(case: &Case, flown: &Flown, compared: &mut Compared) {
     compared.flights = compared.flights.saturating_add(1);
     if !is_same(case.alone, flown) {
@@ -135,7 +137,7 @@ fn count(case: &Case, flown: &Flown, compared: &mut Compared) {
     }
 }
 
-/// Returns the number of events of a flight, and its answer.
+/// Flies a script to its end by a rule, and returns the number of events and the result.
 fn fly_by(rt: &HostRuntime, spec: &Spec, script: &Script, rule: Rule) -> io::Result<(usize, Flown)>
     requires { Fits spec.now script.now }
 {

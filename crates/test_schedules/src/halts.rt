@@ -1,11 +1,11 @@
-//! The halts for which a row's script is flown.
+//! The halts with which the script of a row is flown.
 
 ghost use Rattle.std.specs.Prelude.{◌<◌};
 
 use std::io::{self, ErrorKind};
 use test_kit::number_after;
 
-/// A halt, given by its processor, its frame and the number of stores before it.
+/// A halt: its processor, its frame, and the number of stores before it in that frame.
 #[derive(Clone, Copy, Debug)]
 pub(crate) struct Halt {
     pub proc: u32,
@@ -13,7 +13,7 @@ pub(crate) struct Halt {
     pub step: u32,
 }
 
-/// The numbers of processors, frames and steps for which there is a halt, each from 0 up.
+/// All halts whose processor, frame and step are below these numbers.
 #[derive(Clone, Copy, Debug)]
 pub(crate) struct Halts {
     procs: u32,
@@ -24,7 +24,8 @@ pub(crate) struct Halts {
 }
 
 impl Halts {
-    /// Returns the halts of a row. A number that the row does not give is 1.
+    /// Returns the halts of a row. A number that the row does not give is 1. Returns an error if a text is not a
+    /// number, or if the number of frames or steps is 0.
     pub(crate) fn of_row(row: &str) -> io::Result<Halts> {
         let procs = number_after(row, "processors ", 1)?;
         let frames = number_after(row, "frames ", 1)?;
@@ -46,7 +47,8 @@ impl Halts {
             .saturating_mul(self.steps)
     }
 
-    /// Returns the halt of this number. The step varies fastest, and then the frame.
+    /// Returns the halt of a number below the number of halts. From number to number the step varies fastest, then
+    /// the frame, and then the processor.
     pub(crate) fn halt(&self, number: u32) -> Halt {
         let frames = number / self.steps;
         Halt {

@@ -1,4 +1,4 @@
-//! Cores in the middle of a flight.
+//! Flights that stop in the middle, to print the state of the core or its answer to an event.
 
 ghost use Rattle.fault_script.specs.Fits.{Fits};
 
@@ -12,7 +12,8 @@ use std::io::{self, ErrorKind};
 use std::rt::HostRuntime;
 use test_kit::{number, print_image, split_word};
 
-/// Flies a row's script for the number of events that each of its lines gives, and prints what the core shows.
+/// Flies the script of a row for the number of events in each line that begins with `after `, and prints what the
+/// line requests.
 pub(crate) fn look_row(rt: &HostRuntime, spec: &Spec, row: &str) -> io::Result<()> {
     let halt = Halts::of_row(row)?.halt(0);
     for line in row.split('\n') {
@@ -24,7 +25,7 @@ pub(crate) fn look_row(rt: &HostRuntime, spec: &Spec, row: &str) -> io::Result<(
     Ok(())
 }
 
-/// Flies the script of a row with this halt as a line says.
+/// Flies the script of a row with a halt for the number of events in a line, and prints what the line requests.
 fn look_after(rt: &HostRuntime, spec: &Spec, row: &str, halt: Halt, line: &str) -> io::Result<()> {
     let script = script_of(rt.alloc(), spec, row, halt)?;
     let looked = look(rt, spec, &script, line);
@@ -32,7 +33,7 @@ fn look_after(rt: &HostRuntime, spec: &Spec, row: &str, halt: Halt, line: &str) 
     looked
 }
 
-/// Flies this number of events by a rule, as `EVENTS RULE WORD`, and prints what the word asks for.
+/// Flies a script as a line `EVENTS RULE WORD` requests, and prints what the word requests.
 fn look(rt: &HostRuntime, spec: &Spec, script: &Script, line: &str) -> io::Result<()>
     requires { Fits spec.now script.now }
 {
@@ -74,7 +75,7 @@ fn print_kernel(rt: &HostRuntime, core: &Core) -> io::Result<()> {
     )
 }
 
-/// Prints the core's answer to an event, the number of events before it, and the number after it.
+/// Prints the core's answer to an event, and, if the core refuses it, the numbers of events before and after it.
 fn print_answer(
     rt: &HostRuntime,
     core: &Core,
@@ -91,7 +92,7 @@ fn print_answer(
     }
 }
 
-/// Prints what the second processor finds in the image of the first one, if it has looked.
+/// Prints the image of the first processor that the second processor has read, or that it has not looked yet.
 fn print_seen(rt: &HostRuntime, spec: &Spec, core: &Core) -> io::Result<()> {
     let Some(Event::Store(p, _)) = core.next_of(ProcId(1)) else {
         return println!(rt; "has not looked");

@@ -1,11 +1,20 @@
-//! Flights of missions by many schedules. In `rows.txt` blank lines separate the rows, and a row's script follows `= `.
-//! The script is flown to its end by each rule after `by `, and by the number of seeds after `seeds `. Every answer is
-//! judged, and compared with that of one thread. In a script with a halt, `PROC`, `FRAME` and `STEP` are replaced by
-//! each processor, frame and step below the numbers after `processors `, `frames ` and `steps `. `RESTART` is replaced
-//! by the frame two after that of the halt. With the line `alike` the answers of all scripts are compared with the
-//! first one, which is printed. `on ` names the file of another specification than `uav`. `after ` gives the number of
-//! events that are flown, the rule, and what is asked then. The expected output follows from the rules, worked out by
-//! hand.
+//! Flights of missions by many schedules. The expected output is worked out by hand from the rules.
+//!
+//! The rows of `rows.txt` are separated by blank lines. The first line of a row is its title, and the other lines
+//! are:
+//!
+//! - `= SCRIPT`: The script of the row. Each halt of the row replaces `PROC`, `FRAME` and `STEP` in it, and the frame
+//!   two after that of the halt replaces `RESTART`.
+//! - `processors N`, `frames N`, `steps N`: The row has a halt for each processor, frame and step below these
+//!   numbers. A missing number is 1.
+//! - `by RULE ..`: Flies the script with each halt to its end by each rule. Each result is judged, and compared with
+//!   that of one thread.
+//! - `seeds N`: In a row with rules, flies the script also by a random choice of actors for each seed below `N`.
+//! - `alike`: Compares all results with the first one, and prints the reconfigurations of the first one.
+//! - `after EVENTS RULE WORD`: Flies the script for this number of events by the rule. Then prints the core's answer
+//!   to the event `flip` or `release`, the kernel's frame and next event for `kernel`, or what the second processor
+//!   has read for `seen`.
+//! - `on FILE`: The file of the specification, instead of `uav`.
 #![tactic(auto)]
 
 mod choices;

@@ -1,5 +1,5 @@
-//! Flights of a core to its end by a rule, with live processors whose racks have no boxes. Whatever the rule, the
-//! resulting core is that of the specification and the script, and is over.
+//! Flights of a core by a rule, with live processors whose racks have no boxes. With any rule, a flight to the end
+//! gives a core of the specification and the script that is over.
 
 ghost use Rattle.std.specs.Prelude.{◌≡◌, ◌<◌, ◌≤◌, ◌⊎◌, ◌++◌, [], ◌∷◌, IfOk, length};
 ghost use Rattle.event_core.specs.Cores.{HappensIn, IsNextIn, IsWordIn, core_places, core_words, core_flight};
@@ -17,12 +17,12 @@ use event_core::flyers::Flyers;
 use scram_types::{NoMemory, Script, Spec};
 use std::alloc::Global;
 
-/// Flies a specification and a script to the end by a rule, and returns the core. The core is over, so `finish` gives
-/// the one-thread trace.
+/// Flies a script to the end by a rule, and returns the core. The flight of the core is over, and therefore `finish`
+/// returns the one-thread trace.
 ///
 /// # Errors
 ///
-/// Out of memory.
+/// Returns an error if memory runs out.
 pub fn fly<'a>(
     alloc: Global,
     spec: &'a Spec,
@@ -41,11 +41,12 @@ pub fn fly<'a>(
     Ok(fly_on(core, spec, &mut flyers, rule))
 }
 
-/// Flies this number of events of a specification and a script by a rule, or fewer if the flight is over before.
+/// Flies a script by a rule for the given number of events, or for fewer if the flight is over before, and returns
+/// the core.
 ///
 /// # Errors
 ///
-/// Out of memory.
+/// Returns an error if memory runs out.
 pub fn fly_some<'a>(
     alloc: Global,
     spec: &'a Spec,
@@ -65,7 +66,7 @@ pub fn fly_some<'a>(
     Ok(fly_events(core, spec, &mut flyers, rule, events))
 }
 
-// Flies to the end, and returns the core.
+// Flies to the end by a rule, and returns the core.
 fn fly_on<'a>(core: Core<'a>, spec: &Spec, flyers: &mut Flyers, rule: Rule) -> Core<'a>
     requires spec { core.spec ≡ spec.now }
     requires opened { core.history ≡ [] }
@@ -85,7 +86,7 @@ fn fly_on<'a>(core: Core<'a>, spec: &Spec, flyers: &mut Flyers, rule: Rule) -> C
     core
 }
 
-// Flies this number of events, or fewer if the flight is over before.
+// Flies the given number of events by a rule, or fewer if the flight is over before, and returns the core.
 fn fly_events<'a>(
     core: Core<'a>,
     spec: &Spec,
@@ -114,7 +115,7 @@ fn fly_events<'a>(
     core
 }
 
-// Makes the next event of its actor, with its word if it is a store.
+// Makes an event that is next for its actor. If it is a store, the actor gives the word.
 fn make(core: &mut Core, spec: &Spec, flyers: &mut Flyers, event: Event)
     requires spec { core.old.spec ≡ spec.now }
     requires next { IsNextIn core.old event }
@@ -130,7 +131,7 @@ fn make(core: &mut Core, spec: &Spec, flyers: &mut Flyers, event: Event)
     step(core, event, word);
 }
 
-// Makes the next event of its actor with this word.
+// Makes an event that is next for its actor, with the given word.
 fn step(core: &mut Core, event: Event, word: u64)
     requires next { IsNextIn core.old event }
     requires word { IsWordIn core.old event word }

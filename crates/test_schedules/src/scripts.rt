@@ -1,4 +1,4 @@
-//! The script and the rules in the lines of a row.
+//! The script of a row, and the rules that a row names.
 
 ghost use Rattle.std.specs.Prelude.{IfOk};
 ghost use Rattle.fault_script.specs.Fits.{Fits};
@@ -10,7 +10,8 @@ use std::alloc::Global;
 use std::io::{self, ErrorKind};
 use test_kit::{fill, line_after, script_of_text};
 
-/// Returns the script of a row, with this halt in the place of `PROC`, `FRAME`, `STEP` and `RESTART`.
+/// Returns the script of a row. The numbers of the halt replace `PROC`, `FRAME` and `STEP` in its text, and the frame
+/// of the halt plus 2 replaces `RESTART`.
 pub(crate) fn script_of(alloc: Global, spec: &Spec, row: &str, halt: Halt) -> io::Result<Script>
     ensures { IfOk result (λ script. Fits spec.now script) }
 {
@@ -32,7 +33,7 @@ fn filled(alloc: Global, row: &str, halt: Halt) -> io::Result<String> {
     )
 }
 
-/// Returns the rule of this name.
+/// Returns the rule of this name, or an error if there is none.
 pub(crate) fn rule_named(name: &str) -> io::Result<Rule> {
     match name {
         "turns" => Ok(Rule::InTurns),

@@ -1,4 +1,4 @@
--- A processor that waits for its next frame, and then looks.
+-- A processor that has not halted and has frames left waits for its next frame before it looks.
 use Rattle.std.proofs.Common.{◌≡◌, ℕ, ◌<◌, false}
 use Rattle.fail_stop.specs.Events.{At, Halted, Place, frame_of, is_halted}
 use Rattle.fail_stop.specs.Flights.{Flight}

@@ -1,4 +1,4 @@
--- The last two seats of a list of two.
+-- The items that are taken from the end of a list of two.
 use Rattle.std.proofs.Common.{◌≡◌, ◌∙◌, ℕ, ap, arith, List, [], ◌∷◌, ◌++◌, length, subst}
 use Rattle.std.specs.Prelude.{Option, Some, None, IfSome, option_to_list, slice_get}
 use Rattle.std.proofs.lemmas.List.{length-append}

@@ -7,7 +7,7 @@ use Rattle.word_deck.specs.Crews.{IsCrewOf}
 use Rattle.test_words.specs.declared.crews.Actors.{Actors}
 use Rattle.test_words.specs.declared.crews.Pair.{Pair}
 
--- A pair has the two processors of a table, between two turns.
+-- The pair has the two processors of a table of words, each of them between two turns.
 pub record PairFits {X : Type 0} {Y : X → Type 0} (words : WordTable) (pair : Pair X Y) : Type 0 where
   pub two : length (mission_in words).spec.procs ≡ 2
   pub first_is : proc_of pair.first.seat ≡ 0
@@ -15,7 +15,7 @@ pub record PairFits {X : Type 0} {Y : X → Type 0} (words : WordTable) (pair : 
   pub first_fits : IsCrewOf words pair.first
   pub second_fits : IsCrewOf words pair.second
 
--- The processors and the kernel belong to a table of this mission, between two turns.
+-- The two processors and the kernel belong to a table of words of this mission, each of them between two turns.
 pub record ActorsFit {X : Type 0} {Y : X → Type 0} (words : WordTable) (mission : MissionParts) (actors : Actors X Y) : Type 0 where
   pub same : mission_in words ≡ mission
   pub flown : actors.kernel.mission.now ≡ mission

@@ -1,4 +1,4 @@
-//! The two processors of `uav` with their racks.
+//! The actors of a flight of `uav`: its two processors with their racks, and the kernel.
 
 ghost use Rattle.std.specs.Prelude.{◌≡◌, IfOk, IfSome, Some};
 ghost use Rattle.fail_stop.specs.Events.{At};
@@ -11,21 +11,22 @@ use std::io::{self, ErrorKind};
 use word_deck::{Crew, KernelCrew};
 use word_table::{Seat, WordTable};
 
-/// The crews of both processors.
+/// The crews of the two processors.
 #[derive(Drop)]
 pub struct Pair {
     pub first: Crew,
     pub second: Crew,
 }
 
-/// Both processors and the kernel.
+/// The two processors and the kernel.
 #[derive(Drop)]
 pub struct Actors<'a> {
     pub pair: Pair,
     pub kernel: KernelCrew<'a>,
 }
 
-/// Returns the crews of two processors before the first frame. Their racks are the last of the lists.
+/// Returns the crews of two processors before the first frame, with racks and spare racks from the ends of the lists.
+/// Returns an error if there are not two seats.
 pub fn pair_of(words: &WordTable, mut seats: Vec<Seat>, boxes: Boxes) -> io::Result<Pair>
     requires seats { AreSeatsOf words.now seats.items }
     requires opening { AreOpening seats.items }

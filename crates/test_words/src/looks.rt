@@ -1,4 +1,4 @@
-//! The images that a processor finds at the begin of its frame.
+//! The images that a processor reads at the begin of its frame.
 
 ghost use Rattle.std.specs.Prelude.{◌≡◌, ◌<◌, length};
 ghost use Rattle.word_table.specs.Actors.{steps_of};
@@ -10,8 +10,8 @@ use std::rt::HostRuntime;
 use test_kit::print_image;
 use word_table::{Seat, Words};
 
-/// Starts the next frame of the seat's processor if it is released, looks at the first processor, and prints the areas
-/// of the applications found there.
+/// Starts the next frame of the seat's processor, reads the image of the first processor, and prints the areas in it.
+/// If the processor has halted, has finished, or is not released, prints that instead.
 #[tactic(auto, using(crate::proofs::Looking::waits_at, word_deck::proofs::Steps::looks))]
 pub fn look(rt: &HostRuntime, words: &Words, seat: &mut Seat) -> io::Result<()>
     requires seat { IsSeatOf words.now.table seat.old }

@@ -1,11 +1,18 @@
-//! Flights of `uav` with a higher goal, turn by turn over the table of words. A row of `rows.txt` has a title, lines
-//! that say what is done, and a script after `= `. `rounds N WHO ..` makes the turns of `p0`, `p1` or the `kernel` `N`
-//! times. Then `turns WHO ..` makes turns once, and prints the result of each. Then `order WHO ..` makes turns in this
-//! order again and again until all have finished, and compares the rows with those of one thread. At the end the table
-//! is closed, and the marks are printed. With `look` the second processor instead starts its next frame and looks at
-//! the first one, and what it finds is printed. `steps N` does all that for each step of the halt below `N`, which
-//! replaces `STEP` in the script, and `on ` names the file of another specification. The expected output follows from
-//! the rules, worked out by hand.
+//! Flights of `uav` with a higher goal, turn by turn over the table of words. The expected output is worked out by
+//! hand from the rules.
+//!
+//! The rows of `rows.txt` are separated by blank lines. The first line of a row is its title, and the other lines are
+//! as follows. `WHO` is `p0`, `p1` or `kernel`.
+//!
+//! - `= SCRIPT`: The script of the row.
+//! - `rounds N WHO ..`: First, makes these turns `N` times.
+//! - `turns WHO ..`: Then, makes these turns once, and prints the result of each.
+//! - `order WHO ..`: Then, makes these turns again and again until all actors have finished, and compares the rows
+//!   with those of one thread.
+//! - `look`: At the end, the second processor starts its next frame and looks at the first one, and what it finds is
+//!   printed. Without this line, the table is closed and the marks are printed.
+//! - `steps N`: Does all of this for each step below `N`. The step replaces `STEP` in the script.
+//! - `on FILE`: The file of the specification, instead of `uav`.
 #![tactic(auto)]
 
 mod crews;
@@ -26,7 +33,7 @@ fn main(rt: HostRuntime) -> io::Result<()> {
     })
 }
 
-/// Returns the text of a row's specification.
+/// Returns the text of the specification of a row.
 fn spec_text(rt: &HostRuntime, row: &str) -> io::Result<String> {
     match line_after(row, "on ") {
         Some(name) => fs::read_to_string(rt, name),
@@ -34,7 +41,8 @@ fn spec_text(rt: &HostRuntime, row: &str) -> io::Result<String> {
     }
 }
 
-/// Returns the text of `uav` with a goal above its first altitude, so that what is seen changes from frame to frame.
+/// Returns the text of `uav` with a goal above its first altitude. With this goal, what the processors see changes
+/// from frame to frame.
 fn high_text(alloc: Global) -> io::Result<String> {
     let text = uav_text(alloc)?;
     change_piece(

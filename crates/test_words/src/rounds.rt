@@ -1,4 +1,4 @@
-//! Turns of processors and of the kernel on one thread.
+//! Turns of two processors and of the kernel on one thread.
 
 ghost use Rattle.test_words.specs.Actors.{ActorsFit};
 
@@ -10,10 +10,10 @@ use test_kit::{number, split_word};
 use word_deck::Turn;
 use word_table::WordTable;
 
-/// The maximum number of rounds, which is more than a flight of the rows needs.
+/// The maximum number of rounds. No flight of a row needs this number.
 const ROUNDS: u32 = 100_000;
 
-/// Makes the turns of these names once, and prints the result of each.
+/// Makes a turn of each of the named actors, in order, and prints the results.
 pub fn print_turns(
     rt: &HostRuntime,
     mission: &Mission,
@@ -31,7 +31,7 @@ pub fn print_turns(
     Ok(())
 }
 
-/// Makes the turns of these names a number of times, given as `TIMES NAME ..`.
+/// Makes the turns of the named actors a number of times. `line` has the form `TIMES NAME ..`.
 pub fn repeat_turns(
     mission: &Mission,
     words: &WordTable,
@@ -48,8 +48,8 @@ pub fn repeat_turns(
     Ok(())
 }
 
-/// Makes the turns of these names in order, again and again, until all of a round are finished, and returns the number
-/// of rounds.
+/// Makes rounds of turns of the named actors until each turn of a round returns `Finished`, and returns the number of
+/// rounds.
 pub fn fly_rounds(
     mission: &Mission,
     words: &WordTable,
@@ -67,7 +67,7 @@ pub fn fly_rounds(
     Err(ErrorKind::TimedOut.into())
 }
 
-// Makes the turns of these names, and returns whether all are finished.
+// Makes a turn of each of the named actors, in order, and returns `true` if each of them returns `Finished`.
 fn make_round(
     mission: &Mission,
     words: &WordTable,
@@ -86,7 +86,7 @@ fn make_round(
     Ok(finished)
 }
 
-// Makes the turn of this name, and returns its result.
+// Makes a turn of the named actor, and returns its result.
 fn make_turn(
     mission: &Mission,
     words: &WordTable,

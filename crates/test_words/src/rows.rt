@@ -1,4 +1,4 @@
-//! Flights of a row.
+//! The flights of a row.
 
 ghost use Rattle.std.specs.Prelude.{◌≡◌, ◌∷◌, [], IfOk};
 ghost use Rattle.word_table.specs.Tables.{AreOpening, AreSeatsOf, IsKernelSeatOf, kernel_frame, kernel_steps, mission_in};
@@ -18,7 +18,7 @@ use test_kit::{fill, fly_alone, line_after, mission_of_texts, number_after};
 use word_deck::KernelCrew;
 use word_table::{KSeat, Seat, WordTable, Words};
 
-/// Flies the script of a row, for each step of its halt, and prints the results.
+/// Flies the script of a row for each step below the number in its line `steps N`, and prints the results.
 pub fn fly_row(rt: &HostRuntime, text: &str, row: &str) -> io::Result<()> {
     for step in 0..number_after(row, "steps ", 1)? {
         fly_step(rt, text, row, step)?;
@@ -33,14 +33,14 @@ fn fly_step(rt: &HostRuntime, text: &str, row: &str, step: u32) -> io::Result<()
     flown
 }
 
-// Returns the mission of a row, with this step in the place of `STEP`.
+// Returns the mission of a row. The step replaces `STEP` in its script.
 fn mission_of(rt: &HostRuntime, text: &str, row: &str, step: u32) -> io::Result<Mission> {
     let script = line_after(row, "= ").unwrap_or("");
     let script = fill(rt.alloc(), script, "STEP", step)?;
     mission_of_texts(rt.alloc(), text, script.as_str())
 }
 
-// Opens the words of a mission, and flies it as the row's lines say.
+// Opens the table of words of a mission, and flies the mission as the lines of a row request.
 fn open(rt: &HostRuntime, mission: &Mission, row: &str) -> io::Result<()> {
     let boxes = empty_boxes(rt.alloc())?;
     match Words::open(rt.alloc(), mission) {
@@ -76,7 +76,7 @@ fn fly(rt: &HostRuntime, words: Words, kseat: KSeat, pair: Pair, row: &str) -> i
     }
 }
 
-// Makes the turns that the row's lines ask for.
+// Makes the turns that the lines of a row request.
 fn fly_actors(
     rt: &HostRuntime,
     mission: &Mission,
@@ -92,7 +92,7 @@ fn fly_actors(
     fly_asked(rt, mission, words, actors, row)
 }
 
-// Makes turns again and again if the row asks for it.
+// Makes the turns of the line `rounds N WHO ..`, if the row has it.
 fn repeat_asked(
     mission: &Mission,
     words: &WordTable,
@@ -108,7 +108,7 @@ fn repeat_asked(
     }
 }
 
-// Makes turns and prints their results if the row asks for it.
+// Makes the turns of the line `turns WHO ..` and prints their results, if the row has it.
 fn print_asked(
     rt: &HostRuntime,
     mission: &Mission,
@@ -125,7 +125,8 @@ fn print_asked(
     }
 }
 
-// Flies to the end, and compares the rows with those of one thread, if the row asks for it.
+// Makes the turns of the line `order WHO ..` to the end of the flight and compares the rows with those of one thread,
+// if the row has it.
 fn fly_asked(
     rt: &HostRuntime,
     mission: &Mission,
@@ -146,7 +147,7 @@ fn fly_asked(
     }
 }
 
-// Compares rows with those of one thread, and prints the result.
+// Compares rows with those of the flight on one thread, and prints the result.
 fn print_compared(rt: &HostRuntime, mission: &Mission, rows: &[Row]) -> io::Result<()> {
     let flown = fly_alone(rt.alloc(), mission)?;
     let same = flown.rows.items() == rows;
@@ -158,7 +159,8 @@ fn print_compared(rt: &HostRuntime, mission: &Mission, rows: &[Row]) -> io::Resu
     }
 }
 
-// Makes the second processor look if the row asks for it. Otherwise it closes the table, and prints the marks.
+// Lets the second processor look if the row has the line `look`. Otherwise closes the table of words, and prints the
+// marks.
 fn close(rt: &HostRuntime, words: Words, actors: Actors, row: &str) -> io::Result<()>
     requires { ActorsFit words.table (mission_in words.table) actors }
 {
