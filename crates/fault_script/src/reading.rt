@@ -11,7 +11,7 @@ use crate::lists::{Halts, Restarts, keep, read_changes, read_halts, read_restart
 use crate::order::may_halt;
 use crate::version::{Version, version_of};
 use crate::{ScriptError, ScriptFault, rule};
-use scram_doc::{Path, required, no_more_than, object, parse, whole_in};
+use scram_doc::{Path, no_more_than, object, parse, required, whole_in};
 use scram_types::limits::{MAX_FRAMES, MAX_SCRIPT_BYTES};
 use scram_types::{HaltAt, RestartAt, Script, Spec};
 use serde_json::Value;

@@ -11,7 +11,7 @@ ghost use Rattle.scram_doc.specs.Lists.{AllAfter};
 ghost use Rattle.spec_members.specs.Found.{AreMembers};
 ghost use Rattle.spec_table.specs.Facts.{IsNewDemand};
 
-use scram_doc::{DocError, DocFault, Path, int_in, required, no_more_than, object, text, whole_in};
+use scram_doc::{DocError, DocFault, Path, int_in, no_more_than, object, required, text, whole_in};
 use scram_types::limits::{
     MAX_ALTITUDE, MAX_ASSUMED_CHANGES, MAX_ASSUMED_HALTS, MAX_HEADING, MAX_WINDOW,
 };

@@ -17,7 +17,7 @@ mod writers;
 pub use document::parse;
 pub use elements::{Elements, Lengths, read_items, read_list};
 pub use fault::{DocError, DocFault};
-pub use members::{field, required, no_more_than, object};
+pub use members::{field, no_more_than, object, required};
 pub use name::name_of;
 pub use numbered::{NamedElements, Naming, Numbered, Numbers, read_named_items, read_named_list};
 pub use path::Path;

@@ -12,8 +12,8 @@ ghost use Rattle.spec_apps.specs.Facts.{IsNewMode, IsNewApp};
 
 use app_model::{kind_named, mode_named};
 use scram_doc::{
-    DocError, DocFault, Elements, Lengths, NamedElements, Numbered, Path, list, required, no_more_than,
-    object, read_list, text, whole_in,
+    DocError, DocFault, Elements, Lengths, NamedElements, Numbered, Path, list, no_more_than,
+    object, read_list, required, text, whole_in,
 };
 use scram_types::limits::{MAX_APPLICATIONS, MAX_LOAD, MAX_MODES, MAX_PHASE};
 use scram_types::{AppSpec, KindId, List, Mode, ModeSpec};

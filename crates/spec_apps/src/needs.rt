@@ -21,8 +21,8 @@ use crate::{SpecError, SpecFault};
 use arrayvec::ArrayVec;
 use dep_order::{Cycle, rank};
 use scram_doc::{
-    DocError, DocFault, Elements, Lengths, Numbered, Path, list, required, read_items, read_list,
-    read_named_items,
+    DocError, DocFault, Elements, Lengths, Numbered, Path, list, read_items, read_list,
+    read_named_items, required,
 };
 use scram_types::limits::MAX_APPLICATIONS;
 use scram_types::{AppId, AppSpec, List, Name};

@@ -12,7 +12,8 @@ ghost use Rattle.spec_members.specs.Found.{AreMembers};
 use crate::members::Members;
 use crate::names::{ByName, read_new_name};
 use scram_doc::{
-    DocError, Lengths, NamedElements, Numbered, Path, required, no_more_than, object, read_named_list,
+    DocError, Lengths, NamedElements, Numbered, Path, no_more_than, object, read_named_list,
+    required,
 };
 use scram_types::limits::{MAX_FACTORS, MAX_VALUES, MIN_VALUES};
 use scram_types::{Factor, List, Name};

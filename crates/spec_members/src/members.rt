@@ -7,7 +7,7 @@ ghost use Rattle.scram_doc.specs.Members.{required_at, no_more_than};
 ghost use Rattle.spec_members.specs.Found.{AreMembers, AreMembersAfterNames, AreNamingMembers};
 ghost use Rattle.spec_members.specs.Versions.{AreDemands, IsPolicy, demands_tested, each_needed, is_version_in, members_after_names, members_count, members_tested, naming_members, policy_tested};
 
-use scram_doc::{DocFault, Path, required, no_more_than, object};
+use scram_doc::{DocFault, Path, no_more_than, object, required};
 use serde_json::Value;
 
 /// The values of a document's members. `policy` is `None` for version 1, and `demands` is `None` for each version but

@@ -13,8 +13,8 @@ ghost use Rattle.spec_members.specs.Found.{AreMembers};
 use crate::choices::read_conf_id;
 use crate::vocabulary::Vocabulary;
 use scram_doc::{
-    DocError, DocFault, Elements, Lengths, Numbered, Path, required, no_more_than, object, read_list,
-    whole_in,
+    DocError, DocFault, Elements, Lengths, Numbered, Path, no_more_than, object, read_list,
+    required, whole_in,
 };
 use scram_types::limits::{MAX_BOUND, MAX_BOUNDS};
 use scram_types::{Bound, Conf, ConfId};

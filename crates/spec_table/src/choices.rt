@@ -17,7 +17,8 @@ ghost use Rattle.spec_members.specs.Found.{AreMembers};
 use crate::sets::read_procs_set;
 use crate::vocabulary::Vocabulary;
 use scram_doc::{
-    DocError, DocFault, Elements, Lengths, Numbered, Path, required, no_more_than, object, read_list, text,
+    DocError, DocFault, Elements, Lengths, Numbered, Path, no_more_than, object, read_list,
+    required, text,
 };
 use scram_types::limits::{MAX_FACTORS, MAX_RULES};
 use scram_types::{Choice, Conf, ConfId, Factor, FactorId, List, Want};

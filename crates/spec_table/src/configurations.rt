@@ -12,8 +12,8 @@ ghost use Rattle.spec_table.specs.Facts.{ListsMode, IsPlacedAfter, ArePlaces, Is
 ghost use Rattle.spec_members.specs.Found.{AreMembers};
 
 use scram_doc::{
-    DocError, DocFault, Lengths, NamedElements, Numbered, Path, list, required, no_more_than, object,
-    read_named_list,
+    DocError, DocFault, Lengths, NamedElements, Numbered, Path, list, no_more_than, object,
+    read_named_list, required,
 };
 use scram_types::limits::{MAX_APPLICATIONS, MAX_CONFIGURATIONS};
 use scram_types::{AppId, AppSpec, Conf, Mode, Place, Proc, ProcId};

@@ -16,8 +16,8 @@ use crate::configurations::read_listed_mode;
 use crate::sets::{read_apps_set, read_confs_set, read_procs_set};
 use crate::vocabulary::Vocabulary;
 use scram_doc::{
-    DocError, DocFault, Lengths, NamedElements, Numbered, Path, list, required, no_more_than, object,
-    read_list, read_named_list,
+    DocError, DocFault, Lengths, NamedElements, Numbered, Path, list, no_more_than, object,
+    read_list, read_named_list, required,
 };
 use scram_types::limits::{MAX_APPLICATIONS, MAX_DEMANDS, MAX_FACTORS, MAX_MODES};
 use scram_types::{AppId, AppSpec, Demand, List, Mode, Modes};

@@ -14,8 +14,8 @@ use crate::choices::{read_conf_id, read_source};
 use crate::vocabulary::Vocabulary;
 use app_model::variable_named;
 use scram_doc::{
-    DocError, DocFault, Elements, Lengths, Numbered, Path, int_in, required, no_more_than, object,
-    read_list, text,
+    DocError, DocFault, Elements, Lengths, Numbered, Path, int_in, no_more_than, object, read_list,
+    required, text,
 };
 use scram_types::limits::{MAX_INTERVAL_END, MAX_INTERVALS};
 use scram_types::{AppId, AppSpec, Invariant, Precondition};

@@ -4,8 +4,8 @@
 ghost use Rattle.std.specs.Prelude.{◌≤◌, length};
 
 use scram_doc::{
-    DocError, DocFault, Path, field, int_in, list, name_of, required, no_more_than, object, parse, text,
-    whole_in,
+    DocError, DocFault, Path, field, int_in, list, name_of, no_more_than, object, parse, required,
+    text, whole_in,
 };
 use serde_json::Value;
 use std::alloc::Global;
