@@ -9,7 +9,7 @@ use Rattle.scram_types.specs.declared.scripts.HaltAt.{HaltAt}
 use Rattle.scram_types.specs.declared.scripts.RestartAt.{RestartAt}
 use Rattle.fault_script.specs.Fits.{AtMostTwice, EachLater, RestartsBy}
 use Rattle.fault_script.specs.Orders.{halts_of, is_restart_by, may_halt}
-use Rattle.fault_script.specs.Reading.{keep_halts}
+use Rattle.fault_script.specs.Reading.{check_halts}
 use Rattle.fault_script.proofs.Ends.{Place, before, end, each_later_end, each_later_none, place_of}
 use Rattle.fault_script.proofs.Taken.{chain_ok, kept_ok, some_passes}
 
@@ -74,7 +74,7 @@ alternate_end restarts xs h so_far may = record {
 }
 
 pub halts_alternate : (restarts : List RestartAt) (at : List ℕ) (i : ℕ) (xs halts : List HaltAt) (u : ⊤) → Alternate restarts xs
-    → keep_halts restarts at i xs halts ≡ Ok u → Alternate restarts (xs ++ halts)
+    → check_halts restarts at i xs halts ≡ Ok u → Alternate restarts (xs ++ halts)
 halts_alternate restarts at i xs [] u so_far e = subst (Alternate restarts) (sym (append-nil xs)) so_far
 halts_alternate restarts at i xs (h ∷ halts) u so_far e =
     chain_ok _ _ u e (λ v kept rest.

@@ -19,7 +19,7 @@ use Rattle.fault_script.specs.declared.version.Version.{Version}
 use Rattle.fault_script.specs.declared.version.Version.TheVariants.{First, Second}
 use Rattle.fault_script.specs.Fits.{AtMostTwice, ChangeBefore, EachLater, EachNext, Fits, HaltBefore, RestartBefore, IsChange, IsHalt, IsRestart}
 use Rattle.fault_script.specs.Orders.{change_follows, halt_follows, may_halt, restart_follows}
-use Rattle.fault_script.specs.Reading.{keep_halts, make_script, read_change, read_changes, read_halt, read_halts, read_next_change, read_next_halt, read_next_restart, read_restart, read_restarts, script_in, script_of}
+use Rattle.fault_script.specs.Reading.{check_halts, make_script, read_change, read_changes, read_halt, read_halts, read_next_change, read_next_halt, read_next_restart, read_restart, read_restarts, script_in, script_of}
 use Rattle.fault_script.specs.Texts.{change_data, data_without_restarts, halt_data, restart_data, script_data, data_with_restarts}
 use Rattle.fault_script.specs.Times.{words}
 use Rattle.fault_script.specs.Versions.{halts_limit}
@@ -89,7 +89,7 @@ restarts_back spec frames halts at rs is few each follow =
     0 8 at rs (omega arith) few (λ i r e. record { is = each i r e; follows = follow (take i rs) r (drop (suc i) rs) (parted rs i r e) })
 
 kept_back : (restarts : List RestartAt) (at : List ℕ) (i : ℕ) (whole before hs : List HaltAt)
-    → EachSplit (λ xs h _. may_halt restarts xs h ≡ true) whole → before ++ hs ≡ whole → keep_halts restarts at i before hs ≡ Ok tt
+    → EachSplit (λ xs h _. may_halt restarts xs h ≡ true) whole → before ++ hs ≡ whole → check_halts restarts at i before hs ≡ Ok tt
 kept_back restarts at i whole before [] may e = refl
 kept_back restarts at i whole before (h ∷ hs) may e =
     rw (may before h hs e) (kept_back restarts at (suc i) whole (before ++ h ∷ []) hs may (append_assoc before (h ∷ []) hs ∙ e))

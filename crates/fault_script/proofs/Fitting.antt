@@ -37,7 +37,7 @@ use Rattle.fault_script.specs.declared.version.Version.TheVariants.{First, Secon
 use Rattle.fault_script.specs.Fits.{Before, ChangeBefore, EachLater, EachNext, Fits, HaltBefore, HaltsWellBefore, IsChange, IsHalt, IsRestart, RestartBefore}
 use Rattle.scram_types.specs.Lookups.{number_named, proc_id, value_named}
 use Rattle.fault_script.specs.Orders.{change_after, change_follows, comes_after, halt_after, halt_follows, is_halt_before, last_of, restart_after, restart_follows}
-use Rattle.fault_script.specs.Reading.{ScriptMembers, change_values, find_members, find_value, halt_values, keep, keep_halts, make_change, make_halt, make_restart, make_script, read_change, read_changes, read_frames, read_halt, read_halts, read_named_factor, read_named_proc, read_named_value, read_next_change, read_next_halt, read_next_restart, read_restart, read_restarts, read_scram, read_values, restart_values, script_in, script_of}
+use Rattle.fault_script.specs.Reading.{ScriptMembers, change_values, find_members, find_value, halt_values, check, check_halts, make_change, make_halt, make_restart, make_script, read_change, read_changes, read_frames, read_halt, read_halts, read_named_factor, read_named_proc, read_named_value, read_next_change, read_next_halt, read_next_restart, read_restart, read_restarts, read_scram, read_values, restart_values, script_in, script_of}
 use Rattle.fault_script.specs.Times.{is_halt_of, is_restart_of, words}
 use Rattle.fault_script.specs.Versions.{halts_limit, version_of}
 use Rattle.fault_script.proofs.Alternation.{Alternate, alternate_none, halts_alternate}
@@ -134,7 +134,7 @@ next_change_ok : (spec : Parts) (frames : ℕ) (at : List ℕ) (before : List Ch
     → read_next_change spec frames at before d ≡ Ok c → GoodChanges spec frames (before ++ c ∷ [])
 next_change_ok spec frames at before c d good e =
     chain_ok (read_change spec frames at d) _ c e (λ one is e1.
-    chain_ok (keep (change_follows before one) OUT_OF_ORDER at) _ c e1 (λ u kept same.
+    chain_ok (check (change_follows before one) OUT_OF_ORDER at) _ c e1 (λ u kept same.
     let one_is : one ≡ c = cc in
     subst (λ (x : Change). GoodChanges spec frames (before ++ x ∷ [])) one_is
     (good_changes_end spec frames before one good (change_at_ok spec frames at d one is) (kept_ok _ _ _ u kept))))
@@ -179,7 +179,7 @@ next_halt_ok : (spec : Parts) (version : Version) (frames : ℕ) (at : List ℕ)
     → read_next_halt spec version frames at before d ≡ Ok h → GoodHalts spec frames (before ++ h ∷ [])
 next_halt_ok spec version frames at before h d good e =
     chain_ok (read_halt spec frames at d) _ h e (λ one is e1.
-    chain_ok (keep (halt_follows version before one) OUT_OF_ORDER at) _ h e1 (λ u kept same.
+    chain_ok (check (halt_follows version before one) OUT_OF_ORDER at) _ h e1 (λ u kept same.
     let one_is : one ≡ h = cc in
     subst (λ (x : HaltAt). GoodHalts spec frames (before ++ x ∷ [])) one_is
     (good_halts_end spec frames before one good (halt_at_ok spec frames at d one is) (follows_after version before one (kept_ok _ _ _ u kept)))))
@@ -244,7 +244,7 @@ next_restart_ok : (spec : Parts) (frames : ℕ) (halts : List HaltAt) (at : List
     → read_next_restart spec frames halts at before d ≡ Ok r → GoodRestarts spec frames halts (before ++ r ∷ [])
 next_restart_ok spec frames halts at before r d good e =
     chain_ok (read_restart spec frames at d) _ r e (λ one is e1.
-    chain_ok (keep (restart_follows halts before one) WRONG_RESTART at) _ r e1 (λ u kept same.
+    chain_ok (check (restart_follows halts before one) WRONG_RESTART at) _ r e1 (λ u kept same.
     let one_is : one ≡ r = cc in
     subst (λ (x : RestartAt). GoodRestarts spec frames halts (before ++ x ∷ [])) one_is
     (good_restarts_end spec frames halts before one good (restart_at_ok spec frames at d one is) (kept_ok _ _ _ u kept))))
@@ -302,7 +302,7 @@ script_values_ok spec version m script e =
     chain_ok (read_changes spec frames (member_path [] (codes "changes")) m.changes) _ script e1 (λ changes are_changes e2.
     chain_ok (read_halts spec version frames (member_path [] (codes "halts")) m.halts) _ script e2 (λ halts are_halts e3.
     chain_ok (read_restarts spec frames halts (member_path [] (codes "restarts")) m.restarts) _ script e3 (λ restarts are_restarts e4.
-    chain_ok (keep_halts restarts (member_path [] (codes "halts")) 0 [] halts) _ script e4 (λ u kept same.
+    chain_ok (check_halts restarts (member_path [] (codes "halts")) 0 [] halts) _ script e4 (λ u kept same.
     let is : make_script frames changes halts restarts ≡ script = cc in
     subst (Fits spec) is (fits_of spec frames changes halts restarts
     (frames_in_ok m.scram m.frames frames is_frames)

@@ -13,7 +13,7 @@ use Rattle.scram_doc.specs.Chain.{chain}
 use Rattle.scram_doc.specs.Faults.{broken, or_broken}
 use Rattle.scram_doc.specs.Values.{items_within, list_at, whole_at, whole_below}
 use Rattle.scram_types.specs.Lookups.{number_from}
-use Rattle.fault_script.specs.Reading.{keep}
+use Rattle.fault_script.specs.Reading.{check}
 
 pub chain_ok : {A B E P : Type 0} (x : Result A E) (f : A → Result B E) (b : B) → chain x f ≡ Ok b → ((a : A) → x ≡ Ok a → f a ≡ Ok b → P) → P
 chain_ok (Ok a) f b e then = then a refl e
@@ -23,7 +23,7 @@ pub or_broken_ok : {A : Type 0} (rule : ℕ) (at : List ℕ) (o : Option A) (a :
 or_broken_ok rule at (Some x) a e = cc
 or_broken_ok rule at None a e = absurd cc
 
-pub kept_ok : (test : Bool) (rule : ℕ) (at : List ℕ) (u : ⊤) → keep test rule at ≡ Ok u → test ≡ true
+pub kept_ok : (test : Bool) (rule : ℕ) (at : List ℕ) (u : ⊤) → check test rule at ≡ Ok u → test ≡ true
 kept_ok true rule at u e = refl
 kept_ok false rule at u e = absurd cc
 

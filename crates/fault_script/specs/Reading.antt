@@ -27,12 +27,12 @@ use Rattle.fault_script.specs.Times.{words}
 use Rattle.fault_script.specs.Versions.{halts_limit, member_count, version_of}
 
 -- `Ok` if a test passes, else the fault of a rule at a path.
-abbrev pub keep : Bool → ℕ → List ℕ → Result ⊤ DocFault
-keep test rule at = if test then Ok tt else broken rule at
+abbrev pub check : Bool → ℕ → List ℕ → Result ⊤ DocFault
+check test rule at = if test then Ok tt else broken rule at
 
 -- `Ok` if the value at a path is 1 or 2, else the first broken rule. The range 0 to 1,000 is checked first.
 abbrev pub read_scram : List ℕ → Data → Result ⊤ DocFault
-read_scram at d = chain (whole_at 0 1001 at d) (λ (n : ℕ). keep (n == 1 || n == 2) UNKNOWN_VERSION at)
+read_scram at d = chain (whole_at 0 1001 at d) (λ (n : ℕ). check (n == 1 || n == 2) UNKNOWN_VERSION at)
 
 -- The processor that the text at a path names, or the first broken rule.
 abbrev pub read_named_proc : Parts → List ℕ → Data → Result ProcId DocFault
@@ -77,7 +77,7 @@ read_change spec frames at d =
 abbrev pub read_next_change : Parts → ℕ → List ℕ → List Change → Data → Result Change DocFault
 read_next_change spec frames at before d =
     chain (read_change spec frames at d) (λ (change : Change).
-    chain (keep (change_follows before change) OUT_OF_ORDER at) (λ (_ : ⊤). Ok change))
+    chain (check (change_follows before change) OUT_OF_ORDER at) (λ (_ : ⊤). Ok change))
 
 -- The changes of a script, or the first broken rule. Each change must come after the preceding ones.
 abbrev pub read_changes : Parts → ℕ → List ℕ → Data → Result (List Change) DocFault
@@ -110,7 +110,7 @@ read_halt spec frames at d =
 abbrev pub read_next_halt : Parts → Version → ℕ → List ℕ → List HaltAt → Data → Result HaltAt DocFault
 read_next_halt spec version frames at before d =
     chain (read_halt spec frames at d) (λ (halt : HaltAt).
-    chain (keep (halt_follows version before halt) OUT_OF_ORDER at) (λ (_ : ⊤). Ok halt))
+    chain (check (halt_follows version before halt) OUT_OF_ORDER at) (λ (_ : ⊤). Ok halt))
 
 -- The halts of a script, or the first broken rule. Each halt must come after the preceding ones.
 abbrev pub read_halts : Parts → Version → ℕ → List ℕ → Data → Result (List HaltAt) DocFault
@@ -141,7 +141,7 @@ read_restart spec frames at d =
 abbrev pub read_next_restart : Parts → ℕ → List HaltAt → List ℕ → List RestartAt → Data → Result RestartAt DocFault
 read_next_restart spec frames halts at before d =
     chain (read_restart spec frames at d) (λ (restart : RestartAt).
-    chain (keep (restart_follows halts before restart) WRONG_RESTART at) (λ (_ : ⊤). Ok restart))
+    chain (check (restart_follows halts before restart) WRONG_RESTART at) (λ (_ : ⊤). Ok restart))
 
 -- The restarts of a script, or the first broken rule. The list is empty in the first version.
 abbrev pub read_restarts : Parts → ℕ → List HaltAt → List ℕ → Option Data → Result (List RestartAt) DocFault
@@ -150,11 +150,11 @@ read_restarts spec frames halts at (Some d) = elements_at (read_next_restart spe
 
 -- `Ok` if each halt of a list is one that its processor may have after the preceding ones, else the fault of the
 -- first halt that is not. The first halt of the list has index `i` in the script.
-abbrev pub keep_halts : List RestartAt → List ℕ → ℕ → List HaltAt → List HaltAt → Result ⊤ DocFault
-keep_halts restarts at i before [] = Ok tt
-keep_halts restarts at i before (halt ∷ halts) =
-    chain (keep (may_halt restarts before halt) WRONG_HALT (item_path at i)) (λ (_ : ⊤).
-    keep_halts restarts at (suc i) (before ++ halt ∷ []) halts)
+abbrev pub check_halts : List RestartAt → List ℕ → ℕ → List HaltAt → List HaltAt → Result ⊤ DocFault
+check_halts restarts at i before [] = Ok tt
+check_halts restarts at i before (halt ∷ halts) =
+    chain (check (may_halt restarts before halt) WRONG_HALT (item_path at i)) (λ (_ : ⊤).
+    check_halts restarts at (suc i) (before ++ halt ∷ []) halts)
 
 -- The values of a script's members.
 pub record ScriptMembers : Type 0 where
@@ -207,7 +207,7 @@ read_values spec version m =
     chain (read_changes spec frames (member_path [] (codes "changes")) m.changes) (λ (changes : List Change).
     chain (read_halts spec version frames (member_path [] (codes "halts")) m.halts) (λ (halts : List HaltAt).
     chain (read_restarts spec frames halts (member_path [] (codes "restarts")) m.restarts) (λ (restarts : List RestartAt).
-    chain (keep_halts restarts (member_path [] (codes "halts")) 0 [] halts) (λ (_ : ⊤).
+    chain (check_halts restarts (member_path [] (codes "halts")) 0 [] halts) (λ (_ : ⊤).
     Ok (make_script frames changes halts restarts))))))
 
 -- The script that a JSON value encodes, or the first broken rule with its path.

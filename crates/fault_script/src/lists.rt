@@ -3,7 +3,7 @@
 ghost use Rattle.std.specs.Prelude.{◌≡◌, ◌≤◌, length, option_map, IfOk};
 ghost use Rattle.serde_json.specs.View.{view};
 ghost use Rattle.scram_doc.specs.Faults.{Answers};
-ghost use Rattle.fault_script.specs.Reading.{find_value, keep, read_change, read_changes, read_halt, read_halts, read_named_factor, read_named_proc, read_named_value, read_next_change, read_next_halt, read_next_restart, read_restart, read_restarts};
+ghost use Rattle.fault_script.specs.Reading.{find_value, check, read_change, read_changes, read_halt, read_halts, read_named_factor, read_named_proc, read_named_value, read_next_change, read_next_halt, read_next_restart, read_restart, read_restarts};
 
 use crate::order::{change_follows, halt_follows, restart_follows};
 use crate::version::Version;
@@ -17,8 +17,8 @@ use serde_json::Value;
 use std::alloc::Global;
 
 // Returns the fault of a rule at a path if the test fails.
-pub(crate) fn keep(test: bool, rule: u8, at: &Path) -> Result<(), ScriptFault>
-    ensures { result ≡ keep test rule at.now }
+pub(crate) fn check(test: bool, rule: u8, at: &Path) -> Result<(), ScriptFault>
+    ensures { result ≡ check test rule at.now }
 {
     if test {
         Ok(())
@@ -107,7 +107,7 @@ impl Elements<Change> for Changes<'_> {
         at: &Path,
     ) -> Result<Change, ScriptError> {
         let change = read_change(self.spec, self.frames, v, at)?;
-        keep(change_follows(before, &change), rule::OUT_OF_ORDER, at)?;
+        check(change_follows(before, &change), rule::OUT_OF_ORDER, at)?;
         Ok(change)
     }
 }
@@ -177,7 +177,7 @@ impl Elements<HaltAt> for Halts<'_> {
         at: &Path,
     ) -> Result<HaltAt, ScriptError> {
         let halt = read_halt(self.spec, self.frames, v, at)?;
-        keep(
+        check(
             halt_follows(self.version, before, &halt),
             rule::OUT_OF_ORDER,
             at,
@@ -244,7 +244,7 @@ impl Elements<RestartAt> for Restarts<'_> {
         at: &Path,
     ) -> Result<RestartAt, ScriptError> {
         let restart = read_restart(self.spec, self.frames, v, at)?;
-        keep(
+        check(
             restart_follows(self.halts, before, &restart),
             rule::WRONG_RESTART,
             at,

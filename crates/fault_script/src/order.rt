@@ -57,7 +57,7 @@ fn restart_is_after(before: &[RestartAt], restart: &RestartAt) -> bool
     }
 }
 
-fn has_restarted(before: &[RestartAt], proc: ProcId) -> bool
+fn has_restart(before: &[RestartAt], proc: ProcId) -> bool
     ensures { result ≡ list_any (is_restart_of proc.0) before.now }
 {
     before.iter().any(|restart| restart.proc.0 == proc.0)
@@ -75,7 +75,7 @@ pub fn restart_follows(halts: &[HaltAt], before: &[RestartAt], restart: &Restart
     ensures { result ≡ restart_follows halts.now before.now restart.now }
 {
     restart_is_after(before, restart)
-        && !has_restarted(before, restart.proc)
+        && !has_restart(before, restart.proc)
         && has_halted_before(halts, restart.proc, restart.frame)
 }
 

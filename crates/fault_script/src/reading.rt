@@ -5,9 +5,9 @@ ghost use Rattle.serde_json.specs.View.{view};
 ghost use Rattle.scram_doc.specs.Chain.{ok_map};
 ghost use Rattle.scram_doc.specs.Faults.{Answers};
 ghost use Rattle.fault_script.specs.Fits.{Fits};
-ghost use Rattle.fault_script.specs.Reading.{find_members, keep_halts, make_members, need_restarts, read_frames, read_scram, read_values, script_in, script_of};
+ghost use Rattle.fault_script.specs.Reading.{find_members, check_halts, make_members, need_restarts, read_frames, read_scram, read_values, script_in, script_of};
 
-use crate::lists::{Halts, Restarts, keep, read_changes, read_halts, read_restarts};
+use crate::lists::{Halts, Restarts, check, read_changes, read_halts, read_restarts};
 use crate::order::may_halt;
 use crate::version::{Version, version_of};
 use crate::{ScriptError, ScriptFault, rule};
@@ -21,17 +21,17 @@ fn read_scram(v: &Value, at: &Path) -> Result<(), ScriptFault>
     ensures { result ≡ read_scram at.now (view v.now) }
 {
     let version = whole_in(v, 0, 1_001, at)?;
-    keep(version == 1 || version == 2, rule::UNKNOWN_VERSION, at)
+    check(version == 1 || version == 2, rule::UNKNOWN_VERSION, at)
 }
 
 // Checks that each halt is one that its processor may have after the preceding ones.
-fn keep_halts(restarts: &[RestartAt], halts: &[HaltAt], at: &Path) -> Result<(), ScriptFault>
+fn check_halts(restarts: &[RestartAt], halts: &[HaltAt], at: &Path) -> Result<(), ScriptFault>
     requires path { length at.now ≤ 30 }
     requires few { length halts.now ≤ 16 }
-    ensures { result ≡ keep_halts restarts.now at.now 0 [] halts.now }
+    ensures { result ≡ check_halts restarts.now at.now 0 [] halts.now }
 {
     for (i, halt) in halts.iter().enumerate() {
-        keep(
+        check(
             may_halt(restarts, &halts[..i], halt),
             rule::WRONG_HALT,
             &at.item(i),
@@ -118,7 +118,7 @@ fn read_values(
         halts: halts.items(),
     };
     let restarts = read_restarts(alloc, &listed, m.restarts, &at.member("restarts"))?;
-    keep_halts(restarts.items(), halts.items(), &at.member("halts"))?;
+    check_halts(restarts.items(), halts.items(), &at.member("halts"))?;
     Ok(Script {
         frames,
         changes,

@@ -6,7 +6,7 @@ use Rattle.std.specs.Str.{bytes_eq}
 use Rattle.std.proofs.lemmas.List.{map-append}
 use Rattle.std.proofs.lemmas.Iterator.Adapters.{position_from-zero}
 use Rattle.indexmap.specs.IndexSet.{insert_key}
-use Rattle.scram_doc.specs.Numbering.{itself, place_named}
+use Rattle.scram_doc.specs.Numbering.{itself, index_named}
 
 named_from : {A : Type 0} (name : A → List ℕ) (text : List ℕ) (number : ℕ) (xs : List A)
     → position_from (λ (n : List ℕ). bytes_eq text (itself n)) number (map name xs) ≡ position_from (λ (x : A). bytes_eq text (name x)) number xs
@@ -14,7 +14,7 @@ named_from name text number [] = refl
 named_from name text number (x ∷ xs) = rw (named_from name text (number + 1) xs) refl
 
 -- A search for a name among the names of items finds the same index as a search among the items.
-pub place_of_names : {A : Type 0} (name : A → List ℕ) (xs : List A) (text : List ℕ) → place_named itself (map name xs) text ≡ place_named name xs text
+pub place_of_names : {A : Type 0} (name : A → List ℕ) (xs : List A) (text : List ℕ) → index_named itself (map name xs) text ≡ index_named name xs text
 place_of_names {A} name xs text =
     position_from-zero (λ (n : List ℕ). bytes_eq text (itself n)) (map name xs) ∙ named_from name text 0 xs
     ∙ sym (position_from-zero (λ (x : A). bytes_eq text (name x)) xs)
@@ -39,7 +39,7 @@ same_any test other same (x ∷ xs) = rw (same x, same_any test other same xs) r
 
 -- If a name is not in the list, adding it appends it.
 pub added : {A : Type 0} (name : A → List ℕ) (eq : A → A → Bool) (xs : List A) (x : A) (text : List ℕ)
-    → ((y : A) → eq x y ≡ bytes_eq (name x) (name y)) → name x ≡ text → place_named itself (map name xs) text ≡ None
+    → ((y : A) → eq x y ≡ bytes_eq (name x) (name y)) → name x ≡ text → index_named itself (map name xs) text ≡ None
     → map name (insert_key eq xs x) ≡ map name xs ++ text ∷ []
 added {A} name eq xs x text same named none =
     let by_name : (y : A) → eq x y ≡ bytes_eq text (name y) = λ y. same y ∙ ap (λ t. bytes_eq t (name y)) named in

@@ -4,7 +4,7 @@ ghost use Rattle.std.specs.Prelude.{◌≡◌, ◌≤◌, ◌<◌, ◌+◌, ◌+
 ghost use Rattle.serde_json.specs.View.{view, items_view};
 ghost use Rattle.scram_doc.specs.Faults.{Answers};
 ghost use Rattle.scram_doc.specs.Lists.{AllAfter, elements_from, elements_at};
-ghost use Rattle.scram_doc.specs.Numbering.{itself, place_named};
+ghost use Rattle.scram_doc.specs.Numbering.{itself, index_named};
 
 use crate::{DocError, Lengths, Path, list};
 use indexmap::IndexSet;
@@ -49,7 +49,7 @@ impl Numbers {
     }
 
     fn number(&self, name: &str) -> Option<usize>
-        ensures number { result ≡ place_named itself self.now name.now }
+        ensures number { result ≡ index_named itself self.now name.now }
         ensures below { IfSome result (λ number. number < length self.now) }
     {
         self.names.get_index_of(name)
@@ -57,7 +57,7 @@ impl Numbers {
 
     /// Appends a name that is not yet in the list. Returns an error if memory runs out.
     fn with(self, alloc: Global, name: &str) -> Result<Numbers, AllocError>
-        requires { place_named itself self name.now ≡ None }
+        requires { index_named itself self name.now ≡ None }
         ensures { IfOk result (λ numbers. numbers ≡ self ++ name.now ∷ []) }
     {
         let mut names = self.names;
@@ -105,7 +105,7 @@ impl<T, N: Naming<T>> Numbered<T, N> {
 
     /// Returns the index of the item with this name, or `None` if there is no such item.
     pub fn number(&self, name: &str) -> Option<usize>
-        ensures number { result ≡ place_named N.spelling self.now name.now }
+        ensures number { result ≡ index_named N.spelling self.now name.now }
         ensures below { IfSome result (λ number. number < length self.now) }
     {
         self.numbers.number(name)
@@ -140,7 +140,7 @@ impl<T: Drop, N: Naming<T>> Numbered<T, N> {
 
     /// Appends an item whose name no item of the list has. Returns an error if memory runs out.
     fn with(self, alloc: Global, item: T) -> Result<Numbered<T, N>, AllocError>
-        requires { place_named N.spelling self (N.spelling item) ≡ None }
+        requires { index_named N.spelling self (N.spelling item) ≡ None }
         ensures { IfOk result (λ numbered. numbered ≡ self ++ item ∷ []) }
     {
         let numbers = self.numbers.with(alloc, N::name(&item))?;
@@ -161,7 +161,7 @@ pub trait NamedElements<T: Drop, N: Naming<T>> {
     ghost use Rattle.serde_json.specs.View.{view};
     ghost use Rattle.scram_doc.specs.declared.fault.DocFault.{DocFault};
     ghost use Rattle.scram_doc.specs.Faults.{Answers};
-    ghost use Rattle.scram_doc.specs.Numbering.{place_named};
+    ghost use Rattle.scram_doc.specs.Numbering.{index_named};
 
     /// The maximum length of the path of an element.
     ghost room: { ℕ };
@@ -189,7 +189,7 @@ pub trait NamedElements<T: Drop, N: Naming<T>> {
         ensures fits { IfOk result (λ x. Fits self.now done.now x) };
 
     /// If `Fits` holds for an element and the elements before it, no element before it has its name.
-    ghost is_new: { (e : Self) (done : List T) (x : T) → Fits e done x → place_named N.spelling done (N.spelling x) ≡ None };
+    ghost is_new: { (e : Self) (done : List T) (x : T) → Fits e done x → index_named N.spelling done (N.spelling x) ≡ None };
 }
 
 pub fn read_named_items<T: Drop, N: Naming<T>, E: NamedElements<T, N>>(

@@ -15,9 +15,9 @@ pub none_or_some : {A : Type 0} (o : Option A) → (o ≡ None) ⊎ ((x : A) × 
 none_or_some None = inl refl
 none_or_some (Some x) = inr (x, refl)
 
-pub none_where_not_some : {A : Type 0} (o : Option A) → is_some o ≡ false → o ≡ None
-none_where_not_some None e = refl
-none_where_not_some (Some x) e = absurd (cc)
+pub none_if_not_some : {A : Type 0} (o : Option A) → is_some o ≡ false → o ≡ None
+none_if_not_some None e = refl
+none_if_not_some (Some x) e = absurd (cc)
 
 -- Lemmas on `option_or`, the first of two options that is not `None`.
 

@@ -10,7 +10,7 @@ use Rattle.scram_types.specs.Searches.{all_below, any_below, first_below, greate
 use Rattle.scram_types.proofs.Booleans.{and_left, and_right, by_bool, or_cases, or_left, or_right, true_false}
 use Rattle.scram_types.proofs.Items.{first_part, next_part}
 use Rattle.scram_types.proofs.Naturals.{at_or_below, below_or_at, plus_one}
-use Rattle.scram_types.proofs.Options.{none_both, none_left, none_right, none_where_not_some, some_either, some_none}
+use Rattle.scram_types.proofs.Options.{none_both, none_left, none_right, none_if_not_some, some_either, some_none}
 
 -- Lemmas on `all_below`.
 
@@ -91,7 +91,7 @@ pub none_more : {A : Type 0} (answer : ℕ → Option A) (n : ℕ) → first_bel
 none_more answer n before here = ap (first_below answer) (sym (plus_one n)) ∙ none_both (first_below answer n) (answer n) before here
 
 pub first_more : {A : Type 0} (answer : ℕ → Option A) (k : ℕ) (o : Option A) → first_below answer k ≡ None → o ≡ answer k → is_some o ≡ false → first_below answer (k + 1) ≡ None
-first_more answer k o before here none = none_more answer k before (sym here ∙ none_where_not_some o none)
+first_more answer k o before here none = none_more answer k before (sym here ∙ none_if_not_some o none)
 
 pub found_below : {A : Type 0} (answer : ℕ → Option A) (n : ℕ) (x : A) → first_below answer n ≡ Some x → (k : ℕ) × (k < n) × (answer k ≡ Some x)
 found_below answer zero x e = some_none x (sym e)

@@ -5,7 +5,7 @@ use Rattle.std.specs.Prelude.{Option, Some, None, Result, Ok, IfOk, take, slice_
 use Rattle.std.specs.Str.{bytes_eq}
 use Rattle.std.proofs.lemmas.Slice.Eq.{bytes_eq-Decides}
 use Rattle.scram_types.specs.Specification.{Each, NamesDiffer}
-use Rattle.scram_doc.specs.Numbering.{place_named}
+use Rattle.scram_doc.specs.Numbering.{index_named}
 use Rattle.spec_members.proofs.Found.{place_found}
 use Rattle.scram_types.specs.Lookups.{number_from, number_named}
 use Rattle.scram_doc.specs.Lists.{AllAfter}
@@ -61,7 +61,7 @@ found_differ {A} name xs new i j x y there too same = elim (compare i j) [
 ]
 
 -- If each name is new as it is read, the names differ.
-pub new_differ : {A : Type 0} → (name : A → List ℕ) → (xs : List A) → AllAfter (λ (done : List A) (x : A). place_named name done (name x) ≡ None) xs → NamesDiffer name xs
+pub new_differ : {A : Type 0} → (name : A → List ℕ) → (xs : List A) → AllAfter (λ (done : List A) (x : A). index_named name done (name x) ≡ None) xs → NamesDiffer name xs
 new_differ name xs new = found_differ name xs (λ i x e. sym (place_found name (take i xs) (name x)) ∙ new i x e)
 
 -- A property of a result's value holds for the value in it.

@@ -6,11 +6,11 @@ use Rattle.scram_types.specs.Specification.{IsProc, HasLength}
 use Rattle.scram_types.specs.Names.{is_name}
 use Rattle.scram_doc.specs.Lists.{AllAfter}
 use Rattle.spec_members.specs.Names.{name_of_proc, name_of_factor}
-use Rattle.scram_doc.specs.Numbering.{itself, place_named}
+use Rattle.scram_doc.specs.Numbering.{itself, index_named}
 
 -- A text is a name that no item has yet.
 pub record IsFresh {A : Type 0} (name : A → List ℕ) (items : List A) (text : List ℕ) : Type 0 where
-  pub new : place_named name items text ≡ None
+  pub new : index_named name items text ≡ None
   pub spelled : IsTrue (is_name text)
 
 -- A number is the result of `find` for some text.

@@ -155,7 +155,7 @@ pub fn find_members(document: &Value) -> Result<Members<'_>, DocFault>
 {
     object(document, &Path::root())?;
     let naming = find_naming(document)?;
-    let behind = find_after_names(document)?;
+    let after_names = find_after_names(document)?;
     let policy = find_policy(document, naming.scram)?;
     let demands = find_demands(document, naming.scram)?;
     check_count(document, naming.scram)?;
@@ -166,13 +166,13 @@ pub fn find_members(document: &Value) -> Result<Members<'_>, DocFault>
         apps: naming.apps,
         confs: naming.confs,
         factors: naming.factors,
-        rules: behind.rules,
-        bounds: behind.bounds,
-        start: behind.start,
-        goal: behind.goal,
-        invariants: behind.invariants,
-        preconditions: behind.preconditions,
-        assumption: behind.assumption,
+        rules: after_names.rules,
+        bounds: after_names.bounds,
+        start: after_names.start,
+        goal: after_names.goal,
+        invariants: after_names.invariants,
+        preconditions: after_names.preconditions,
+        assumption: after_names.assumption,
         policy,
         demands,
     })

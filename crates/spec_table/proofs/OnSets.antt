@@ -7,7 +7,7 @@ use Rattle.scram_types.specs.Bits.{has_bit}
 use Rattle.scram_types.proofs.BitSets.{has_bits, no_bit_past}
 use Rattle.scram_types.proofs.Booleans.{true_false}
 use Rattle.scram_types.proofs.Naturals.{low_or_high}
-use Rattle.scram_types.proofs.Options.{none_where_not_some}
+use Rattle.scram_types.proofs.Options.{none_if_not_some}
 use Rattle.spec_table.specs.Configurations.{given}
 use Rattle.spec_table.specs.Demands.{on_set}
 use Rattle.spec_table.specs.Facts.{IsApart}
@@ -15,6 +15,6 @@ use Rattle.spec_table.specs.Facts.{IsApart}
 -- an application that must be off is not among those that must be on
 pub off_apart : (on : List (Option (List Mode))) (off : ℕ) → off < 2 ^ 8 → IsApart off (on_set on) → (a : ℕ) → has_bit off a ≡ true → given on a ≡ None
 off_apart on off few apart a is = elim (low_or_high a 8) [
-  | inl low ↦ none_where_not_some (given on a) (sym (has_bits (λ b. is_some (given on b)) 8 a low) ∙ apart a is)
+  | inl low ↦ none_if_not_some (given on a) (sym (has_bits (λ b. is_some (given on b)) 8 a low) ∙ apart a is)
   | inr high ↦ true_false (has_bit off a) is (no_bit_past off 8 a few high)
 ]
