@@ -1,4 +1,4 @@
--- An index within a list of tasks gives the same task for any default.
+-- Reading a list of tasks at an index within the list gives the same task for any default.
 use Rattle.std.proofs.Common.{◌≡◌, ◌∙◌, ◌<◌, ℕ, List, ap, length}
 use Rattle.std.specs.Prelude.{None, slice_index_or}
 use Rattle.std.proofs.lemmas.List.{get_or_default}
@@ -6,7 +6,7 @@ use Rattle.scram_types.specs.declared.orders.Order.TheVariants.{Run}
 use Rattle.frame_model.specs.declared.tasks.Task.{Task}
 use Rattle.frame_model.specs.Tasks.{off_task}
 
--- The task that an index past the end of a list gives.
+-- The task that is used for an index past the end of a list.
 abbrev pub no_task : Task
 no_task = record { order = Run; mode = record { 0 = 0 }; proc = None }
 

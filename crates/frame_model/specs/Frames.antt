@@ -38,7 +38,7 @@ row_given spec sys input = row_of spec sys.frame (frame_env sys input) (commits_
 abbrev pub state_given : Parts → Sys → Input → State
 state_given spec sys input = step spec sys.frame (frame_env sys input) (commits_in sys input) (state_of sys)
 
--- The system before frame `f`, with these processors up and this state.
+-- The system before frame `f`, given the processors that are up, as bits, and the state.
 abbrev pub sys_of : ℕ → ℕ → State → Sys
 sys_of f up state = record {
   frame = f;

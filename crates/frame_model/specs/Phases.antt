@@ -18,22 +18,22 @@ abbrev pub halting_frames : Parts → Option ConfId → ℕ
 halting_frames spec None = 0
 halting_frames spec (Some c) = halting_time spec c
 
--- The phase of a move to `to` that is `age` frames after the end of the halting phase: preparing, then initialising,
--- then running.
+-- The phase of a reconfiguration to `to` in the frame that is `age` frames after the end of the halting phase:
+-- preparing, then initialising, then running.
 abbrev pub after_halting : Parts → ConfId → ℕ → Phase
 after_halting spec to age =
     if nat_lt age (preparing_time spec to) then Preparing to age
     else (if nat_lt (age - preparing_time spec to) (initialising_time spec to) then Initialising to (age - preparing_time spec to)
     else Running to)
 
--- The phase of a move to `to` that is `age` frames after its begin. The halting phase comes first if a configuration
--- halts.
+-- The phase of a reconfiguration to `to` in the frame that is `age` frames after its first frame. The halting phase
+-- comes first if a configuration halts.
 abbrev pub moving_phase : Parts → Option ConfId → ConfId → ℕ → Phase
 moving_phase spec None to age = after_halting spec to age
 moving_phase spec (Some c) to age =
     if nat_lt age (halting_time spec c) then Halting c age else after_halting spec to (age - halting_time spec c)
 
--- The phase of a mode in frame `f`. In a move, one configuration halts or none, and then the target prepares,
+-- The phase of a mode in frame `f`. In a moving mode, a configuration halts first, if any. Then the target prepares,
 -- initialises and runs.
 abbrev pub phase_at : Parts → KMode → ℕ → Phase
 phase_at spec (Stable c) f = Running c
@@ -50,7 +50,7 @@ abbrev pub is_settled : Parts → KMode → ℕ → Bool
 is_settled spec (Stable c) f = false
 is_settled spec (Moving from halting to since) f = is_past spec halting to since f
 
--- The frame of the phase in which the turn of each application begins, counted from 0.
+-- The list that has for each application the frame of the phase in which its turn begins, counted from 0.
 abbrev pub offsets_in : Parts → Phase → List ℕ
 offsets_in spec (Running c) = replicate 8 0
 offsets_in spec (Halting c age) = (timetable spec c).halt

@@ -26,8 +26,8 @@ pub(crate) struct Stage {
     pub(crate) offsets: [u16; 8],
 }
 
-/// Returns the phase of a mode in a frame. In a move, one configuration halts or none, and then the target prepares,
-/// initialises and runs.
+/// Returns the phase of a mode in a frame. In a moving mode, a configuration halts first, if any. Then the target
+/// prepares, initialises and runs.
 pub fn phase_at(spec: &Spec, mode: &KMode, frame: u32) -> Phase
     ensures { result ≡ phase_at spec.now mode.now frame }
 {

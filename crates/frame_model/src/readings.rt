@@ -75,8 +75,8 @@ pub fn close(reading: Reading, frames: u32) -> Option<Report>
 }
 
 /// Returns the reconfigurations that rows show, in order. The first row is that of frame 0, and the start
-/// configuration runs before it. The last reconfiguration may be cut off by the end of the rows. The only error is
-/// out of memory.
+/// configuration runs before it. The last reconfiguration may be cut off by the end of the rows. Returns an error
+/// only if memory runs out.
 pub fn reports(alloc: Global, spec: &Spec, rows: &[Row]) -> Result<Vec<Report>, NoMemory>
     requires { length rows.now < 2 ^ 32 }
     ensures { IfOk result (λ list. list.items ≡ reports spec.now rows.now) }

@@ -12,7 +12,8 @@ use fault_script::Walk;
 use scram_types::{NoMemory, Row, Script, Spec};
 use std::alloc::Global;
 
-/// Returns the one-thread trace of a script: the rows of all its frames, in order. The only error is out of memory.
+/// Returns the one-thread trace of a script: the rows of all its frames, in order. Returns an error only if memory
+/// runs out.
 pub fn rows(
     alloc: Global,
     spec: &Spec,

@@ -126,7 +126,8 @@ fn changed(alloc: Global, text: &str, old: &str, new: &str) -> Result<String, No
     }
 }
 
-/// Returns the canonical text of the example with the members `version` and `policy`, which are given as text.
+/// Returns the canonical text of the example in another version of the format. `version` is the text of the member
+/// `scram`, and `policy` that of the policy and of the name of the next member.
 fn version(alloc: Global, version: &str, policy: &str) -> Result<String, NoMemory> {
     let text = changed(alloc, CANONICAL, r#""scram":1"#, version)?;
     changed(alloc, text.as_str(), r#""preconditions""#, policy)

@@ -60,7 +60,7 @@ module _ (m : Flight) (at : Places) (words : Word → ℕ) (backwards : Bool) wh
     over_without (inl over) = over
     over_without (inr next) = absurd (no_next next.0 next.1)
 
-  -- Two ranges of places together are the whole order.
+  -- If two ranges of places that together are the whole order have no next event, no place of the order has one.
   pub none_at_all : (begin end : ℕ) → suc m.procs ≡ end
       → ((place : ℕ) → begin ≤ place → place < end → next_in_order m at words backwards place ≡ None) → ((place : ℕ) → 0 ≤ place → place < begin → next_in_order m at words backwards place ≡ None)
       → (place : ℕ) → place ≤ m.procs → next_in_order m at words backwards place ≡ None
@@ -69,7 +69,8 @@ module _ (m : Flight) (at : Places) (words : Word → ℕ) (backwards : Bool) wh
     by_side (yes d) = late place d (omega (arith, low, is))
     by_side (no d) = early place (omega arith) (omega (arith, d))
 
-  -- The place after the last event's actor.
+  -- If the places from `begin` to before a place have no next event, and the place has none, no place from `begin` up
+  -- to it has one.
   pub none_more : (begin at' : ℕ) → ((place : ℕ) → begin ≤ place → place < at' → next_in_order m at words backwards place ≡ None) → next_in_order m at words backwards at' ≡ None
       → (place : ℕ) → begin ≤ place → place < at' + 1 → next_in_order m at words backwards place ≡ None
   none_more begin at' before none place low high = by_side (dec_le at' place) where

@@ -3,8 +3,8 @@
 //! The rows of `rows.txt` are separated by blank lines. The first line of a row is its title, and the other lines
 //! are:
 //!
-//! - `= SCRIPT`: The script of the row. Each halt of the row replaces `PROC`, `FRAME` and `STEP` in it, and the frame
-//!   two after that of the halt replaces `RESTART`.
+//! - `= SCRIPT`: The script of the row. It is flown with each halt of the row: the numbers of the halt replace
+//!   `PROC`, `FRAME` and `STEP`, and the frame two after that of the halt replaces `RESTART`.
 //! - `processors N`, `frames N`, `steps N`: The row has a halt for each processor, frame and step below these
 //!   numbers. A missing number is 1.
 //! - `by RULE ..`: Flies the script with each halt to its end by each rule. Each result is judged, and compared with

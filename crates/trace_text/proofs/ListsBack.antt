@@ -197,7 +197,8 @@ abbrev filled_from : List Factor → ℕ → List ℕ → List ℕ → List ℕ
 filled_from [] i set values = set
 filled_from (factor ∷ factors) i set values = filled_from factors (i + 1) (slice_set set i (slice_index values i)) values
 
--- Each of these factors has the value that is listed for it, given the number `i` of the first of these factors.
+-- The value that is listed for each of these factors is one of the factor's values, given the number `i` of the first
+-- factor.
 abbrev HaveValues : List Factor → ℕ → List ℕ → Type 0
 HaveValues factors i values = (x : ℕ) (factor : Factor) → slice_get factors x ≡ Some factor → slice_index values (i + x) < length factor.values
 
@@ -234,8 +235,8 @@ values_count : (factors : List Factor) (i : ℕ) (values : List ℕ) → length 
 values_count [] i values = refl
 values_count (factor ∷ factors) i values = ap suc (values_count factors (i + 1) values)
 
--- A list that is filled from factor `i` on has the values `values`, if it had those before factor `i` and past the
--- last factor.
+-- Filling a list from factor `i` on keeps its length. The filled list has the values `values` if the list had them
+-- before factor `i` and past the last factor.
 filled_width : (factors : List Factor) (i : ℕ) (set values : List ℕ) → length (filled_from factors i set values) ≡ length set
 filled_width [] i set values = refl
 filled_width (factor ∷ factors) i set values = filled_width factors (i + 1) (slice_set set i (slice_index values i)) values ∙ length-set set i (slice_index values i)

@@ -37,7 +37,8 @@ bounds_same None (Some b) h = absurd (let e = h in cc)
 bounds_same (Some a) None h = absurd (let e = h in cc)
 bounds_same (Some a) (Some b) h = ap Some (eqb-true a b h)
 
--- The words of a reconfiguration whose end has been read have these properties.
+-- The words spell the first frame, the length and the given bound of a reconfiguration, and `report` is the
+-- reconfiguration.
 record ReportEnd (ws : List (List ℕ)) (from : ConfId) (to : Option ConfId) (end : ℕ) (given : Option ℕ) (report : Report) : Type 0 where
   begin : ℕ
   begun : word_at ws 5 ≡ decimal begin

@@ -159,7 +159,7 @@ world_words ws at world h =
       bank = signed_spelled d.0 _ d.1 ∙ ap (λ (w : World). signed_decimal w.bank) e;
     }
 
--- The words of a row whose end has been read have these properties.
+-- The words spell the frame `next`, a world and the processors that are up, and `row` has these parts and no acts.
 record RowEnd (spec : Parts) (next : ℕ) (ws : List (List ℕ)) (at : ℕ) (mode : KMode) (values : List ℕ) (row : Row) : Type 0 where
   frame : ℕ
   world : World

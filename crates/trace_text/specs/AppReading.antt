@@ -48,8 +48,8 @@ bare_act tag =
     else (if bytes_eq tag (codes "off") then Some act.Off
     else (if bytes_eq tag (codes "lost") then Some act.Lost else None))
 
--- The result of reading the words of an application that ran, given the number of the application that is due. Tests
--- rules 4 to 6: the names, the area, and whether the application is the one that is due.
+-- The result of reading the words of an application that ran, given the number of the application that is due. Rules
+-- 4 to 6 are tested: the names, the area, and whether the application is due.
 abbrev pub ran_line : Parts → ℕ → List (List ℕ) → Result Done ℕ
 ran_line spec next words =
     or_rule UNKNOWN_NAME (app_number spec (word_at words 1)) (λ (app : ℕ).

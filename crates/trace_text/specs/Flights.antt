@@ -89,8 +89,8 @@ pub record IsRowShown (spec : Parts) (f : ℕ) (row : Row) : Type 0 where
   pub idle : (a : ℕ) → length spec.apps ≤ a → slice_index_or row.acts a Off ≡ Off
   pub empty : (a : ℕ) → length spec.apps ≤ a → a < 8 → slice_index_or row.areas a [] ≡ replicate 8 (pos 0)
 
--- A reconfiguration that ended did so in a frame of a flight. A reconfiguration that was cut off ends with the last
--- of `frames` frames.
+-- A reconfiguration that ended did so in a frame of a flight. A reconfiguration that was cut off has the number of
+-- frames as its end.
 abbrev pub IsEndShown : ℕ → Option ConfId → ℕ → Type 0
 IsEndShown frames None end = end ≡ frames
 IsEndShown frames (Some to) end = end < MAX_FRAMES

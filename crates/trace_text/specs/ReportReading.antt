@@ -47,7 +47,8 @@ finished_report spec words =
     or_rule WRONG_NUMBER (spelled_number MAX_FRAMES (word_at words 7)) (λ (end : ℕ).
     report_end words from (Some to) end (bound_in spec.bounds from.0 to.0))))
 
--- The result of reading the words of a reconfiguration that was cut off. It ends with the frames of the flight.
+-- The result of reading the words of a reconfiguration that was cut off, given the number of frames of the flight,
+-- which is its end.
 abbrev pub unfinished_report : Parts → ℕ → List (List ℕ) → Result Report ℕ
 unfinished_report spec frames words =
     or_rule UNKNOWN_NAME (conf_named spec (word_at words 1)) (λ (from : ConfId).

@@ -26,11 +26,11 @@ pub enum TraceError {
     NoMemory,
 }
 
-/// Reads a trace from its bytes. Returns its rows and reports.
+/// Reads a trace from its bytes, and returns its rows and reports.
 ///
 /// # Errors
 ///
-/// Returns the first line that breaks a rule with the first rule that it breaks, or `NoMemory` if memory runs out.
+/// Returns the first line that breaks a rule, with the first rule that it breaks, or `NoMemory` if memory runs out.
 pub fn read_trace(alloc: Global, bytes: &[u8], spec: &Spec) -> Result<Flown, TraceError>
     ensures read { AnswersTrace (trace_of spec.now bytes.now) result }
     ensures text { IfOk result (λ flown. bytes.now ≡ text_of spec.now flown.rows flown.reports) }
