@@ -48,10 +48,10 @@ mark_free true = refl
 mark_free false = refl
 
 -- a point after its letter, and what follows
-abbrev behind_mark : ℕ → ℕ → List ℕ → List ℕ
-behind_mark k drop rest = decimal k ++ 32 ∷ (decimal drop ++ rest)
+abbrev after_mark : ℕ → ℕ → List ℕ → List ℕ
+after_mark k drop rest = decimal k ++ 32 ∷ (decimal drop ++ rest)
 
-marked : (joined : Bool) (k drop : ℕ) (rest : List ℕ) → ((if joined then codes "L" else codes "M") ++ decimal k ++ codes " " ++ decimal drop) ++ rest ≡ mark joined ∷ behind_mark k drop rest
+marked : (joined : Bool) (k drop : ℕ) (rest : List ℕ) → ((if joined then codes "L" else codes "M") ++ decimal k ++ codes " " ++ decimal drop) ++ rest ≡ mark joined ∷ after_mark k drop rest
 marked true k drop rest =
     ap (λ (text : List ℕ). 76 ∷ text) (ap (λ (text : List ℕ). text ++ rest) (append_assoc (decimal k) (codes " ") (decimal drop)) ∙ append_assoc (decimal k) (32 ∷ decimal drop) rest)
 marked false k drop rest =
@@ -60,7 +60,7 @@ marked false k drop rest =
 point_here : (rows : List Row) (curve : Curve) (k : ℕ) (o : Option Row) (row : Row) (rest : List ℕ) → o ≡ Some row
     → option_map_or (λ (r : Row). (if is_joined curve.quantity (row_before rows k) r then codes "L" else codes "M") ++ decimal k ++ codes " "
     ++ decimal (drop_of curve.extremes (quantity_of curve.quantity r.world))) o [] ++ rest
-    ≡ mark (is_joined curve.quantity (row_before rows k) row) ∷ behind_mark k (drop_of curve.extremes (quantity_of curve.quantity row.world)) rest
+    ≡ mark (is_joined curve.quantity (row_before rows k) row) ∷ after_mark k (drop_of curve.extremes (quantity_of curve.quantity row.world)) rest
 point_here rows curve k o row rest e =
     rw e (marked (is_joined curve.quantity (row_before rows k) row) k (drop_of curve.extremes (quantity_of curve.quantity row.world)) rest)
 
@@ -80,13 +80,13 @@ points_same rows others curve other_curve (suc n) d f r s small few fits free ot
     let other_joined = is_joined other_curve.quantity (row_before others n) next in
     let mine = texts_below (point_text rows curve) n in
     let theirs = texts_below (point_text others other_curve) n in
-    let apart : mine ++ mark joined ∷ behind_mark n drop (d ∷ r) ≡ theirs ++ mark other_joined ∷ behind_mark n other_drop (f ∷ s)
+    let apart : mine ++ mark joined ∷ after_mark n drop (d ∷ r) ≡ theirs ++ mark other_joined ∷ after_mark n other_drop (f ∷ s)
     = ap (λ (text : List ℕ). mine ++ text) (sym (point_here rows curve n (slice_get rows n) row (d ∷ r) here)) ∙ sym (append_assoc mine (point_text rows curve n) (d ∷ r)) ∙ h
     ∙ append_assoc theirs (point_text others other_curve n) (f ∷ s) ∙ ap (λ (text : List ℕ). theirs ++ text) (point_here others other_curve n (slice_get others n) next (f ∷ s) there) in
-    let before = points_same rows others curve other_curve n (mark joined) (mark other_joined) (behind_mark n drop (d ∷ r)) (behind_mark n other_drop (f ∷ s)) (omega (arith, small))
+    let before = points_same rows others curve other_curve n (mark joined) (mark other_joined) (after_mark n drop (d ∷ r)) (after_mark n other_drop (f ∷ s)) (omega (arith, small))
     (omega (arith, few)) (omega (arith, fits)) (mark_free joined) (mark_free other_joined) apart in
     let marks = before.1 in
-    let tails : behind_mark n drop (d ∷ r) ≡ behind_mark n other_drop (f ∷ s) = cc in
+    let tails : after_mark n drop (d ∷ r) ≡ after_mark n other_drop (f ∷ s) = cc in
     let low = drop_small curve.extremes (quantity_of curve.quantity row.world) in
     let other_low = drop_small other_curve.extremes (quantity_of other_curve.quantity next.world) in
     let last = fields is_ascii_digit d f (decimal drop) (decimal other_drop) r s free other (decimal_digits drop (omega (arith, low))) (decimal_digits other_drop (omega (arith, other_low)))

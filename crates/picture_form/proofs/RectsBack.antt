@@ -35,9 +35,9 @@ abbrev pub frames_tail : ℕ → ℕ → List ℕ
 frames_tail k zero = codes "frame " ++ decimal k
 frames_tail k (suc n) = codes "frames " ++ (decimal k ++ (codes " to " ++ decimal (k + suc n)))
 
-pub frames_behind : (k n : ℕ) → frames_text k (suc n) ≡ 32 ∷ frames_tail k n
-frames_behind k zero = refl
-frames_behind k (suc n) = ap (λ (text : List ℕ). codes " frames " ++ text) (append_assoc (decimal k) (codes " to ") (decimal (k + suc n)))
+pub frames_after : (k n : ℕ) → frames_text k (suc n) ≡ 32 ∷ frames_tail k n
+frames_after k zero = refl
+frames_after k (suc n) = ap (λ (text : List ℕ). codes " frames " ++ text) (append_assoc (decimal k) (codes " to ") (decimal (k + suc n)))
 
 pub frames_plain : (k n : ℕ) → k + n < 2 ^ 64 → all_over 32 (frames_tail k n) ≡ true
 frames_plain k zero few = decimal_plain k (omega (arith, few))

@@ -100,8 +100,8 @@ mode_over spec a app mode sound there listed =
     let facts = sound.apps a app there in
     name_over (mode_text app.kind.0 mode.0) (mode_spelled app.kind.0 facts.kind mode.0 (mode_valid app.kind.0 app.modes mode.0 facts.modes listed))
 
-proc_behind : (spec : Parts) (p : ℕ) → IsSpec spec → all_over 32 (codes " " ++ proc_name spec p) ≡ true
-proc_behind spec p sound = plain (proc_name spec p) (proc_name_over spec p sound)
+proc_visible : (spec : Parts) (p : ℕ) → IsSpec spec → all_over 32 (codes " " ++ proc_name spec p) ≡ true
+proc_visible spec p sound = plain (proc_name spec p) (proc_name_over spec p sound)
 
 ran_whole : (mode proc : List ℕ) → codes " " ++ mode ++ codes " " ++ proc ≡ codes " " ++ (mode ++ (codes " " ++ proc))
 ran_whole mode proc = simp append_assoc
@@ -109,17 +109,17 @@ ran_whole mode proc = simp append_assoc
 doing_plain : (spec : Parts) (a : ℕ) (app : AppSpec) (act : Act) → IsSpec spec → slice_get spec.apps a ≡ Some app → IsActShown spec app act → all_over 32 (mode_and_proc spec app.kind.0 act) ≡ true
 doing_plain spec a app (Ran mode proc) sound there shown =
     ap (all_over 32) (ran_whole (mode_text app.kind.0 mode.0) (proc_name spec proc.0))
-    ∙ both_over 32 (mode_text app.kind.0 mode.0) (codes " " ++ proc_name spec proc.0) (plain (mode_text app.kind.0 mode.0) (mode_over spec a app mode sound there shown.listed)) (proc_behind spec proc.0 sound)
-doing_plain spec a app (Halting k n proc) sound there shown = proc_behind spec proc.0 sound
+    ∙ both_over 32 (mode_text app.kind.0 mode.0) (codes " " ++ proc_name spec proc.0) (plain (mode_text app.kind.0 mode.0) (mode_over spec a app mode sound there shown.listed)) (proc_visible spec proc.0 sound)
+doing_plain spec a app (Halting k n proc) sound there shown = proc_visible spec proc.0 sound
 doing_plain spec a app Held sound there shown = refl
-doing_plain spec a app (Preparing k n proc) sound there shown = proc_behind spec proc.0 sound
-doing_plain spec a app (Initialising k n proc) sound there shown = proc_behind spec proc.0 sound
+doing_plain spec a app (Preparing k n proc) sound there shown = proc_visible spec proc.0 sound
+doing_plain spec a app (Initialising k n proc) sound there shown = proc_visible spec proc.0 sound
 doing_plain spec a app Off sound there shown = refl
 doing_plain spec a app Lost sound there shown = refl
 
 act_label_plain : (spec : Parts) (a : ℕ) (app : AppSpec) (act : Act) → IsSpec spec → slice_get spec.apps a ≡ Some app → IsActShown spec app act → all_over 32 (act_label spec app.kind.0 act) ≡ true
 act_label_plain spec a app (Ran mode proc) sound there shown =
-    simp append_assoc (both_over 32 (mode_text app.kind.0 mode.0) (codes " " ++ proc_name spec proc.0) (plain (mode_text app.kind.0 mode.0) (mode_over spec a app mode sound there shown.listed)) (proc_behind spec proc.0 sound))
+    simp append_assoc (both_over 32 (mode_text app.kind.0 mode.0) (codes " " ++ proc_name spec proc.0) (plain (mode_text app.kind.0 mode.0) (mode_over spec a app mode sound there shown.listed)) (proc_visible spec proc.0 sound))
 act_label_plain spec a app (Halting k n proc) sound there shown = refl
 act_label_plain spec a app Held sound there shown = refl
 act_label_plain spec a app (Preparing k n proc) sound there shown = refl

@@ -20,7 +20,7 @@ use Rattle.picture_form.specs.declared.sheets.Sheet.{Sheet}
 use Rattle.picture_form.specs.declared.spans.Span.{Span}
 use Rattle.trace_text.proofs.WordBytes.{all_over, all_over_less}
 use Rattle.picture_form.proofs.Cuts.{cut, left_after}
-use Rattle.picture_form.proofs.RectsBack.{box_plain, box_quotes, frames_behind, frames_plain, frames_tail, label_plain, rect_ends, rect_grouped, rect_of, rect_parts}
+use Rattle.picture_form.proofs.RectsBack.{box_plain, box_quotes, frames_after, frames_plain, frames_tail, label_plain, rect_ends, rect_grouped, rect_of, rect_parts}
 use Rattle.picture_form.proofs.ShowsBack.{IsShownIn, SameEnds, class_over, is_seen, label_words_plain, lane_name_over, plain, shown_same, words_plain}
 
 -- positions
@@ -54,7 +54,7 @@ rect_is : (spec : Parts) (sheet : Sheet) (row : Row) (lane : Lane) (y k n : ℕ)
 rect_is spec sheet row lane y k n =
     rect_grouped (class_text lane row) (box_of sheet (span_of lane y k n)) (lane_name spec lane) (words_text spec lane row) (frames_text k (suc n)) (span_label sheet (span_of lane y k n) (label_of spec lane row))
     ∙ ap (λ (frames : List ℕ). rect_of (class_text lane row) (box_of sheet (span_of lane y k n)) (lane_name spec lane) (words_text spec lane row) frames
-    (span_label sheet (span_of lane y k n) (label_of spec lane row))) (frames_behind k n)
+    (span_label sheet (span_of lane y k n) (label_of spec lane row))) (frames_after k n)
 
 pub rect_line : (spec : Parts) (sheet : Sheet) (row : Row) (lane : Lane) (y k n : ℕ) → IsSpec spec → IsShownIn spec lane → IsRowDrawn spec row → y ≤ 6000 → k + n < 2 ^ 32
     → left_after 10 (Some 1) (rect_text spec sheet row (span_of lane y k n)) ≡ Some 0

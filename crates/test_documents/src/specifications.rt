@@ -71,7 +71,7 @@ fn deep_texts(rt: HostRuntime) -> Result<(), Fail> {
 }
 
 /// Returns the rule and the path of the first fault of the example after the byte 255, which occurs in no UTF-8 text.
-fn refusal_behind_byte(alloc: Global) -> Result<(u8, Path), NoMemory> {
+fn refusal_after_byte(alloc: Global) -> Result<(u8, Path), NoMemory> {
     let mut bytes = Vec::from_slice(alloc, &[255])?;
     bytes.extend_from_slice(EXAMPLE.as_bytes())?;
     refusal(alloc, &bytes)
@@ -79,7 +79,7 @@ fn refusal_behind_byte(alloc: Global) -> Result<(u8, Path), NoMemory> {
 
 #[test]
 fn a_byte_before_it_is_no_json_text(rt: HostRuntime) -> Result<(), Fail> {
-    let (rule, path) = refusal_behind_byte(rt.alloc())?;
+    let (rule, path) = refusal_after_byte(rt.alloc())?;
     assert_eq!(rt; (rule, path.as_str()), (1, "."));
     Ok(())
 }

@@ -379,15 +379,15 @@ due_case spec s a row line true due first = app_line_least spec s a row line due
 due_case spec s a row line false due first = refl
 
 -- Whether each of rules 2 to 9 is kept by a line.
-abbrev kept_behind : Parts → ReadingState → Expected → List ℕ → List Bool
-kept_behind spec s standing line =
+abbrev kept_after : Parts → ReadingState → Expected → List ℕ → List Bool
+kept_after spec s standing line =
     is_in_place standing line ∷ has_form spec standing line ∷ keeps (asked_form spec standing line) (knows_names spec (words_of line))
     ∷ keeps (asked_form spec standing line) (spells_numbers (words_of line)) ∷ keeps (asked_form spec standing line) (is_due spec s (words_of line))
     ∷ keeps (asked_form spec standing line) (is_in_order spec (words_of line)) ∷ keeps (asked_form spec standing line) (counts_rightly spec s (words_of line))
     ∷ is_open standing ∷ []
 
 standing_case : (spec : Parts) (s : ReadingState) (line : List ℕ) (standing : Expected) → s.standing ≡ standing →
-    told_by (standing_line spec s standing line) ≡ least_from 2 (kept_behind spec s standing line)
+    told_by (standing_line spec s standing line) ≡ least_from 2 (kept_after spec s standing line)
 standing_case spec s line Rows is = open_case spec s line (begins line (codes "frame")) refl
 standing_case spec s line (Apps a row) is = due_case spec s a row line (begins line (codes "app")) (ap app_due is) refl
 standing_case spec s line Reports is = closing_case spec s line (begins line (codes "reconfiguration")) (begins line (codes "end")) refl refl
@@ -399,5 +399,5 @@ plain_case false read more h = refl
 
 pub least_rule : LeastRuleIsReported
 least_rule spec s line =
-    reports_least 1 (is_plain line ∷ kept_behind spec s s.standing line) (after_line spec s line)
-    (plain_case (is_plain line) (standing_line spec s s.standing line) (kept_behind spec s s.standing line) (standing_case spec s line s.standing refl))
+    reports_least 1 (is_plain line ∷ kept_after spec s s.standing line) (after_line spec s line)
+    (plain_case (is_plain line) (standing_line spec s s.standing line) (kept_after spec s s.standing line) (standing_case spec s line s.standing refl))

@@ -19,7 +19,7 @@ use Rattle.scram_types.proofs.Equality.{same_text}
 use Rattle.trace_text.specs.Flights.{IsEnvShown}
 use Rattle.trace_text.specs.Names.{further_joined, joined, names_up, values_named}
 use Rattle.trace_text.specs.Pieces.{is_filled, items_of, pieces_of}
-use Rattle.trace_text.specs.RowReading.{are_values, is_next, is_proc_name, left_behind, up_from, up_in, values_from, values_in}
+use Rattle.trace_text.specs.RowReading.{are_values, is_next, is_proc_name, names_left, up_from, up_in, values_from, values_in}
 use Rattle.trace_text.specs.Text.{up_text, values_text}
 use Rattle.trace_text.proofs.NamesBack.{NameBack, found_at, name_back}
 use Rattle.trace_text.proofs.RowOnly.{further_join}
@@ -113,7 +113,7 @@ not_next proc (other ∷ procs) up differ = by (up % 2 == 1) (not_next proc proc
     by true h = differ 0 other refl
     by false h = h
 
-all_left : (proc : Proc) (names : List (List ℕ)) → is_next proc names ≡ false → left_behind proc names ≡ names
+all_left : (proc : Proc) (names : List (List ℕ)) → is_next proc names ≡ false → names_left proc names ≡ names
 all_left proc [] h = refl
 all_left proc (name ∷ names) h = rw h refl
 

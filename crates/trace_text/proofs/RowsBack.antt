@@ -36,13 +36,13 @@ row_taken spec rows reports words row visible few read =
     rw (words_in_back (codes "frame") words visible few, words_back (codes "frame") words visible, read) refl
 
 -- The words of an environment and of the world that follows it.
-abbrev words_behind : Parts → Env → World → List (List ℕ)
-words_behind spec env world =
+abbrev words_after : Parts → Env → World → List (List ℕ)
+words_after spec env world =
     codes "env" ∷ values_text spec env.factors ∷ codes "up" ∷ up_text spec env.up ∷ codes "world"
     ∷ signed_decimal world.alt ∷ signed_decimal world.climb ∷ signed_decimal world.heading ∷ signed_decimal world.bank ∷ []
 
-behind_visible : (spec : Parts) (env : Env) (world : World) → IsSpec spec → IsEnvShown spec env → IsWorldShown world → list_all is_visible (words_behind spec env world) ≡ true
-behind_visible spec env world sound seen shown =
+words_after_visible : (spec : Parts) (env : Env) (world : World) → IsSpec spec → IsEnvShown spec env → IsWorldShown world → list_all is_visible (words_after spec env world) ≡ true
+words_after_visible spec env world sound seen shown =
     rw (
       (values_text_back spec env sound seen).visible,
       (up_text_back spec env.up sound seen.up).visible,
@@ -52,8 +52,8 @@ behind_visible spec env world sound seen shown =
       shown_visible world.bank shown.bank,
     ) refl
 
-behind_narrow : (spec : Parts) (env : Env) (world : World) → IsSpec spec → IsEnvShown spec env → IsWorldShown world → width (words_behind spec env world) ≤ 291
-behind_narrow spec env world sound seen shown =
+words_after_narrow : (spec : Parts) (env : Env) (world : World) → IsSpec spec → IsEnvShown spec env → IsWorldShown world → width (words_after spec env world) ≤ 291
+words_after_narrow spec env world sound seen shown =
     omega (
       arith,
       (values_text_back spec env sound seen).short,
@@ -76,10 +76,10 @@ stable_back spec rows reports c env world sound few known seen shown =
     let up = up_text_back spec env.up sound seen.up in
     let number = frame_short (length rows) (omega (arith, few)) in
     let one = name_short (conf_name spec c.0) name in
-    let more = behind_narrow spec env world sound seen shown in
-    let words : List (List ℕ) = decimal (length rows) ∷ codes "stable" ∷ conf_name spec c.0 ∷ words_behind spec env world in
+    let more = words_after_narrow spec env world sound seen shown in
+    let words : List (List ℕ) = decimal (length rows) ∷ codes "stable" ∷ conf_name spec c.0 ∷ words_after spec env world in
     let visible : list_all is_visible (codes "frame" ∷ words) ≡ true
-    = rw (decimal_visible (length rows) (omega (arith, few)), name_visible (conf_name spec c.0) name, behind_visible spec env world sound seen shown) refl in
+    = rw (decimal_visible (length rows) (omega (arith, few)), name_visible (conf_name spec c.0) name, words_after_visible spec env world sound seen shown) refl in
     let read : row_of_words spec (length rows) (codes "frame" ∷ words) ≡ Ok (row_begun (length rows) (Stable c) env world)
     = rw (
       values.form,
@@ -120,8 +120,8 @@ moving_back spec rows reports from halting to since env world sound few move see
     let one = name_short (conf_name spec from.0) source in
     let two = dash_short spec halting sound move.halts in
     let three = name_short (conf_name spec to.0) target in
-    let more = behind_narrow spec env world sound seen shown in
-    let words : List (List ℕ) = decimal (length rows) ∷ codes "moving" ∷ conf_name spec from.0 ∷ conf_or_dash spec halting ∷ conf_name spec to.0 ∷ decimal since ∷ words_behind spec env world in
+    let more = words_after_narrow spec env world sound seen shown in
+    let words : List (List ℕ) = decimal (length rows) ∷ codes "moving" ∷ conf_name spec from.0 ∷ conf_or_dash spec halting ∷ conf_name spec to.0 ∷ decimal since ∷ words_after spec env world in
     let visible : list_all is_visible (codes "frame" ∷ words) ≡ true
     = rw (
       decimal_visible (length rows) (omega (arith, few)),
@@ -129,7 +129,7 @@ moving_back spec rows reports from halting to since env world sound few move see
       dash_visible spec halting sound move.halts,
       name_visible (conf_name spec to.0) target,
       decimal_visible since (omega (arith, begun)),
-      behind_visible spec env world sound seen shown,
+      words_after_visible spec env world sound seen shown,
     ) refl in
     let read : row_of_words spec (length rows) (codes "frame" ∷ words) ≡ Ok (row_begun (length rows) (Moving from halting to since) env world)
     = rw (

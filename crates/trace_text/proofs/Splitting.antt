@@ -5,7 +5,7 @@ use Rattle.std.specs.List.{list_all, position, position_or_len, onto_first}
 use Rattle.std.proofs.lemmas.Bool.{ltb-true, lt-ltb, le-leb}
 use Rattle.std.proofs.lemmas.List.Splits.{slice_split_first}
 use Rattle.std.proofs.lemmas.List.Splits.{length-slice_split}
-use Rattle.trace_text.specs.Pieces.{pieces_of, pieces_behind, sides, sides_of, words_of, words_in, is_filled}
+use Rattle.trace_text.specs.Pieces.{pieces_of, pieces_left, sides, sides_of, words_of, words_in, is_filled}
 use Rattle.trace_text.proofs.Inversion.{some_says}
 
 pub place_below : (separator at : ℕ) (bytes : List ℕ) → position (λ (b : ℕ). b == separator) bytes ≡ Some at → at < length bytes
@@ -64,6 +64,6 @@ all_words ws line e filled few =
 
 -- If a line has been split to its end into at most 16 words that are not empty, these are the words of the line.
 pub split_whole : (ws : List (List ℕ)) (left : Option (Bor (List ℕ))) (line : List ℕ) → left ≡ None →
-    ws ++ pieces_behind 32 (option_map (λ (b : Bor (List ℕ)). b.now) left) ≡ words_of line → list_all is_filled ws ≡ true → length ws ≤ 16 → Some ws ≡ words_in line
+    ws ++ pieces_left 32 (option_map (λ (b : Bor (List ℕ)). b.now) left) ≡ words_of line → list_all is_filled ws ≡ true → length ws ≤ 16 → Some ws ≡ words_in line
 split_whole ws left line none split filled few =
     all_words ws (words_of line) (let e : ws ++ [] ≡ words_of line = rw none at split in sym (append-nil ws) ∙ e) filled few

@@ -7,9 +7,9 @@ abbrev pub pieces_of : ℕ → List ℕ → List (List ℕ)
 pieces_of separator bytes = slice_split (λ (b : ℕ). b == separator) bytes
 
 -- The pieces of the bytes after a separator, or no pieces if there is no separator.
-abbrev pub pieces_behind : ℕ → Option (List ℕ) → List (List ℕ)
-pieces_behind separator None = []
-pieces_behind separator (Some behind) = pieces_of separator behind
+abbrev pub pieces_left : ℕ → Option (List ℕ) → List (List ℕ)
+pieces_left separator None = []
+pieces_left separator (Some behind) = pieces_of separator behind
 
 -- The words of a line. Words are separated by single spaces.
 abbrev pub words_of : List ℕ → List (List ℕ)

@@ -69,9 +69,9 @@ is_next proc [] = false
 is_next proc (name ∷ names) = bytes_eq proc.name name
 
 -- The names without the first one if it is that of the processor, or else all of them.
-abbrev pub left_behind : Proc → List (List ℕ) → List (List ℕ)
-left_behind proc [] = []
-left_behind proc (name ∷ names) = if bytes_eq proc.name name then names else name ∷ names
+abbrev pub names_left : Proc → List (List ℕ) → List (List ℕ)
+names_left proc [] = []
+names_left proc (name ∷ names) = if bytes_eq proc.name name then names else name ∷ names
 
 -- The bits `up`, together with `bit` if the processor is named.
 abbrev pub with_bit : Bool → ℕ → ℕ → ℕ
@@ -83,7 +83,7 @@ abbrev pub up_from : List Proc → List (List ℕ) → ℕ → ℕ → Option �
 up_from [] [] bit up = Some up
 up_from [] (name ∷ names) bit up = None
 up_from (proc ∷ procs) names bit up =
-    up_from procs (left_behind proc names) (bit * 2) (with_bit (is_next proc names) bit up)
+    up_from procs (names_left proc names) (bit * 2) (with_bit (is_next proc names) bit up)
 
 -- The bits of the processors that a list names, or `None` if the names are not in the order of the processors.
 abbrev pub up_in : List Proc → List ℕ → Option ℕ

@@ -2,15 +2,15 @@
 
 ghost use Rattle.std.specs.Prelude.{◌≡◌, ◌≤◌, ◌==◌, length, option_map};
 ghost use Rattle.std.specs.List.{list_all};
-ghost use Rattle.trace_text.specs.Pieces.{pieces_of, pieces_behind, items_of};
-ghost use Rattle.trace_text.specs.RowReading.{is_next, left_behind, up_in, values_in, is_proc_name};
+ghost use Rattle.trace_text.specs.Pieces.{pieces_of, pieces_left, items_of};
+ghost use Rattle.trace_text.specs.RowReading.{is_next, names_left, up_in, values_in, is_proc_name};
 
 use crate::pieces::{first_piece, is_dash};
 use scram_types::{Proc, Spec};
 
 // Returns the names of a list, or `None` for the empty list `-`.
 fn start_of(list: &[u8]) -> Option<&[u8]>
-    ensures { pieces_behind 44 (option_map (λ b. b.now) result) ≡ items_of list.now }
+    ensures { pieces_left 44 (option_map (λ b. b.now) result) ≡ items_of list.now }
 {
     if is_dash(list) { None } else { Some(list) }
 }
@@ -86,8 +86,8 @@ pub fn read_up(procs: &[Proc], list: &[u8]) -> Option<u8>
 // Returns `true` if the first name of `left` is that of the processor, and the names that follow it. If it is not,
 // returns `false` and all names.
 fn pass<'a>(proc: &Proc, left: Option<&'a [u8]>) -> (bool, Option<&'a [u8]>)
-    ensures named { result.0 ≡ is_next proc.now (pieces_behind 44 (option_map (λ b. b.now) left.entry)) }
-    ensures left { pieces_behind 44 (option_map (λ b. b.now) result.1) ≡ left_behind proc.now (pieces_behind 44 (option_map (λ b. b.now) left.entry)) }
+    ensures named { result.0 ≡ is_next proc.now (pieces_left 44 (option_map (λ b. b.now) left.entry)) }
+    ensures left { pieces_left 44 (option_map (λ b. b.now) result.1) ≡ names_left proc.now (pieces_left 44 (option_map (λ b. b.now) left.entry)) }
 {
     match left {
         Some(names) => {

@@ -2,7 +2,7 @@
 
 ghost use Rattle.std.specs.Prelude.{◌≡◌, ◌<◌, ◌+◌, ◌==◌, ◌∷◌, [], IfSome, MatchOption, bytes_eq, codes, drop, length, option_map, take};
 ghost use Rattle.std.specs.List.{position};
-ghost use Rattle.trace_text.specs.Pieces.{pieces_of, pieces_behind, sides_of};
+ghost use Rattle.trace_text.specs.Pieces.{pieces_of, pieces_left, sides_of};
 
 // Returns the index of the first separator, or `None` if there is none.
 fn separator_place(bytes: &[u8], separator: u8) -> Option<usize>
@@ -42,7 +42,7 @@ pub fn split_once(bytes: &[u8], separator: u8) -> Option<(&[u8], &[u8])>
 /// Returns the first piece of `bytes`, and the bytes after its separator, or `None` in their place if there is no
 /// separator.
 pub fn first_piece(bytes: &[u8], separator: u8) -> (&[u8], Option<&[u8]>)
-    ensures pieces { pieces_of separator bytes.now ≡ result.0.now ∷ pieces_behind separator (option_map (λ b. b.now) result.1) }
+    ensures pieces { pieces_of separator bytes.now ≡ result.0.now ∷ pieces_left separator (option_map (λ b. b.now) result.1) }
     ensures shorter { IfSome result.1 (λ behind. length behind.now < length bytes.now) }
 {
     match split_once(bytes, separator) {
