@@ -36,7 +36,7 @@ own_opening : (o : Option Place) → OwnAt o (opening_written o)
 own_opening None = refl
 own_opening (Some p) = inr refl
 
--- If an act fits a place, then the area after the act was written at that place.
+-- If an act fits an optional place, then the area after the act was written there, or cleared if there is no place.
 own_after : (o : Option Place) (act : CourseAct) (w : Written) → course_fits_place o act ≡ true → OwnAt o (written_after act w)
 own_after None (Ran q) w h = absurd (true_false false h refl)
 own_after None (Halted k n q) w h = absurd (true_false false h refl)

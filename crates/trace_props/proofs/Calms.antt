@@ -23,8 +23,8 @@ timed_in plan course f (Steady c) (Moving from halting to since) h = (f, h.deadl
 timed_in plan course f (Leaving c s) (Stable k) h = absurd h.moves
 timed_in plan course f (Leaving c s) (Moving from halting to since) h = (h.first, h.moves.1)
 
--- If a window has at most one change, then a reconfiguration begins with that change and sees no other, and its
--- target is chosen again.
+-- A reconfiguration under way began with a change of the environment and has seen no other, and its target is chosen
+-- again. This holds if a window has at most one change.
 abbrev pub AloneIn : Plan → Course → ℕ → CourseMode → Type 0
 AloneIn plan course f (Stable c) = Unit {0}
 AloneIn plan course f (Moving from halting to since) =

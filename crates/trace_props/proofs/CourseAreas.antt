@@ -1,4 +1,4 @@
--- Areas, by the act that wrote them last; invariants and preconditions.
+-- Areas, by the act that wrote them last, with invariants and preconditions.
 use Rattle.std.specs.Prelude.{◌≡◌, ℕ, zero, suc, ◌<◌, ◌≤◌, ◌⊎◌, Bool, true, List, ℤ, Option, Some, None}
 use Rattle.trace_props.proofs.Plans.{Plan, IsAcceptedPlan, IsPlanTarget}
 use Rattle.trace_props.proofs.Courses.{Course, CourseReading.Leaving, CourseReport, course_reading_before, course_report_at, IsCourseWithin}

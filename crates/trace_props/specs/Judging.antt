@@ -34,7 +34,7 @@ use Rattle.scram_types.specs.Lookups.{env_before, env_in}
 abbrev pub comes_before : Broken → Broken → Bool
 comes_before one other = nat_lt one.frame other.frame || (one.frame == other.frame && nat_lt (property_number one.property) (property_number other.property))
 
--- The earlier of two optional breaks, the one that is present, or `None` if both are absent.
+-- The earlier of two optional breaks, the only one present, or `None` if both are absent.
 abbrev pub earlier : Option Broken → Option Broken → Option Broken
 earlier None other = other
 earlier (Some one) None = Some one
@@ -132,7 +132,7 @@ breaks_at rows inv f = row_breaks inv (slice_get rows f)
 abbrev pub unkept_from : List Row → Report → Invariant → Option ℕ
 unkept_from rows r inv = if has_source inv.from r.from then least_from (breaks_at rows inv) r.begin (r.end + 1 - r.begin) else None
 
--- The smaller of two optional frames, the one that is present, or `None` if both are absent.
+-- The smaller of two optional frames, the only one present, or `None` if both are absent.
 abbrev pub lesser_frame : Option ℕ → Option ℕ → Option ℕ
 lesser_frame None other = other
 lesser_frame (Some one) None = Some one

@@ -140,7 +140,7 @@ fn lies_in(low: i64, high: i64, word: i64) -> bool
     low <= word && word <= high
 }
 
-// Returns the smaller of two frames, the one that is present, or `None` if both are absent.
+// Returns the smaller of two frames, the only one present, or `None` if both are absent.
 fn lesser_frame(one: Option<u32>, other: Option<u32>) -> Option<u32>
     ensures { result ≡ lesser_frame one other }
 {
