@@ -56,8 +56,7 @@ pub released : (m : Flight) (k f : ℕ) → f < release_at m k → (f ≤ k) × 
 released m k f l = let a : f ≤ k = grind (arith, nat_tests) in let b : 0 < m.frames = grind (arith, nat_tests) in (a, b)
 
 module _ (m : Flight) (halt : Option UnitHalt) (s : Pair) (y : Flies m) (k : PairKept m halt s) where
-  -- The number of frames in which the other unit has met unit `u` is bounded by the frames in which `u` has been
-  -- ready.
+  -- Unless unit `u` has halted, the other unit has met it in no more frames than `u` has been ready in.
   pub met_other : (u : ℕ) → u < 2 → HasMet m (s.unit (other_unit u)) (s.unit u)
   met_other u l = two (λ v. HasMet m (s.unit (other_unit v)) (s.unit v)) (k.met 1 (omega arith)) (k.met 0 (omega arith)) u l
 
