@@ -14,7 +14,7 @@ use Rattle.fail_stop.proofs.Plans.{gate}
 is_same : (p q : ℕ) → nat_eq p q ≡ true → q ≡ p
 is_same p q e = grind (arith, nat_tests)
 
--- the event that is reported is one of processor p
+-- If the event that is reported equals an event of processor `p`, then it is an event of `p`.
 told : (p : ℕ) (x e : Event) → is_actor x p ≡ true → Some x ≡ Some e → is_actor e p ≡ true
 told p x e own is = let same : x ≡ e = cc in subst (λ (e : Event). is_actor e p ≡ true) same own
 
@@ -33,7 +33,7 @@ halted_told : (p h release : ℕ) (restart : Option ℕ) (e : Event) → next_ha
 halted_told p h release None e is = cc
 halted_told p h release (Some r) e is = told p (Start (proc_id p)) e (nat_eq_self p) (gate _ (Some (Start (proc_id p))) e is).1
 
--- the kernel is the actor of an event
+-- Whether the kernel is the actor of an event.
 abbrev of_kernel : Event → Bool
 of_kernel (Start p) = false
 of_kernel (Look p q) = false
@@ -83,7 +83,7 @@ module _ (m : Flight) (at : Places) (words : Word → ℕ) where
   by_kernel (KStore i) is = refl
   by_kernel Release is = refl
 
-  -- the next event of a processor, or of the kernel, is the next of its actor
+  -- The next event of a processor or of the kernel is the next event of its actor.
   pub own_next : (p : ℕ) (e : Event) → next_of m at words p ≡ Some e → IsNext m at words e
   own_next p e is = by_actor p e (from_told p (words ReleaseWord) (at.proc p) e (gate (nat_lt p m.procs) (next_from m p (words ReleaseWord) (at.proc p)) e is).1) ∙ is
 

@@ -24,7 +24,7 @@ use Rattle.event_core.specs.Replays.{IsReplay}
 use Rattle.event_core.proofs.Ending.{ended_by}
 
 module _ (m : Flight) where
-  -- the sum of the notes of all previous frames and of this one
+  -- The number of notes in all previous frames and in this one.
   abbrev noted : Places → ℕ
   noted at = m.procs * at.frame + min at.step m.procs
 
@@ -72,7 +72,7 @@ module _ (m : Flight) where
       let rest = notes_on (happened m s e) es t is.1 in
       rest ∙ (more s e 0 (notes_in es) is.0).notes
 
--- the frames that have ended, by the notes
+-- The number of frames that have ended is the number of notes divided by the number of processors.
 ended_notes : (spec : Parts) (places : KeptPlaces) → 0 < length spec.procs → frames_ended spec places ≡ (length spec.procs * places.frame + min places.step (length spec.procs)) / length spec.procs
 ended_notes spec places some = by_side (dec_le (length spec.procs) places.step) where
   procs : ℕ
@@ -104,7 +104,7 @@ counted spec script facts events places words r =
       ended = ended_notes spec places facts.procs_count.enough ∙ ap (λ n. n / length spec.procs) notes;
     }
 
--- the rows of a core, by its history
+-- The number of rows of a core is the number of notes in its history, divided by the number of processors.
 pub rows_counted : (core : CoreParts) (spec : Parts) (script : ScriptParts) (places : KeptPlaces) (stored : List ℕ) (history : List Event) (rows : List Row) → core_of spec script places stored history ≡ core
     → IsSpec spec → rows ≡ rows_below core.spec core.script (frames_ended core.spec core.places)
     → IsReplay (core_flight core) core.history (core_places core) (core_words core) → length rows ≡ notes_in core.history / length core.spec.procs

@@ -74,7 +74,7 @@ module _ (spec : Parts) (facts : IsSpec spec) (script : ScriptParts) (places pla
       let after : nat_le (length spec.procs) places2.step ≡ true = grind (arith, nat_tests, last) in
       record { step = last; same = frame; before = ended_by spec places false before ∙ sym frame; after = ended_by spec places2 true after }
 
--- a core whose kernel ends the frame, and one whose kernel waits
+-- If the kernel ends the frame, or waits for another note, then the core keeps its invariant.
 module _ (spec : Parts) (script : ScriptParts) (places2 : KeptPlaces) (stored2 : List ℕ) (history2 : List Event) (room2 count2 : ℕ) (machine : MachineKeeps spec script places2 stored2 history2 room2 count2)
     (kernel : KernelParts) where
   pub core_on : frames_ended spec places2 ≡ places2.frame + 1 → kernel ≡ kernel_after spec script (places2.frame + 1) → CoreKeeps spec script places2 stored2 history2 room2 count2 kernel
@@ -83,7 +83,7 @@ module _ (spec : Parts) (script : ScriptParts) (places2 : KeptPlaces) (stored2 :
   pub core_still : (f : ℕ) → frames_ended spec places2 ≡ f → kernel ≡ kernel_after spec script f → CoreKeeps spec script places2 stored2 history2 room2 count2 kernel
   core_still f after is_kernel = record { machine = machine; kernel_is = is_kernel ∙ ap (kernel_after spec script) (sym after) }
 
--- the image of a kernel after f frames
+-- The image of the kernel after `f` frames is the kernel image of frame `f`.
 pub kernel_says : (kernel : KernelParts) (spec : Parts) (script : ScriptParts) (f : ℕ) (image : KernelImage) → kernel ≡ kernel_after spec script f → image ≡ kernel_image kernel.spec kernel.script kernel.past
     → image ≡ kernel_image spec script f
 kernel_says kernel spec script f image is said = subst (λ (k : KernelParts). image ≡ kernel_image k.spec k.script k.past) is said

@@ -15,7 +15,7 @@ use Rattle.fail_stop.proofs.Plans.{Begin, HaltsHere, Mid, begin, both_less, gate
 use Rattle.fail_stop.proofs.Moves.{nat_eq_self}
 use Rattle.event_core.specs.Rooms.{events_a_frame, events_left, left_at, left_below, left_of_kernel}
 
--- the events of one frame
+-- The events of the frames that remain are the events of one frame and of the frames after it.
 pub frame_less : (frames f c : ℕ) → f < frames → (frames - f) * c ≡ c + (frames - suc f) * c
 frame_less frames f c low = let e : frames - f ≡ 1 + (frames - suc f) = omega arith in rw e (grind arith)
 
@@ -24,7 +24,7 @@ times_le zero b c le = omega arith
 times_le (suc a) zero c le = absurd (omega arith)
 times_le (suc a) (suc b) c le = let less = times_le a b c (omega arith) in grind (arith, less)
 
--- a sum in which one part is less, and the others are equal
+-- If one part of a sum decreases and the others stay equal, then the sum decreases.
 pub sum_less : (m : Flight) (at at2 : Places) (p n : ℕ) → p < n → left_at m (at2.proc p) < left_at m (at.proc p)
     → ((q : ℕ) → q ≢ p → left_at m (at2.proc q) ≡ left_at m (at.proc q)) → left_below m at2 n < left_below m at n
 sum_less m at at2 p zero low less same = absurd (omega arith)
@@ -45,7 +45,7 @@ sum_less m at at2 p (suc n) low less same = elim (ends p n low) [
   sum_same zero all = refl
   sum_same (suc k) all = let front = sum_same k (λ q below. all q (omega arith)) in let here = all k (omega arith) in omega (arith, front, here)
 
--- a flight that has a first event has a frame
+-- If a processor has an event at the opening, then the flight has a frame.
 begun_flies : (m : Flight) (words : Word → ℕ) (p : ℕ) (e : Event) → next_of m opening_places words p ≡ Some e → 0 < m.frames
 begun_flies m words p e i =
     let a = (gate (nat_lt p m.procs) (next_from m p (words ReleaseWord) (At 0 0)) e i).1 in
@@ -62,13 +62,13 @@ first_flies m words (KNote p) i = is_less 0 m.frames (gate (nat_lt 0 m.frames) _
 first_flies m words (KStore x) i = is_less 0 m.frames (gate (nat_lt 0 m.frames) _ (KStore x) i).0
 first_flies m words Release i = is_less 0 m.frames (gate (nat_lt 0 m.frames) _ Release i).0
 
--- if some event is next after a schedule, the flight has a frame
+-- If some event is next after a schedule, then the flight has a frame.
 pub has_frames : (m : Flight) (es : List Event) (t : Machine) (e : Event) → IsSchedule m (opening m) es t → IsNext m t.at t.words e → 0 < m.frames
 has_frames m [] t e is next = first_flies m (opening_words m) e (subst (λ (s : Machine). IsNext m s.at s.words e) is next)
 has_frames m (x ∷ es) t e is next = first_flies m (opening_words m) x is.0
 
 module _ (m : Flight) where
-  -- a step within frame f
+  -- A step within frame `f` reduces the number of events left for its processor.
   step_less : (f n : ℕ) → f < m.frames → n + 1 < events_a_frame m → left_at m (At f (suc n)) < left_at m (At f n)
   step_less f n low within = let e = frame_less m.frames f (events_a_frame m) low in omega (arith, e)
 
@@ -94,7 +94,7 @@ module _ (m : Flight) (at : Places) (words : Word → ℕ) (y : Flies m) (k : Ke
   acting : (p : ℕ) (e : Event) → next_of m at words p ≡ Some e → (p < m.procs) × (next_from m p (words ReleaseWord) (at.proc p) ≡ Some e)
   acting p e i = let g = gate (nat_lt p m.procs) (next_from m p (words ReleaseWord) (at.proc p)) e i in (is_less p m.procs g.0, g.1)
 
-  -- a processor that has begun a frame is in a frame of the flight
+  -- A processor that has begun a frame is in a frame of the flight.
   pub begun_low : (p f n : ℕ) → p < m.procs → at.proc p ≡ At f n → 0 < n → f < m.frames
   begun_low p f n l here begun = let r : Running m at.frame at.step p f n = rw here at (k.placed p l) in by_frame r (dec_le f at.frame)
     where

@@ -28,12 +28,12 @@ use Rattle.event_core.specs.Flyers.{AreLastDrafts, FlyBy, FlyersFit, IsLastDraft
 use Rattle.event_core.specs.Places.{HasLooked, kept_opening, machine_places}
 use Rattle.event_core.proofs.Opens.{places_open}
 
--- a processor that has looked is live
+-- A processor that has looked is live.
 pub looked_flies : (m : Flight) (place : Place) → HasLooked m place → is_halted place ≡ false
 looked_flies m (At f n) looked = refl
 looked_flies m (Halted h) looked = absurd looked
 
--- a halted processor starts in the frame of its restart
+-- A halted processor starts only in the frame of its restart, which comes after the halt.
 came : (h r release p : ℕ) (e : Event) → next_halted p h release (Some r) ≡ Some e → h < r
 came h r release p e next = by_test (nat_lt h r) refl next where
   by_test : (b : Bool) → nat_lt h r ≡ b → (if b && nat_lt r release then Some (Start (record { 0 = p })) else None) ≡ Some e → h < r
@@ -60,7 +60,7 @@ module _ {X : Type 0} {Y : X → Type 0} (m : Flight) where
           spare = λ s again later. let same : r ≡ s = cc in absurd (omega (arith, same, later));
         }
 
-  -- after the start that is next
+  -- After a start that is next, a processor is at its new place.
   pub flyer_begun : (at : Places) (words : Word → ℕ) (p : ProcId) (flyer : Flyer X Y) → p.0 < m.procs → IsNext m at words (Start p) → IsFlyerAt m p.0 (at.proc p.0) flyer
       → IsFlyerAt m p.0 (moved m (Start p) p.0 (at.proc p.0)) (flyer_started flyer)
   flyer_begun at words p flyer known next is = let low : nat_lt p.0 m.procs ≡ true = grind (arith, nat_tests, known) in begun_at p.0 (words ReleaseWord) (at.proc p.0) (Start p) flyer (sym (rw low refl) ∙ next) is
@@ -69,19 +69,19 @@ module _ {X : Type 0} {Y : X → Type 0} (m : Flight) where
   still_down p h (Up live) is = let down = is.down in cc
   still_down p h (Down halted) is = is
 
-  -- after a halt at its place
+  -- After a halt at its place, a processor is at the place of the halt.
   pub flyer_stopped : (p : ℕ) (place : Place) (flyer : Flyer X Y) → IsFlyerAt m p place flyer → IsFlyerAt m p (halted_there place) (flyer_halted (frame_of place) flyer)
   flyer_stopped p (At f n) flyer is = record { unit = unit_stopped p (At f n) flyer.unit is.unit refl; spare = is.spare }
   flyer_stopped p (Halted h) flyer is = record { unit = still_down p h flyer.unit is.unit; spare = is.spare }
 
-  -- one processor starts or halts
+  -- If one processor starts or halts, then all processors are at their places after the event.
   pub flyers_turn : (at : Places) (e : Event) (flyers : List (Flyer X Y)) (p : ℕ) (flyer : Flyer X Y) → ((q : ℕ) → is_actor e q ≡ nat_eq q p) → AreFlyersAt m at.proc flyers → p < 8
       → IsFlyerAt m p (moved m e p (at.proc p)) flyer → AreFlyersAt m (proc_after m at e) (slice_set flyers p flyer)
   flyers_turn at e flyers p flyer by are low is = flyers_with m at.proc (proc_after m at e) flyers p flyer are low
       (let own : is_actor e p ≡ true = by p ∙ grind (arith, nat_tests) in rw own is)
       (λ q other. let foreign : is_actor e q ≡ false = by q ∙ grind (arith, nat_tests, other) in rw foreign refl)
 
-  -- one processor has drafted
+  -- If one processor has drafted, then all processors stay at their places.
   pub flyers_drafted : (at : ℕ → Place) (flyers : List (Flyer X Y)) (p : ℕ) (was flyer : Flyer X Y) → AreFlyersAt m at flyers → p < 8 → is_halted (at p) ≡ false → IsFlyerAt m p (at p) was
       → is_down flyer.unit ≡ false → unit_proc flyer.unit ≡ unit_proc was.unit → flyer.spare ≡ was.spare → AreFlyersAt m at (slice_set flyers p flyer)
   flyers_drafted at flyers p was flyer are low flies is up number spare = flyers_with m at at flyers p flyer are low
@@ -96,13 +96,13 @@ drafts_with spec script drafted p made long low is old q small = by_place (ℕ_d
       (subst (IsLastDraft spec script p) (sym (get_or-set_same drafted p made None (omega (arith, low, long)))) is)
   by_place (no e) = subst (IsLastDraft spec script q) (sym (get_or-set_other drafted p q made None e)) (old q small)
 
--- the draft that a processor makes of the snapshot of a frame
+-- The draft that a processor makes of the snapshot of a frame is its draft in the one-thread trace.
 pub drafted_by : (spec own : Parts) (script : ScriptParts) (p q f : ℕ) (snap : Snapshot) (image : List ℤ) → spec ≡ own → IsSpec own → p < length own.procs → q ≡ p → IsSnapshot spec script f snap
     → ((script : ScriptParts) (f : ℕ) → IsSpec own → q < length own.procs → IsSnapshot own script f snap → image ≡ draft own script q f) → image ≡ draft spec script p f
 drafted_by spec own script p q f snap image same facts known number shown trace =
     trace script f facts (rw number known) (subst (λ spec. IsSnapshot spec script f snap) same shown) ∙ ap (λ q. draft own script q f) number ∙ ap (λ spec. draft spec script p f) (sym same)
 
--- the processors fly by a core before and after an event
+-- The processors fly with a core before and after each event.
 module _ {X : Type 0} {Y : X → Type 0} where
   pub fly_first : (core : CoreParts) (flyers : Flyers X Y) → core.places ≡ kept_opening → FlyersFit core.spec core.script (λ p. At 0 0) flyers → FlyBy core flyers
   fly_first core flyers is fits =

@@ -23,12 +23,12 @@ use Rattle.event_core.specs.Rooms.{events_a_frame, events_left}
 use Rattle.event_core.proofs.Fewer.{fewer, first_flies}
 use Rattle.event_core.proofs.Opens.{all_events}
 
--- the invariant of the parts gives that of the core
+-- If the history of a core's parts is a schedule, then so is the history of the core.
 pub replayed_by : (core : CoreParts) (spec : Parts) (script : ScriptParts) (places : KeptPlaces) (stored : List ℕ) (history : List Event) → core_of spec script places stored history ≡ core
     → IsReplay (flight_of spec script) history (machine_places places) (stored_in stored) → IsReplay (core_flight core) core.history (core_places core) (core_words core)
 replayed_by core spec script places stored history is r = subst (λ (core : CoreParts). IsReplay (core_flight core) core.history (core_places core) (core_words core)) is r
 
--- each event reduces the number of events left
+-- Each event of a schedule reduces the number of events left by at least one.
 module _ (m : Flight) (flies : Flies m) (within : (p r : ℕ) → m.restart p ≡ Some r → r < m.frames) (flying : 0 < m.frames) where
   longer : (s : Machine) (es : List Event) (t : Machine) → Kept m s.at s.words → IsSchedule m s es t → length es + events_left m t.at ≤ events_left m s.at
   longer s [] t kept is = rw is (omega arith)

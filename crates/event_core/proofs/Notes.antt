@@ -8,7 +8,7 @@ use Rattle.scram_types.specs.Lookups.{proc_id}
 use Rattle.fail_stop.specs.Events.{EndWord, Places, Word, may_note, next_kernel}
 use Rattle.fail_stop.specs.Flights.{Flight}
 
--- while the kernel has not noted all processors, its next event is a note
+-- While the kernel has not noted all processors, its next event is a note or it has none.
 pub note_next : (m : Flight) (at : Places) (words : Word → ℕ) (p end : ℕ) (next : Option Event) → at.frame < m.frames → at.step < m.procs → p ≡ at.step → end ≡ words (EndWord p)
     → next ≡ (if may_note m p at.frame end then Some (KNote (proc_id p)) else None) → next ≡ next_kernel m at words
 note_next m at words p end next frame step is_p is_end is =

@@ -61,7 +61,7 @@ open_keeps spec script first areas keepers places stored history room count fact
       room_left = subst (λ n. n + events_left (flight_of spec script) (machine_places places) ≤ room) (sym is_count) (subst (λ n. n ≤ room) (sym left) is_room);
     }
 
--- with the kernel before the first frame
+-- A core whose kernel has not begun the first frame keeps its invariant.
 pub opened : (spec : Parts) (script : ScriptParts) (places : KeptPlaces) (stored : List ℕ) (history : List Event) (room count : ℕ) (kernel : KernelParts)
     → MachineKeeps spec script places stored history room count → places ≡ kept_opening → kernel ≡ kernel_after spec script 0 → CoreKeeps spec script places stored history room count kernel
 opened spec script places stored history room count kernel machine is_places is_kernel =

@@ -25,7 +25,7 @@ use Rattle.event_core.proofs.Ending.{ended_by}
 use Rattle.event_core.proofs.Fewer.{first_flies}
 use Rattle.event_core.proofs.Steps.{kept_of}
 
--- a processor that the kernel has noted in the last frame is done
+-- A processor that the kernel has noted in the last frame is done.
 done_by : (m : Flight) (k j p : ℕ) (place : Place) → IsPlaced m k j p place → p < j → suc k ≡ m.frames → ((r : ℕ) → m.restart p ≡ Some r → r < m.frames) → IsDone m p place
 done_by m k j p (At f n) is noted last within = let past = is.noted noted in omega (arith, past, is.high, last)
 done_by m k j p (Halted h) is noted last within = λ r back. by_frame r back (dec_le r h)
@@ -60,12 +60,12 @@ module _ {spec : Parts} {script : ScriptParts} {places : KeptPlaces} {stored : L
       let waits : nat_le (length spec.procs) places.step ≡ false = grind (arith, nat_tests, step, one) in
       ended_by spec places false waits ∙ (let same : places.frame ≡ script.frames = omega (arith, frame, none) in same)
 
-  -- then all frames have ended
+  -- If the flight is over, then all frames have ended.
   pub over_ended : IsOver (flight_of spec script) (machine_places places) → frames_ended spec places ≡ script.frames
   over_ended (inl none) = none_ended none
   over_ended (inr last) = all_ended last.1 last.2
 
--- the same of a core that has these parts
+-- If the flight has no frame, or the kernel has noted all processors in the last frame, then the core is over.
 pub over_by : (core : CoreParts) (spec : Parts) (script : ScriptParts) (places : KeptPlaces) (stored : List ℕ) (history : List Event) (room count : ℕ) → core_of spec script places stored history ≡ core
     → MachineKeeps spec script places stored history room count → (script.frames ≡ 0) ⊎ ((suc places.frame ≡ script.frames) × (length spec.procs ≤ places.step)) → IsOver (core_flight core) (core_places core)
 over_by core spec script places stored history room count is k over = subst (λ (core : CoreParts). IsOver (core_flight core) (core_places core)) is (is_over k over)
@@ -76,7 +76,7 @@ true_less a b is = grind (arith, nat_tests, is)
 less_true : (a b : ℕ) → a ≤ b → IsTrue (nat_le a b)
 less_true a b is = grind (arith, nat_tests, is)
 
--- in the last frame the flight is over once all are noted
+-- In the last frame the flight is over if and only if all processors are noted.
 pub over_told : (core : CoreParts) (spec : Parts) (script : ScriptParts) (places : KeptPlaces) (stored : List ℕ) (history : List Event) (room count : ℕ) (procs : List Proc) → core_of spec script places stored history ≡ core
     → MachineKeeps spec script places stored history room count → procs ≡ spec.procs → 0 < script.frames → suc places.frame ≡ script.frames
     → (IsTrue (nat_le (length procs) places.step) → IsOver (core_flight core) (core_places core)) × (IsOver (core_flight core) (core_places core) → IsTrue (nat_le (length procs) places.step))

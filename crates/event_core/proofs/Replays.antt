@@ -19,7 +19,7 @@ more : (m : Flight) (s : Machine) (es : List Event) (t : Machine) (e : Event) �
 more m s [] t e is next = (subst (λ (t : Machine). IsNext m t.at t.words e) is next, ap (λ (t : Machine). happened m t e) is)
 more m s (x ∷ es) t e is next = (is.0, more m (happened m s x) es t e is.1 next)
 
--- words that agree have the same next events
+-- If two assignments of words agree on the stored words, then each actor has the same next event under both.
 module _ (m : Flight) (at : Places) (v w : Word → ℕ) (same : (x : Word) → IsStored m x → v x ≡ w x) where
   pub next_same : (p : ℕ) → next_of m at v p ≡ next_of m at w p
   next_same p = ap (λ r. if nat_lt p m.procs then next_from m p r (at.proc p) else None) (same ReleaseWord tt)
@@ -46,14 +46,14 @@ module _ (m : Flight) (at : Places) (v w : Word → ℕ) (same : (x : Word) → 
   next_moved (KStore x) i = sym kernel_same ∙ i
   next_moved Release i = sym kernel_same ∙ i
 
--- the invariant in the state of a history
+-- The state of a history satisfies the invariant.
 pub replay_kept : (m : Flight) (events : List Event) (at : Places) (words : Word → ℕ) → Flies m → IsReplay m events at words → Kept m at words
 replay_kept m events at words y r =
     let k = each_state m events r.state y r.schedule in
     let moved : Kept m at r.state.words = subst (λ (a : Places). Kept m a r.state.words) (sym r.places_are) k in
     record { kernel = moved.kernel; placed = moved.placed; words_are = λ w s. r.words_are w s ∙ moved.words_are w s }
 
--- the write of an event by words that agree
+-- If two assignments of words agree on the stored words, then each event writes the same word under both.
 module _ (m : Flight) (at : Places) (v w : Word → ℕ) (same : (x : Word) → IsStored m x → v x ≡ w x) where
   acts : (p : ℕ) (e : Event) → next_of m at v p ≡ Some e → p < m.procs
   acts p e i = is_less p m.procs (gate (nat_lt p m.procs) (next_from m p (v ReleaseWord) (at.proc p)) e i).0
@@ -78,11 +78,11 @@ places_same a b procs frame step =
     ap (λ (f : ℕ → Place). record { proc = f; frame = a.frame; step = a.step }) (fun_ext procs)
     ∙ ap (λ (f : ℕ). record { proc = b.proc; frame = f; step = a.step }) frame ∙ ap (λ (n : ℕ). record { proc = b.proc; frame = b.frame; step = n }) step
 
--- an event that is next by the kept places and words is next in the state
+-- An event that is next at the kept places and words is next in the state of the history.
 pub next_there : (m : Flight) (events : List Event) (at : Places) (words : Word → ℕ) (e : Event) → (r : IsReplay m events at words) → IsNext m at words e → IsNext m r.state.at r.state.words e
 next_there m events at words e r next = subst (λ (a : Places). IsNext m a r.state.words e) r.places_are (next_moved m at words r.state.words r.words_are e next)
 
--- with one further event at its end
+-- A history with the next event at its end is a schedule that leads to the places and words after the event.
 pub replay_on : (m : Flight) (events : List Event) (at at2 : Places) (words words2 : Word → ℕ) (e : Event) → (r : IsReplay m events at words) → IsNext m at words e → Moves m at e at2
     → ((w : Word) → IsStored m w → words2 w ≡ written (writes m at words e) words w)
     → (more : IsReplay m (events ++ e ∷ []) at2 words2) × (more.state ≡ happened m r.state e)

@@ -31,7 +31,7 @@ use Rattle.event_core.proofs.Ending.{ended_by}
 use Rattle.event_core.proofs.ImagesFound.{images_found}
 use Rattle.event_core.proofs.Steps.{kept_of}
 
--- twenty words that are those of an image, one by one
+-- Twenty words that equal those of an image one by one are the words of the image.
 next_same : (x y : ℕ) (xs ys : List ℕ) → x ≡ y → xs ≡ ys → x ∷ xs ≡ y ∷ ys
 next_same x y xs ys is are = rw (is, are) refl
 
@@ -43,7 +43,7 @@ words_are stored image held =
     (next_same _ _ _ _ (held 12 (omega arith)) (next_same _ _ _ _ (held 13 (omega arith)) (next_same _ _ _ _ (held 14 (omega arith)) (next_same _ _ _ _ (held 15 (omega arith))
     (next_same _ _ _ _ (held 16 (omega arith)) (next_same _ _ _ _ (held 17 (omega arith)) (next_same _ _ _ _ (held 18 (omega arith)) (next_same _ _ _ _ (held 19 (omega arith)) refl)))))))))))))))))))
 
--- a processor that has looked is in the kernel's frame, and is not noted in it
+-- A processor that has looked is in the kernel's frame and is not noted in it.
 pub record Looking (spec : Parts) (script : ScriptParts) (places : KeptPlaces) (stored : List ℕ) (p : ℕ) : Type 0 where
   pub now : frame_of ((machine_places places).proc p) ≡ places.frame
   pub early : places.step ≤ p
@@ -76,7 +76,7 @@ module _ {spec : Parts} {script : ScriptParts} {places : KeptPlaces} {stored : L
   pub looking : (p : ℕ) → p < length spec.procs → HasLooked (flight_of spec script) ((machine_places places).proc p) → Looking spec script places stored p
   looking p low looked = at_place p ((machine_places places).proc p) low refl looked
 
--- the same of a core that has these parts
+-- If a processor of a core has looked, then it is in the frame of the core's kernel and is not noted in it.
 pub looking_in : (core : CoreParts) (spec : Parts) (script : ScriptParts) (places : KeptPlaces) (stored : List ℕ) (history : List Event) (room count p : ℕ) → core_of spec script places stored history ≡ core
     → MachineKeeps spec script places stored history room count → ReadersFind → p < length core.spec.procs → HasLooked (core_flight core) ((core_places core).proc p) → Looking spec script places stored p
 looking_in core spec script places stored history room count p is k find low looked =
@@ -98,7 +98,7 @@ held_now : (spec : Parts) (script : ScriptParts) (stored : List ℕ) (f : ℕ) �
     → (p i : ℕ) → p < length spec.procs → i < words spec → stored_in stored (BankWord p (bank_taken stored f p) i) ≡ word_in (image_words_after spec script p f) i
 held_now spec script stored f finds p i low inside = ap (λ b. stored_in stored (BankWord p b i)) (finds.picked p low) ∙ finds.held p i low inside
 
--- what is read is the snapshot
+-- The kernel image and the images that are read are the snapshot of the processor's frame.
 pub snapshot_by : (core : CoreParts) (spec : Parts) (script : ScriptParts) (places : KeptPlaces) (stored : List ℕ) (history : List Event) (room count p : ℕ) (snap : Snapshot) (frame : ℕ)
     → core_of spec script places stored history ≡ core → MachineKeeps spec script places stored history room count → Looking spec script places stored p
     → snap.kernel ≡ kernel_image spec script places.frame → frame ≡ frame_of ((core_places core).proc p)
@@ -115,7 +115,7 @@ snapshot_by core spec script places stored history room count p snap frame is k 
     subst (λ (core : CoreParts). IsSnapshot core.spec core.script (frame_of ((core_places core).proc p)) snap) is
     (subst (λ f. IsSnapshot spec script f snap) here snapshot)
 
--- a processor whose next event is a store has looked
+-- A processor whose next event is a store has looked.
 pub store_looked : (m : Flight) (at : Places) (words : Word → ℕ) (p : ProcId) (i : ℕ) → IsNext m at words (Store p i) → (p.0 < m.procs) × HasLooked m (at.proc p.0) × (i < m.width)
 store_looked m at words p i next =
     let a = gate (nat_lt p.0 m.procs) (next_from m p.0 (words ReleaseWord) (at.proc p.0)) (Store p i) next in
@@ -125,7 +125,7 @@ store_looked m at words p i next =
     let low = c.2 in
     (is_less p.0 m.procs a.0, subst (λ (place : Place). HasLooked m place) (sym b.here) (omega (arith, count), omega (arith, count, low)), low)
 
--- the machine goes on
+-- If the core is not over, then some event is next.
 pub goes_on_by : (core : CoreParts) (spec : Parts) (script : ScriptParts) (places : KeptPlaces) (stored : List ℕ) (history : List Event) (room count : ℕ) → core_of spec script places stored history ≡ core
     → MachineKeeps spec script places stored history room count → MachineGoesOn → IsOver (core_flight core) (core_places core) ⊎ ((event : Event) × IsNext (core_flight core) (core_places core) (core_words core) event)
 goes_on_by core spec script places stored history room count is k on =

@@ -11,7 +11,7 @@ use Rattle.event_core.specs.Cores.{frames_ended}
 use Rattle.event_core.specs.Places.{machine_places}
 use Rattle.event_core.specs.Replays.{IsReplay}
 
--- A number, increased by one if an event is a note of the kernel.
+-- The number `n`, increased by one if an event is a note of the kernel.
 abbrev pub with_note : Event → ℕ → ℕ
 with_note (KNote p) n = suc n
 with_note (Start p) n = n
@@ -23,7 +23,7 @@ with_note (Halt p) n = n
 with_note (KStore i) n = n
 with_note Release n = n
 
--- A number, increased by one if an event is a release.
+-- The number `n`, increased by one if an event is a release.
 abbrev pub with_release : Event → ℕ → ℕ
 with_release Release n = suc n
 with_release (Start p) n = n

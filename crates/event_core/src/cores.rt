@@ -60,8 +60,8 @@ impl<'a> Core<'a> {
     ghost use Rattle.event_core.specs.Places.{HasLooked, kept_opening};
     ghost use Rattle.event_core.specs.Rooms.{events_left};
 
-    /// Returns the core of a flight before the first event, with capacity for every event that can come. The only error
-    /// is out of memory.
+    /// Returns the core of a flight before the first event, with capacity for every event that can come. Returns an
+    /// error only if memory runs out.
     pub fn open(alloc: Global, spec: &'a Spec, script: &'a Script) -> Result<Core<'a>, NoMemory>
         requires { Fits spec.now script.now }
         ensures spec { IfOk result (λ core. core.spec ≡ spec.now) }
@@ -83,16 +83,16 @@ impl<'a> Core<'a> {
         })
     }
 
-    /// Returns the next event of a processor, or `None` if there is none. There is none if and only if the processor
-    /// waits for the release, has halted for good, has flown all frames, or does not exist.
+    /// Returns the next event of a processor. Returns `None` if and only if the processor waits for the release, has
+    /// halted for good, has flown all frames, or does not exist.
     pub fn next_of(&self, p: ProcId) -> Option<Event>
         ensures { result ≡ next_of (core_flight self.now) (core_places self.now) (core_words self.now) p.0 }
     {
         next_of(self.spec, self.script, &self.places, &self.stored, p)
     }
 
-    /// Returns the next event of the kernel, or `None` if there is none. There is none if and only if the processor
-    /// that the kernel would note may not be noted yet, or all frames are noted.
+    /// Returns the next event of the kernel. Returns `None` if and only if the processor that the kernel would note
+    /// may not be noted yet, or all frames are noted.
     pub fn next_kernel(&self) -> Option<Event>
         ensures { result ≡ next_kernel (core_flight self.now) (core_places self.now) (core_words self.now) }
     {
@@ -164,8 +164,8 @@ impl<'a> Core<'a> {
         kernel_encode(&self.kernel.image())[usize::from(i)]
     }
 
-    /// Returns whether no further event can come. In that case the flight has no frame, or each processor has flown all
-    /// frames or has halted for good and the kernel has made its last note.
+    /// Returns `true` if no further event can come. In that case the flight has no frame, or each processor has flown
+    /// all frames or has halted for good and the kernel has made its last note.
     pub fn over(&self) -> bool
         ensures { IsTrue result ↔ IsOver (core_flight self.now) (core_places self.now) }
     {
@@ -202,9 +202,9 @@ impl<'a> Core<'a> {
         }
     }
 
-    /// Makes an event if it is the next of its actor. Otherwise returns an error with the actor's next event and
-    /// changes nothing. For a store, `word` is the word of the draft. For a store of the kernel, `word` is the word of
-    /// the next frame's image.
+    /// Applies an event if it is the next of its actor. Otherwise returns an error with the actor's next event and
+    /// changes nothing. For a store, `word` is the word of the draft. For a store of the kernel, `word` is the word
+    /// of the next frame's image.
     pub fn step(&mut self, event: Event, word: u64) -> Result<(), Illegal>
         requires { IsNextIn self.old event → IsWordIn self.old event word }
         ensures spec { self.new.spec ≡ self.old.spec }
@@ -286,7 +286,7 @@ fn is_event(next: Option<Event>, event: Event) -> bool
     next == Some(event)
 }
 
-// Returns whether an event is the last note of a frame, the note of the last processor.
+// Returns `true` if an event is the last note of a frame, the note of the last processor.
 fn ends_frame(spec: &Spec, event: Event) -> bool
     ensures { result ≡ ends_frame spec.now event }
 {

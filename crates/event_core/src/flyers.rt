@@ -33,7 +33,7 @@ impl Flyers {
     ///
     /// # Errors
     ///
-    /// Out of memory.
+    /// Returns an error if memory runs out.
     pub fn open(alloc: Global, boxes: Boxes) -> Result<Flyers, NoMemory>
         ensures fits { (spec : Parts) (script : ScriptParts) → IfOk result (λ flyers. FlyersFit spec script (λ p. At 0 0) flyers) }
         ensures racks { IfOk result (λ flyers. map (λ flyer. unit_rack flyer.unit) flyers.all.items ≡ map Some boxes.racks.items) }
@@ -46,9 +46,9 @@ impl Flyers {
         })
     }
 
-    /// Returns the word for an event, which must be the next of its actor, and makes the actor do its part. A processor
-    /// makes one draft in a frame, before its first store. It halts with its halt and becomes live again with the start
-    /// of its restart.
+    /// Returns the word for an event, which must be the next of its actor, and makes the actor do its part. A
+    /// processor makes one draft in a frame, before its first store. A halt event halts the processor, and the start
+    /// event of its restart makes it live again.
     pub fn word(&mut self, core: &Core, spec: &Spec, event: Event) -> u64
         requires spec { core.now.spec ≡ spec.now }
         requires next { IsNextIn core.now event }
@@ -110,8 +110,8 @@ impl Flyers {
         stored_word(&image, i)
     }
 
-    // Returns the draft of processor `p` in its current frame. This is the last draft if it is of that frame, or else a
-    // new one.
+    // Returns the draft of processor `p` in its current frame: the last draft if it is of that frame, or else a new
+    // one.
     fn image(&mut self, core: &Core, spec: &Spec, p: ProcId) -> Image
         requires spec { core.now.spec ≡ spec.now }
         requires known { p.0 < length spec.now.procs }

@@ -4,7 +4,8 @@ use Rattle.std.specs.Prelude.{nat_eq, nat_lt, replicate, slice_index_or, slice_s
 use Rattle.std.proofs.lemmas.Bool.Decides.{nat_tests}
 use Rattle.std.proofs.lemmas.Grind.{common_steps}
 
--- one further word
+-- If the first `n` words of an image are those of `v`, and `v n` is set at index `n`, then the first `n + 1` words
+-- are those of `v`.
 pub word_set : (image : List ℤ) (n : ℕ) (v : ℕ → ℤ) (x : ℤ) → length image ≡ 64 → n < 64 → x ≡ v n → ((i : ℕ) → i < 64 → slice_index_or image i (pos 0) ≡ (if nat_lt i n then v i else pos 0))
     → (i : ℕ) → i < 64 → slice_index_or (slice_set image n x) i (pos 0) ≡ (if nat_lt i (n + 1) then v i else pos 0)
 word_set image n v x long low is before i small = by_place (nat_eq i n) refl where
@@ -22,7 +23,7 @@ none_read v i = let none : nat_lt i 0 ≡ false = grind (arith, nat_tests) in rw
   zeros_at (suc n) zero = refl
   zeros_at (suc n) (suc i) = zeros_at n i
 
--- a property of each of eight elements
+-- If a property holds for each of eight elements, then it holds for each element of their list.
 pub each_of_eight : {A : Type 0} (none : A) (P : ℕ → A → Type 0) (a b c d e f g h : A) → P 0 a → P 1 b → P 2 c → P 3 d → P 4 e → P 5 f → P 6 g → P 7 h
     → (p : ℕ) → p < 8 → P p (slice_index_or (a ∷ b ∷ c ∷ d ∷ e ∷ f ∷ g ∷ h ∷ []) p none)
 each_of_eight none P a b c d e f g h on_a on_b on_c on_d on_e on_f on_g on_h zero low = on_a

@@ -34,7 +34,7 @@ two = after one (Halt (proc_id 0) ∷ KNote (proc_id 0) ∷ [])
 pub store_next : next_kernel small two.at two.words ≡ Some (KStore 0)
 store_next = refl
 
--- in frame 1 the halt is noted again, in frame 2 it is not
+-- In frame 1 the kernel notes the halt again. In frame 2 it does not, since the processor restarts there.
 abbrev three : Machine
 three = after two stores
 
@@ -65,6 +65,6 @@ mark_is = refl
 pub bank_is : five.words (BankWord 0 1 0) ≡ 2
 bank_is = refl
 
--- and the whole list is a schedule
+-- The whole list of events is a schedule.
 pub is_schedule : IsSchedule small (opening small) (Start (proc_id 0) ∷ Look (proc_id 0) (proc_id 0) ∷ Halt (proc_id 0) ∷ KNote (proc_id 0) ∷ KStore 0 ∷ []) (after (opening small) (Start (proc_id 0) ∷ Look (proc_id 0) (proc_id 0) ∷ Halt (proc_id 0) ∷ KNote (proc_id 0) ∷ KStore 0 ∷ []))
 is_schedule = (refl, (refl, (refl, (refl, (refl, refl)))))

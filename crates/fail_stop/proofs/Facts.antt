@@ -31,7 +31,7 @@ unfolding is_committed
 commits_flipped m p f n None e u c l = rw (u, e) refl
 commits_flipped m p f n (Some s) e u c l = rw (u, e) (grind (arith, nat_tests))
 
--- after the flip the banks are those of the end of the frame
+-- After the flip the banks are those of the end of the frame.
 bank_flipped : (m : Flight) (k j p f n b i : ℕ) → Running m k j p f n → m.procs + 1 + m.width < n → bank_at m p (At f n) b i ≡ bank_before m p (suc f) b i
 bank_flipped m k j p f n b i r h = bank_end m p f n b i (made_all m n (omega arith) ∙ sym (stores_commits m p f (commits_flipped m p f n (m.halt p f) refl r.up h r.within)))
 
@@ -61,7 +61,7 @@ module _ (m : Flight) (at : Places) (words : Word → ℕ) (y : Flies m) (k : Ke
   bank_word : (p b i : ℕ) → p < m.procs → b < 2 → i < m.width → words (BankWord p b i) ≡ bank_at m p (at.proc p) b i
   bank_word p b i l lb li = k.words_are (BankWord p b i) (l, lb, li)
 
-  -- the parity of the commits is the bank
+  -- The parity of the number of commits is the number of the marked bank.
   at_side : (p i : ℕ) → p < m.procs → i < m.width → words (BankWord p (commit_count m p (marked m (at.proc p)) % 2) i) ≡ word_in (image_before m p (last_commit m p (marked m (at.proc p)))) i
   at_side p i l li =
       let e : commit_count m p (marked m (at.proc p)) % 2 ≡ side m p (marked m (at.proc p)) = sym (side_count m p (marked m (at.proc p))) in

@@ -14,11 +14,11 @@ use Rattle.fail_stop.specs.Flights.{Flight}
 use Rattle.fail_stop.specs.Flyers.{AreFlyersAt, IsFlyerAt, IsUnitAt, is_down, unit_halted, unit_proc, unit_started}
 
 module _ {X : Type 0} {Y : X → Type 0} where
-  -- a live unit is at each place of a frame
+  -- A live unit is the unit at each place of a frame.
   pub unit_up : (p : ℕ) (place : Place) (unit : HeldUnit X Y) → is_halted place ≡ false → is_down unit ≡ false → unit_proc unit ≡ p → IsUnitAt p place unit
   unit_up p place unit flies up is = record { number = is; down = up ∙ sym flies; frame = λ down. cc }
 
-  -- the number stays
+  -- A start does not change the number of a unit's processor.
   pub number_started : (unit : HeldUnit X Y) (spare : Option (Rack X Y)) → unit_proc (unit_started unit spare) ≡ unit_proc unit
   number_started (Up live) spare = refl
   number_started (Down halted) None = refl
@@ -28,7 +28,7 @@ module _ {X : Type 0} {Y : X → Type 0} where
   number_halted f (Up live) = refl
   number_halted f (Down halted) = refl
 
-  -- after a start, which a halted processor makes only with a spare rack
+  -- After a start, a unit is at its place in the frame. A halted processor starts only with a spare rack.
   pub unit_begun : (p : ℕ) (place : Place) (unit : HeldUnit X Y) (spare : Option (Rack X Y)) (f n : ℕ) → IsUnitAt p place unit → (is_halted place ≡ true → is_some spare ≡ true)
       → IsUnitAt p (At f n) (unit_started unit spare)
   unit_begun p place (Up live) spare f n is some = record { number = is.number; down = refl; frame = λ down. cc }
@@ -39,7 +39,7 @@ module _ {X : Type 0} {Y : X → Type 0} where
   unit_stopped p place (Up live) is flies = record { number = is.number; down = refl; frame = λ down. refl }
   unit_stopped p place (Down halted) is flies = let down = is.down in cc
 
--- a list with one element appended, or with one element replaced
+-- Lemmas on a list to which one element is appended, or in which one element is replaced.
 module _ {A : Type 0} (P : ℕ → A → Type 0) (items : List A) where
   pub each_pushed : (item : A) → P (length items) item → ((k : ℕ) (none : A) → k < length items → P k (slice_index_or items k none))
       → (k : ℕ) (none : A) → k < length items + 1 → P k (slice_index_or (items ++ item ∷ []) k none)
@@ -57,7 +57,8 @@ module _ {A : Type 0} (P : ℕ → A → Type 0) (items : List A) where
     by_place (yes e) = subst (λ k. P k (slice_index_or (slice_set items i item) k none)) (sym e) (subst (P i) (sym (get_or-set_same items i item none inside)) is)
     by_place (no e) = subst (P k) (sym (get_or-set_other items i k item none e)) (all k none e low)
 
--- an element moves from the front of the remaining list to the end of the made list
+-- If an element moves from the front of the remaining list to the end of the made list, then the two lists together
+-- stay the same.
 pub taken_more : {A B : Type 0} (of : A → B) (made : List A) (a : A) (left rest : List B) {b : B} → of a ≡ b → left ≡ b ∷ rest → map of (made ++ a ∷ []) ++ rest ≡ map of made ++ left
 taken_more of [] a left rest is front = ap (λ b. b ∷ rest) is ∙ sym front
 taken_more of (x ∷ made) a left rest is front = ap (λ l. of x ∷ l) (taken_more of made a left rest is front)
@@ -67,7 +68,7 @@ module _ {X : Type 0} {Y : X → Type 0} (m : Flight) where
       → IsFlyerAt m p (At 0 0) flyer
   opening_flyer p flyer proc rack spare unit some is = record { unit = rw unit (record { number = is; down = refl; frame = λ down. cc }); spare = λ r e low. ap is_some some }
 
-  -- if the place moves on and the processor neither starts after a halt nor halts
+  -- If a processor neither starts after a halt nor halts, then it is at its next place without a change.
   pub flyer_stays : (p : ℕ) (before after : Place) (flyer : Flyer X Y) → is_halted after ≡ is_halted before → (is_halted before ≡ true → frame_of after ≡ frame_of before) → frame_of before ≤ frame_of after
       → IsFlyerAt m p before flyer → IsFlyerAt m p after flyer
   flyer_stays p before after flyer same still low is = record {
@@ -75,7 +76,7 @@ module _ {X : Type 0} {Y : X → Type 0} (m : Flight) where
     spare = λ r e later. is.spare r e (omega (arith, later, low));
   }
 
-  -- one processor is replaced, and only its place moves
+  -- If one processor is replaced, and only its place changes, then each processor is at its place.
   pub flyers_with : (before after : ℕ → Place) (flyers : List (Flyer X Y)) (i : ℕ) (flyer : Flyer X Y) → AreFlyersAt m before flyers → i < 8 → IsFlyerAt m i (after i) flyer
       → ((q : ℕ) → (q ≡ i → ⊥) → after q ≡ before q) → AreFlyersAt m after (slice_set flyers i flyer)
   flyers_with before after flyers i flyer are low is others =

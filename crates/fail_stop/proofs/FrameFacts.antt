@@ -28,7 +28,7 @@ side_count_next : (m : Flight) (p f : ℕ) (b : Bool) → is_committed m p f ≡
 side_count_next m p f true c h = rw (side_yes m p f c, count_yes m p f c) (omega arith)
 side_count_next m p f false c h = rw (side_no m p f c, count_no m p f c) h
 
--- the bank is the parity of the number of commits
+-- The marked bank is the parity of the number of commits.
 pub side_count : (m : Flight) (p f : ℕ) → side m p f ≡ commit_count m p f % 2
 unfolding side commit_count
 side_count m p zero = refl
@@ -38,13 +38,13 @@ img_last_next : (m : Flight) (p f : ℕ) (b : Bool) → is_committed m p f ≡ b
 img_last_next m p f true c h = rw (last_yes m p f c) refl
 img_last_next m p f false c h = rw (img_no m p f c, last_no m p f c) h
 
--- the image stays since the last committed frame
+-- The image of a processor does not change after its last committed frame.
 pub img_last : (m : Flight) (p f : ℕ) → image_before m p f ≡ image_before m p (last_commit m p f)
 unfolding last_commit
 img_last m p zero = refl
 img_last m p (suc f) = img_last_next m p f (is_committed m p f) refl (img_last m p f)
 
--- the stores of a frame to the other bank
+-- The stores of a frame write the draft to the bank that is not marked.
 pub laid_new : (m : Flight) (p f s b i old : ℕ) → b ≡ 1 - side m p f → i < s → laid m p f s b i old ≡ word_in (m.draft p f) i
 unfolding laid
 laid_new m p f s b i old e h = grind (arith, nat_tests)
@@ -84,13 +84,14 @@ bank_side_next m p f i true c h ih =
 bank_side_next m p f i false c h ih =
     rw (bank_suc m p f (side m p (suc f)) i, img_no m p f c) (laid_side m p f (stores_in m p f) (side m p (suc f)) i _ (side_no m p f c) ∙ ap (λ (x : ℕ). bank_before m p f x i) (side_no m p f c) ∙ ih)
 
--- the marked bank holds the image
+-- The marked bank holds the image.
 pub bank_side : (m : Flight) (p f i : ℕ) → i < m.width → bank_before m p f (side m p f) i ≡ word_in (image_before m p f) i
 unfolding bank_before side image_before
 bank_side m p zero i h = refl
 bank_side m p (suc f) i h = bank_side_next m p f i (is_committed m p f) refl h (bank_side m p f i h)
 
--- frames in which p is down
+-- Processor `p` has the same commits, banks, end words and images at frames `a` and `b`, since it is down between
+-- them.
 pub record Same (m : Flight) (p a b : ℕ) : Type 0 where
   pub lasts : last_commit m p b ≡ last_commit m p a
   pub sides : side m p b ≡ side m p a
@@ -118,7 +119,7 @@ pub still : (m : Flight) (p a b : ℕ) → a ≤ b → ((g : ℕ) → a ≤ g �
 still m p a zero h q = let e : a ≡ 0 = omega arith in subst (λ (x : ℕ). Same m p a x) e (same_refl m p a)
 still m p a (suc b) h q = still_next m p a b q (λ d. still m p a b d (λ g l u. q g l (omega arith))) h (dec_le a b)
 
--- a halted processor is down up to its restart
+-- A halted processor is not back before the frame of its restart.
 back_not_yet : (o : Option ℕ) (h r g : ℕ) → o ≡ Some r → g < r → back_by o h g ≡ false
 back_not_yet None h r g e l = cc
 back_not_yet (Some s) h r g e l = let same : s ≡ r = cc in grind (arith, nat_tests)
@@ -127,11 +128,12 @@ back_none : (o : Option ℕ) (h g : ℕ) → ((r : ℕ) → o ≡ Some r → h <
 back_none None h g e = refl
 back_none (Some s) h g e = let late : h < s → g < s = e s refl in grind (arith, nat_tests)
 
--- between a halt in h and frame b, if no restart comes up to the frame before b
+-- Nothing of a processor changes between its halt in frame `h` and frame `b`, if it does not restart before frame
+-- `b`.
 pub halted_still : (m : Flight) (p h s b : ℕ) → Flies m → m.up p h ≡ true → m.halt p h ≡ Some s → h < b → ((r : ℕ) → m.restart p ≡ Some r → h < r → b ≤ r) → Same m p (suc h) b
 halted_still m p h s b y u e l q = still m p (suc h) b (omega arith) (λ g lo hi. y.gone p h s g u e (omega arith) (back_none (m.restart p) h g (λ r i j. let k : b ≤ r = q r i j in omega arith)))
 
--- end words
+-- Lemmas on end words.
 end_word_le : (f : ℕ) (o : Option ℕ) → end_word_after f o ≤ 2 * suc f
 end_word_le f None = omega arith
 end_word_le f (Some s) = omega arith
@@ -169,7 +171,8 @@ unfolding end_before
 end_from m p zero h e = absurd (omega arith)
 end_from m p (suc f) h e = from_next m p f h (m.up p f) refl (end_from m p f h) e
 
--- a processor that is up in f with an odd end word has its restart after that halt and up to f
+-- If a processor is up in frame `f` after a halt in frame `h`, then its restart comes after that halt and no later
+-- than frame `f`.
 back_found : (m : Flight) (p f h : ℕ) (b : Bool) → back_by (m.restart p) h f ≡ b → Flies m → m.up p f ≡ true → From m p f h → b ≡ true
 back_found m p f h true e y u r = refl
 back_found m p f h false e y u r = let d : m.up p f ≡ false = y.gone p h r.step f r.up r.halts r.low e in cc

@@ -10,7 +10,7 @@ use Rattle.scram_types.specs.Specification.{Parts}
 use Rattle.fault_script.specs.Fits.{Before, EachNext, Fits, HaltBefore}
 use Rattle.fault_script.specs.Times.{commits, halt_in, is_halt_in, is_up, words}
 
--- a halt after at most this number of stores comes before the mark
+-- Whether there is a halt, and it comes after at most `w` stores and before the mark.
 abbrev pub is_early : ℕ → Option HaltAt → Bool
 is_early w None = false
 is_early w (Some halt) = nat_le halt.step w
@@ -67,6 +67,6 @@ early_is : (w p f : ℕ) (halts : List HaltAt) → EachNext HaltBefore halts
 early_is w p f [] next = refl
 early_is w p f (x ∷ xs) next = by_first w p f x xs next (is_halt_in p f x) refl (early_is w p f xs (tail x xs next))
 
--- the processors that commit, by those that are up and by the halt in the frame
+-- A processor commits a frame if and only if it is up in it and does not halt there before the mark.
 pub commits_by : (spec : Parts) (script : ScriptParts) → Fits spec script → (p f : ℕ) → commits spec script p f ≡ (is_up script p f && not (is_early (words spec) (halt_in script p f)))
 commits_by spec script fits p f = ap (λ b. is_up script p f && not b) (early_is (words spec) p f script.halts fits.halts_ordered)

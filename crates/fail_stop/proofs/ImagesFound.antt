@@ -49,7 +49,7 @@ module _ (spec : Parts) (facts : IsSpec spec) (script : ScriptParts) (f p : ℕ)
   word_is image read past i low (yes d) = past i low d ∙ word_outside i low d
   word_is image read past i low (no d) = read i (omega (arith, d)) ∙ word_read i low
 
-  -- an image that has the words of the trace, and zeros past them
+  -- An image that has the words of the trace, and zeros after them, is the image of the trace.
   pub image_found : (image : List ℤ) → length image ≡ 64 → ((i : ℕ) → i < words spec → slice_index_or image i (pos 0) ≡ decode (word_in (image_words_after spec script p f) i))
       → ((i : ℕ) → i < 64 → words spec ≤ i → slice_index_or image i (pos 0) ≡ pos 0) → image ≡ image_after spec script p f
   image_found image long read past =

@@ -11,7 +11,7 @@ use Rattle.scram_types.proofs.Naturals.{below_or_at}
 use Rattle.frame_model.specs.Flights.{image_of, slot_in}
 use Rattle.frame_model.proofs.Slots.{slot_found}
 
--- an image has 64 words, and each is that of its slot
+-- An image has 64 words, and each is the word of its slot.
 
 two_long : (xs ys : List ℤ) (n : ℕ) → length xs ≡ n → length ys ≡ 8 → length (xs ++ ys) ≡ n + 8
 two_long xs ys n is also = length-append xs ys ∙ rw (is, also) refl
@@ -30,7 +30,7 @@ word_found : (slot : ℕ → List ℤ) → ((a : ℕ) → a < 8 → length (slot
 word_found slot is a i low small =
     sym (eight_at (λ j. slice_index_or (image_of slot) (8 * a + j) (pos 0)) i (pos 0) small) ∙ ap (λ (area : List ℤ). slice_index_or area i (pos 0)) (slot_found slot is a low)
 
--- an image is the concatenation of its slots
+-- An image is the concatenation of its slots.
 pub of_slots : (image : List ℤ) → length image ≡ 64 → image ≡ image_of (slot_in image)
 of_slots image long =
     ext_get_or (pos 0) image (image_of (slot_in image)) (long ∙ sym (image_long (slot_in image) (λ a low. refl)))
@@ -42,7 +42,7 @@ of_slots image long =
     ∙ sym (word_found (slot_in image) (λ a low. refl) (k / 8) (k % 8) (omega arith) (omega arith))
     ∙ ap (λ (j : ℕ). get_or (image_of (slot_in image)) j (pos 0)) place)
 
--- images with equal slots are equal
+-- Two images with equal slots are equal.
 pub image_same : (slot other : ℕ → List ℤ) → ((a : ℕ) → a < 8 → slot a ≡ other a) → image_of slot ≡ image_of other
 image_same slot other same =
     rw (

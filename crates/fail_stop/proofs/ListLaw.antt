@@ -20,7 +20,7 @@ module _ (m : Flight) (at : Places) (words : Word → ℕ) where
   acting : (p : ℕ) (e : Event) → (if nat_lt p m.procs then next_from m p (words ReleaseWord) (at.proc p) else None) ≡ Some e → p < m.procs
   acting p e i = is_less p m.procs (gate (nat_lt p m.procs) (next_from m p (words ReleaseWord) (at.proc p)) e i).0
 
-  -- an event writes an existing word
+  -- An event writes an existing word.
   pub target : (e : Event) → IsNext m at words e → IsTarget m (writes m at words e)
   target (Start p) i = tt
   target (Look p q) i = tt
@@ -36,7 +36,7 @@ module _ (m : Flight) (at : Places) (words : Word → ℕ) where
   target (KStore x) i = (next_kstore m at words x i).2
   target Release i = tt
 
--- two words have the same index only if they are the same word
+-- Two words have the same index if and only if they are the same word.
 same_index : (m : Flight) (t w : Word) → m.procs ≤ 8 → m.width ≤ 64 → IsStored m t → IsStored m w → nat_eq (index_of t) (index_of w) ≡ same_word t w
 same_index m ReleaseWord ReleaseWord np nw a b = refl
 same_index m ReleaseWord (KernelWord j) np nw a b = grind (arith, nat_tests)
@@ -77,7 +77,7 @@ index_small m (MarkWord p) np nw a = omega arith
 index_small m (EndWord p) np nw a = omega arith
 index_small m (BankWord p b i) np nw a = omega arith
 
--- the words after a write
+-- If a list holds the words, then after a write it holds the words after that write.
 pub list_written : (m : Flight) (list : List ℕ) (o : Option (Word × ℕ)) (w : Word) → HoldsWords m list → IsTarget m o → IsStored m w → stored_in (list_after list o) w ≡ written o (stored_in list) w
 list_written m list None w s t l = refl
 list_written m list (Some t) w s k l =

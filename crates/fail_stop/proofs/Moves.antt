@@ -1,4 +1,5 @@
--- A step of a processor changes only its own place and its own words; what remains to be shown of such a step.
+-- A step of a processor changes only its own place and its own words. The module has what remains to be proved of
+-- such a step.
 use Rattle.std.proofs.Common.{◌≡◌, ◌≢◌, ℕ, ◌<◌, true, false, refl, sym, ap, ◌∙◌, arith}
 use Rattle.std.specs.Prelude.{Option, Some, None, nat_eq}
 use Rattle.std.proofs.lemmas.Bool.Decides.{nat_tests}
@@ -18,7 +19,7 @@ owner (BankWord p b i) = Some p
 differ : (a b p : ℕ) → Some a ≡ Some p → Some b ≢ Some p → nat_eq a b ≡ false
 differ a b p o n = let d : a ≢ b = λ e. n (ap (λ (x : ℕ). Some x) (sym e) ∙ o) in grind (arith, nat_tests)
 
--- a write to a word of p leaves the words of all others
+-- A write to a word of processor `p` does not change the words of the other owners.
 pub foreign : (t w : Word) (v p : ℕ) (words : Word → ℕ) → owner t ≡ Some p → owner w ≢ Some p → written (Some (t, v)) words w ≡ words w
 foreign ReleaseWord w v p words o n = cc
 foreign (KernelWord i) w v p words o n = cc
@@ -88,7 +89,8 @@ nat_eq_self p = grind (arith, nat_tests)
 pub nat_eq_other : (q p : ℕ) → q ≢ p → nat_eq q p ≡ false
 nat_eq_other q p n = grind (arith, nat_tests)
 
--- an event of p from place y: the words of p remain to be shown
+-- If an event of processor `p` from place `y` leaves the words of `p` as its new place requires, then it keeps the
+-- invariant.
 pub by_actor : (m : Flight) (at : Places) (words : Word → ℕ) (e : Event) (at2 : Places) (words2 : Word → ℕ) (p : ℕ) (y x : Place)
     → Happens m at words e at2 words2 → Kept m at words → p < m.procs → at.proc p ≡ y
     → ((q : ℕ) → is_actor e q ≡ nat_eq q p) → moved m e p y ≡ x → frame_after at e ≡ at.frame → step_after at e ≡ at.step

@@ -21,7 +21,7 @@ use Rattle.fail_stop.specs.Listed.{index_of, stored_in, word_index_count}
 use Rattle.fail_stop.specs.ScriptFlights.{flight_of, image_words_after, kernel_words}
 use Rattle.fail_stop.specs.Openings.{opening_at, opening_list, proc_opening, start_word}
 
--- a word of an image is that of its slot
+-- Word `i` of a list of encoded numbers is the encoding of number `i`.
 pub encoded_at : (xs : List ℤ) (i : ℕ) → word_in (map encode xs) i ≡ encode (slice_index_or xs i (pos 0))
 encoded_at [] i = refl
 encoded_at (x ∷ xs) zero = refl

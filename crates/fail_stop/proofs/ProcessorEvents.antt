@@ -12,7 +12,7 @@ use Rattle.fail_stop.proofs.FrameSteps.{last_yes, last_no, side_yes, side_no, en
 use Rattle.fail_stop.proofs.FrameFacts.{side_le, laid_past, bank_suc, stores_commits, halted_still, Same}
 use Rattle.fail_stop.proofs.Moves.{by_actor, foreign, nat_eq_self}
 
--- marks and banks along the steps of a frame
+-- Lemmas on marks and banks during the steps of a frame.
 pub unflipped : (m : Flight) (p f n : ℕ) → n ≤ m.procs + 1 + m.width → mark_at m p (At f n) ≡ mark_before m p f
 unflipped m p f n h = grind (arith, nat_tests)
 
@@ -42,7 +42,7 @@ laid_store : (m : Flight) (p f i c d old w : ℕ) → c < 2 → w ≡ laid m p f
 unfolding laid
 laid_store m p f i c d old w h e = grind (arith, nat_tests)
 
--- the next step of a frame
+-- If a processor is not at the last step of its frame, then its next step is within the frame as well.
 within_more : (m : Flight) (n : ℕ) (o : Option ℕ) → n ≤ last_step m o → n < m.procs + 2 + m.width → halts_at m n o ≡ false → suc n ≤ last_step m o
 within_more m n None l h b = omega arith
 within_more m n (Some s) l h b = grind (arith, nat_tests)
@@ -62,11 +62,11 @@ later_not_in : (k f n : ℕ) → 0 < n → (k < f → n ≡ 0) → Dec (f ≤ k)
 later_not_in k f n z h (yes d) = d
 later_not_in k f n z h (no d) = let e : n ≡ 0 = h (omega arith) in absurd (omega arith)
 
--- a processor that has made a step in f is not ahead of the kernel
+-- A processor that has made a step in frame `f` is not ahead of the kernel.
 pub later_not : (k f n : ℕ) → 0 < n → (k < f → n ≡ 0) → f ≤ k
 later_not k f n z h = later_not_in k f n z h (dec_le f k)
 
--- the halt of a frame by the place in the plan
+-- If a processor has made all its stores and does not halt at this step, then it commits the frame.
 commits_at : (m : Flight) (p f n : ℕ) (o : Option ℕ) → m.halt p f ≡ o → m.up p f ≡ true → n ≡ m.procs + 1 + m.width → n ≤ last_step m o → halts_at m n o ≡ false → is_committed m p f ≡ true
 unfolding is_committed
 commits_at m p f n None e u c l b = rw (u, e) refl

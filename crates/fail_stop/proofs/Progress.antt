@@ -14,7 +14,7 @@ use Rattle.fail_stop.specs.Ends.{IsOver, IsDone, Stores, IsStoredLast}
 use Rattle.fail_stop.proofs.FrameFacts.{laid_new, laid_past}
 use Rattle.fail_stop.proofs.KernelEvents.{halted_end}
 
--- some event is next
+-- Some event is next.
 abbrev pub Goes : Flight → Places → (Word → ℕ) → Type 0
 Goes m at words = (e : Event) × IsNext m at words e
 
@@ -63,7 +63,7 @@ may_halted m p k h e w b =
     or_true true = refl
     or_true false = refl
 
--- the restart by which a processor that has halted in frame h is back in frame k
+-- The restart of a processor that has halted in frame `h` comes no later than frame `k`.
 pub record Found (o : Option ℕ) (h k : ℕ) : Type 0 where
   pub r : ℕ
   pub is : o ≡ Some r
@@ -146,7 +146,7 @@ progress_at m at words y bound k (no d) = goes_on m at words y k (omega arith) b
 pub progress : (m : Flight) (at : Places) (words : Word → ℕ) → Flies m → ((p r : ℕ) → m.restart p ≡ Some r → r < m.frames) → Kept m at words → IsOver m at ⊎ Goes m at words
 progress m at words y bound k = progress_at m at words y bound k (ℕ_discrete m.frames 0)
 
--- what a bank holds
+-- The word that was stored last in a bank is the word that the bank holds.
 last_new : (m : Flight) (p f b i old : ℕ) → Stores m p f b i → IsStoredLast m p (suc f) b i (laid m p f (stores_in m p f) b i old)
 last_new m p f b i old s = inl (f, omega arith, s, laid_new m p f (stores_in m p f) b i old s.0 s.1, (λ later a c d. omega arith))
 

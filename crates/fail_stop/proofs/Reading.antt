@@ -1,4 +1,4 @@
--- The words that a reader and a note find; the facts of the invariant.
+-- The words that a reader and a note find, and the facts of the invariant.
 use Rattle.std.proofs.Common.{◌≡◌, ℕ, suc, ◌+◌, ◌-◌, ◌*◌, ◌/◌, ◌%◌, ◌<◌, ◌≤◌, Bool, true, false, refl, sym, ap, subst, ◌∙◌, arith}
 use Rattle.std.proofs.lemmas.Bool.Decides.{nat_tests}
 use native.Mathlib.Decide.{dec_le}
@@ -32,14 +32,14 @@ pick_next_at m q k false c = ap (λ (x : ℕ). pick x k) (rw (last_no m q k c, s
 pick_next : (m : Flight) (q k : ℕ) → pick (mark_before m q (suc k)) k ≡ side m q k
 pick_next m q k = pick_next_at m q k (is_committed m q k) refl
 
--- the bank that no store of frame f touches
+-- The bank that is marked at the start of frame `f` does not change during the frame.
 untouched : (m : Flight) (q f n i : ℕ) → i < m.width → bank_at m q (At f n) (side m q f) i ≡ word_in (image_before m q f) i
 untouched m q f n i h = laid_side m q f (stores_made m n) (side m q f) i (bank_before m q f (side m q f) i) refl ∙ bank_side m q f i h
 
 untouched_next : (m : Flight) (q f i : ℕ) → i < m.width → bank_before m q (suc f) (side m q f) i ≡ word_in (image_before m q f) i
 untouched_next m q f i h = bank_suc m q f (side m q f) i ∙ laid_side m q f (stores_in m q f) (side m q f) i (bank_before m q f (side m q f) i) refl ∙ bank_side m q f i h
 
--- what place x of q shows to a reader in frame k
+-- Place `x` of processor `q` shows a reader in frame `k` the image of that frame.
 pub record Shows (m : Flight) (q k : ℕ) (x : Place) : Type 0 where
   pub picked : pick (mark_at m q x) k ≡ side m q k
   pub held : (i : ℕ) → i < m.width → bank_at m q x (side m q k) i ≡ word_in (image_before m q k) i
@@ -70,7 +70,7 @@ pub shows : (m : Flight) (q k j : ℕ) (x : Place) → Flies m → IsPlaced m k 
 shows m q k j (At f n) y r = shows_at m q k j f n r (dec_le f k)
 shows m q k j (Halted h) y s = shows_halted m q k j h y s (dec_le k h)
 
--- what a noted processor shows
+-- Place `x` of a noted processor has the mark and the image after frame `k`.
 pub record Gives (m : Flight) (p k : ℕ) (x : Place) : Type 0 where
   pub mark : mark_at m p x ≡ mark_before m p (suc k)
   pub held : (i : ℕ) → i < m.width → bank_at m p x (side m p (suc k)) i ≡ word_in (image_before m p (suc k)) i
@@ -87,7 +87,7 @@ gives m p k j (Halted h) y l s =
     }
 
 module _ (m : Flight) (at : Places) (words : Word → ℕ) (y : Flies m) (k : Kept m at words) where
-  -- a reader is in the kernel's frame
+  -- A processor that has made a step in a frame and may read is in the kernel's frame.
   reader : (p f n : ℕ) → p < m.procs → at.proc p ≡ At f n → 0 < n → f ≡ at.frame
   reader p f n l here z =
       let r : Running m at.frame at.step p f n = rw here at (k.placed p l) in

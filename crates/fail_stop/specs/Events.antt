@@ -48,8 +48,8 @@ plan_step m p n =
 abbrev pub plan : Flight → ℕ → ℕ → ℕ → Option Event
 plan m p f n = if halts_at m n (m.halt p f) then Some (Halt (proc_id p)) else plan_step m p n
 
--- The next event of a processor that has halted in frame `h`, or `None`. It is the start of the frame of its restart,
--- once that frame is released.
+-- The next event of a processor that has halted in frame `h`: the start of the frame of its restart once that frame
+-- is released, or `None` before.
 abbrev pub next_halted : ℕ → ℕ → ℕ → Option ℕ → Option Event
 next_halted p h release None = None
 next_halted p h release (Some r) = if nat_lt h r && nat_lt r release then Some (Start (proc_id p)) else None

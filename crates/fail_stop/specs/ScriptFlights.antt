@@ -30,8 +30,8 @@ draft_words spec script p f = image_words (draft spec script p f)
 abbrev pub kernel_words : Parts → ScriptParts → ℕ → List ℕ
 kernel_words spec script f = kernel_encode (kernel_image spec script f)
 
--- The flight of a script. Processors are up, halt and restart as the script says. Images and drafts are those of the
--- frames.
+-- The flight of a script. Processors are up, halt and restart as the script states. Images and drafts are those of
+-- the frames.
 abbrev pub flight_of : Parts → ScriptParts → Flight
 flight_of spec script = record {
   frames = script.frames;

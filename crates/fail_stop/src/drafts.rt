@@ -91,7 +91,7 @@ fn put_slot(image: &mut Image, a: u8, area: &Area)
     }
 }
 
-// Returns whether a processor hosts an application in the setting's frame.
+// Returns `true` if a processor hosts an application in the setting's frame.
 fn hosts(proc: ProcId, setting: &Setting<'_>, a: u8) -> bool
     requires a { a < 8 }
     ensures { result ≡ is_proc proc.0 (task_among setting.now.tasks a).proc }

@@ -55,7 +55,7 @@ impl Flyer {
         }
     }
 
-    /// Returns whether the processor has halted and has not restarted since.
+    /// Returns `true` if the processor has halted and has not restarted since.
     pub fn has_halted(&self) -> bool
         ensures { result ≡ is_down self.now.unit }
     {
@@ -112,7 +112,7 @@ impl Flyer {
 ///
 /// # Errors
 ///
-/// Out of memory.
+/// Returns an error if memory runs out.
 pub fn make_flyers(alloc: Global, boxes: Boxes) -> Result<Vec<Flyer>, NoMemory>
     ensures flyers { (m : Flight) → IfOk result (λ flyers. AreFlyersAt m (λ p. At 0 0) flyers.items) }
     ensures racks { IfOk result (λ flyers. map (λ flyer. unit_rack flyer.unit) flyers.items ≡ map Some boxes.racks.items) }

@@ -48,9 +48,9 @@ impl Live {
     }
 
     /// Sets `image` to the image of this processor after the snapshot's frame. The area of each application that the
-    /// processor hosts there is the answer of one call of its rack. The other words are as in its image of the
-    /// snapshot. If the snapshot is that of a frame of a script, the image is the draft of the one-thread trace in that
-    /// frame.
+    /// processor hosts there is the answer of one call of its rack. The other words are those of its image in the
+    /// snapshot. If the snapshot is that of a frame of a script, the image is the draft of the one-thread trace in
+    /// that frame.
     pub fn draft(&mut self, spec: &Spec, snap: &Snapshot, image: &mut Image)
         requires proc { self.old.proc.0 < 8 }
         ensures image { image.new ≡ draft_made spec.now snap.now self.old.proc.0 }

@@ -93,7 +93,7 @@ module _ (spec : Parts) (script : ScriptParts) (halt : Option UnitHalt) (state :
     room_left = let a = less in let b = ap (λ (s : Pair). pair_left (flight_of spec script) halt s) is in omega (arith, a, b, same, one, k.room_left);
   }
 
-  -- the event takes the pair on
+  -- A next event takes the pair to its state after the event.
   pub steps : (state2 : PairState) (events2 : List PairEvent) → pair_of state2 ≡ pair_after (flight_of spec script) halt (pair_of state) e → events2 ≡ events ++ e ∷ []
       → IsPairStep (parts_of spec script halt state events) e (parts_of spec script halt state2 events2)
   steps state2 events2 is more_is = record {

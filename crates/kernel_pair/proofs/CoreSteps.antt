@@ -64,7 +64,7 @@ module _ {X : Type 0} {Y : X → Type 0} (old new : PairParts) where
     flyers = flyers_go old new (Fly p u) step flyers2 are;
   }
 
-  -- the kernel of the unit that has made a note
+  -- After a note of the first unit, its kernel agrees with the unit, and the second unit's kernel is unchanged.
   pub first_notes : (u : ℕ) (p : ProcId) → u ≡ 0 → IsPairStep old (Note u p) new → (first first2 second : KernelParts) (flyers : List (Flyer X Y)) → PairCoreKeeps old first second flyers → IsKernelOf new u first2 → PairCoreKeeps new first2 second flyers
   first_notes u p zero step first first2 second flyers k is =
       let own : IsPairStep old (Note 0 p) new = subst (λ (v : ℕ). IsPairStep old (Note v p) new) zero step in record {
@@ -107,7 +107,7 @@ module _ (old new : PairParts) (u : ℕ) (p : ProcId) (step : IsPairStep old (No
   pub kernel_before : (kernel : KernelParts) → IsKernelOf old u kernel → kernel ≡ kernel_after new.spec new.script ((pair_in new).unit u).frame
   kernel_before kernel is = is ∙ ap (λ (n : ℕ). kernel_after old.spec old.script n) (at.before ∙ sym frame_is) ∙ sym (λ i. kernel_after (step.spec i) (step.script i) ((pair_in new).unit u).frame)
 
--- a turn and a store
+-- A turn is neither a frame of a processor nor a note.
 pub turn_quiet : (e : PairEvent) → IsTurn e → IsQuiet e
 turn_quiet (Fly p u) turn = absurd turn
 turn_quiet (Note u p) turn = absurd turn
@@ -126,7 +126,7 @@ turn_words m s (Meet u) draft word turn = tt
 turn_words m s (Release u) draft word turn = tt
 turn_words m s (Stop u) draft word turn = tt
 
--- the kernel's image of the next frame if a unit stores a word of it
+-- If a unit stores a word next, then its kernel's image is the kernel image of the next frame.
 pub image_stored : (k : PairParts) (u i : ℕ) (kernel : KernelParts) (image : KernelImage) → IsPairNext (pair_flight k) k.halt (pair_in k) (Store u i) → IsKernelOf k u kernel → image ≡ kernel_image kernel.spec kernel.script kernel.past
     → image ≡ kernel_image k.spec k.script (suc ((pair_in k).unit u).frame)
 image_stored k u i kernel image next is said =

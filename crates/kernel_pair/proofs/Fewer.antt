@@ -38,13 +38,13 @@ module _ (m : Flight) (proc : ℕ → Processor) (p : ℕ) (y : Processor) where
   below_less on low zero l = absurd (omega arith)
   below_less on low (suc n) l = below_less_in on low n l (ℕ_discrete p n) (λ z. below_less on low n z)
 
--- one unit has fewer steps left
+-- If one unit has fewer steps left, then fewer events of the pair remain.
 one_less : (m : Flight) (halt : Option UnitHalt) (s : Pair) (u : ℕ) (x : KernelUnit) → u < 2 → steps_left m halt u x < steps_left m halt u (s.unit u) → pair_left m halt (with_unit s u x) < pair_left m halt s
 one_less m halt s zero x l less = omega arith
 one_less m halt s (suc zero) x l less = omega arith
 one_less m halt s (suc (suc u)) x l less = absurd (omega arith)
 
--- after one more step, and after one more frame
+-- A further step, or a further frame, reduces the number of steps left.
 step_less : (w d j h : ℕ) → 0 < d → j < w → (d * w - suc j) + h < (d * w - j) + h
 step_less w zero j h l n = absurd (omega arith)
 step_less w (suc d) j h l n = let a : suc d * w ≡ d * w + w = mul_suc w d in rw a (omega arith)

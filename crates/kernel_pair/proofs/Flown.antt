@@ -19,7 +19,7 @@ use Rattle.kernel_pair.proofs.Frames.{restart_past_is}
 use Rattle.scram_types.specs.declared.ids.ProcId.{ProcId}
 
 module _ {X : Type 0} {Y : X → Type 0} (m : Flight) (p f : ℕ) where
-  -- a processor that has halted has a spare rack before it starts
+  -- A processor that has halted has a spare rack before it starts.
   pub has_spare : (place : Place) (flyer : Flyer X Y) → IsFlyerAt m p place flyer → frame_to_make (m.restart p) place ≡ Some f → is_halted place ≡ true → is_some flyer.spare ≡ true
   has_spare (At g n) flyer is makes halted = cc
   has_spare (Halted h) flyer is makes halted = let r = restart_past_is (m.restart p) h f makes in is.spare f r.0 r.1
@@ -27,7 +27,8 @@ module _ {X : Type 0} {Y : X → Type 0} (m : Flight) (p f : ℕ) where
   pub begun_at : (place : Place) (flyer : Flyer X Y) → IsFlyerAt m p place flyer → frame_to_make (m.restart p) place ≡ Some f → IsUnitAt p (At f 0) (unit_started flyer.unit flyer.spare)
   begun_at place flyer is makes = unit_begun p place flyer.unit flyer.spare f 0 is.unit (has_spare place flyer is makes)
 
-  -- no restart comes after that of a processor that had halted
+  -- After a start, the processor has the spare rack for any restart that is still to come. No restart follows that of
+  -- a processor that had halted.
   pub spare_begun : (place : Place) (flyer : Flyer X Y) → IsFlyerAt m p place flyer → frame_to_make (m.restart p) place ≡ Some f → HasSpare m p f (spare_started flyer.unit flyer.spare)
   spare_begun (At g n) flyer is makes = by_unit flyer.unit refl
     where
@@ -45,7 +46,7 @@ module _ {X : Type 0} {Y : X → Type 0} (m : Flight) (p f : ℕ) where
   flown_by None flyer up is has = record { unit = unit_up p (At (suc f) 0) flyer.unit refl up is; spare = λ r e low. has r e (omega arith) }
   flown_by (Some s) flyer up is has = record { unit = unit_stopped p (At f 0) flyer.unit (unit_up p (At f 0) flyer.unit refl up is) refl; spare = has }
 
-  -- after its start and its draft it is at the next frame, or halts in this one
+  -- After its start and its draft, a processor is at the next frame or has halted in this one.
   pub flown : (place : Place) (old begun drafted new : Flyer X Y) → IsFlyerAt m p place old → frame_to_make (m.restart p) place ≡ Some f → begun ≡ flyer_started old
       → is_down drafted.unit ≡ false → unit_proc drafted.unit ≡ unit_proc begun.unit → drafted.spare ≡ begun.spare → new ≡ flyer_after (m.halt p f) f drafted → IsFlyerAt m p (after_frame f (m.halt p f)) new
   flown place old begun drafted new is makes begins up same spare ends =
@@ -63,7 +64,7 @@ module _ (m : Flight) (halt : Option UnitHalt) (s : Pair) (p : ProcId) (u f : �
   place_kept : (q : ℕ) → (q ≡ p.0 → ⊥) → places_in (pair_after m halt s (Fly p u)) q ≡ places_in s q
   place_kept q other = ap (λ (b : Bool). (if b then next_made m p.0 (frame_to_make (m.restart p.0) (s.proc p.0).place) (s.proc p.0) else s.proc q).place) (nat_eq_other q p.0 other)
 
-  -- the other processors stay at their places
+  -- A frame of one processor leaves the other processors at their places.
   pub flyers_after : {X : Type 0} {Y : X → Type 0} (flyers : List (Flyer X Y)) (flyer : Flyer X Y) → AreFlyersAt m (places_in s) flyers → p.0 < 8 → IsFlyerAt m p.0 (after_frame f (m.halt p.0 f)) flyer
       → AreFlyersAt m (places_in (pair_after m halt s (Fly p u))) (slice_set flyers p.0 flyer)
   flyers_after {X} {Y} flyers flyer are low is =

@@ -48,7 +48,7 @@ on_and_on old mid new A B C one two both =
           (b.0 ∙ a.0, both a.1 (subst B a.0 b.1));
     }
 
--- the next event of a unit is next of its actor
+-- The next event of a unit is a next event of its actor.
 pub next_of_unit : (m : Flight) (halt : Option UnitHalt) (s : Pair) (u : ℕ) (e : PairEvent) → u < 2 → next_unit m halt s u ≡ Some e → IsPairNext m halt s e
 next_of_unit m halt s u e l i = by_event e i (goes m halt u (s.unit u) (s.unit (other_unit u)).ready (λ p. (s.proc p).end) e i).of
   where
@@ -64,7 +64,7 @@ next_of_unit m halt s u e l i = by_event e i (goes m halt u (s.unit u) (s.unit (
     by_event (Release v) i of = own v (Release v) i of
     by_event (Stop v) i of = own v (Stop v) i of
 
--- fewer events remain after an event
+-- If an event is next and the flight goes on, then fewer events remain.
 pub attempted : (old new : PairParts) (e : PairEvent) → IsPairNext (pair_flight old) old.halt (pair_in old) e → IsFlownOn old new (IsPairNext (pair_flight old) old.halt (pair_in old) e → ⊥) → left_in new < left_in old
 attempted old new e next on = by_left (ℕ_discrete (left_in new) (left_in old))
   where
@@ -72,7 +72,7 @@ attempted old new e next on = by_left (ℕ_discrete (left_in new) (left_in old))
     by_left (yes same) = absurd ((on.stuck same).1 next)
     by_left (no other) = let most = on.fewer in omega arith
 
--- no event is next
+-- No event is next.
 pub record NoneNext (k : PairParts) : Type 0 where
   pub processors : (p : ProcId) (u : ℕ) → p.0 < 8 → u < 2 → IsPairNext (pair_flight k) k.halt (pair_in k) (Fly p u) → ⊥
   pub first : next_unit (pair_flight k) k.halt (pair_in k) 0 ≡ None
@@ -93,7 +93,7 @@ none_next k none few (e, next) = by_event e next
     by_event (Release u) i = no_unit u (Release u) i.0 i.1
     by_event (Stop u) i = no_unit u (Stop u) i.0 i.1
 
--- fewer events remain after a round if the pair is not over
+-- If the pair is not over, then fewer events remain after a round.
 pub round_fewer : (old new : PairParts) → length old.spec.procs ≤ 8 → IsPairOver (pair_flight old) (pair_in old) ⊎ HasNext (pair_flight old) old.halt (pair_in old) → (IsPairOver (pair_flight old) (pair_in old) → ⊥)
     → IsFlownOn old new (NoneNext old) → left_in new < left_in old
 round_fewer old new few (inl over) going on = absurd (going over)
@@ -103,7 +103,8 @@ round_fewer old new few (inr next) going on = by_left (ℕ_discrete (left_in new
     by_left (yes same) = absurd (none_next old (on.stuck same).1 few next)
     by_left (no other) = let most = on.fewer in omega arith
 
--- with the next processor
+-- If no processor below `n` makes its frame next, and processor `n` does not either, then no processor below `n + 1`
+-- does.
 pub below_more : (k : PairParts) (n : ℕ) → ((q : ProcId) (u : ℕ) → q.0 < n → u < 2 → IsPairNext (pair_flight k) k.halt (pair_in k) (Fly q u) → ⊥)
     → ((u : ℕ) → u < 2 → IsPairNext (pair_flight k) k.halt (pair_in k) (Fly (proc_id n) u) → ⊥)
     → (q : ProcId) (u : ℕ) → q.0 < n + 1 → u < 2 → IsPairNext (pair_flight k) k.halt (pair_in k) (Fly q u) → ⊥
@@ -113,11 +114,12 @@ below_more k n before here q u low l next = by_place (ℕ_discrete q.0 n)
     by_place (yes e) = here u l (subst (λ (i : ℕ). IsPairNext (pair_flight k) k.halt (pair_in k) (Fly (proc_id i) u)) e next)
     by_place (no d) = before q u (omega arith) l next
 
--- no processor makes its frame next
+-- No processor makes its frame next.
 abbrev Processors : PairParts → Type 0
 Processors k = (q : ProcId) (u : ℕ) → q.0 < 8 → u < 2 → IsPairNext (pair_flight k) k.halt (pair_in k) (Fly q u) → ⊥
 
--- all processors, followed by both units
+-- If the flight goes on with all processors and then with unit 0 and unit 1, then it goes on with the whole round:
+-- fewer events remain, or no event is next.
 pub round_on : (old mid mid2 new : PairParts) → IsFlownOn old mid ((q : ProcId) (u : ℕ) → q.0 < 8 → u < 2 → IsPairNext (pair_flight old) old.halt (pair_in old) (Fly q u) → ⊥)
     → IsFlownOn mid mid2 (next_unit (pair_flight mid) mid.halt (pair_in mid) 0 ≡ None) → IsFlownOn mid2 new (next_unit (pair_flight mid2) mid2.halt (pair_in mid2) 1 ≡ None) → IsFlownOn old new (NoneNext old)
 round_on old mid mid2 new one two_ three =

@@ -23,7 +23,7 @@ pub restart_past_some : (o : Option ℕ) (h f : ℕ) → o ≡ Some f → h < f 
 restart_past_some None h f e l = cc
 restart_past_some (Some r) h f e l = let same : r ≡ f = cc in let low : nat_lt h r ≡ true = grind (arith, nat_tests, same, l) in rw low e
 
--- processor p as it begins frame f
+-- The words of processor `p` at the beginning of frame `f`.
 pub record Begun (m : Flight) (p f : ℕ) (x : Processor) : Type 0 where
   pub up : m.up p f ≡ true
   pub mark : x.mark ≡ mark_before m p f
@@ -49,7 +49,7 @@ begun_at m p f (Halted h) x y d mark bank e =
 pub begun : (m : Flight) (p f : ℕ) (x : Processor) → Flies m → IsProcessor m p x → frame_to_make (m.restart p) x.place ≡ Some f → Begun m p f x
 begun m p f x y o e = begun_at m p f x.place x y o.place o.mark o.bank e
 
--- at the place after frame f, marks, end words and banks are those before the next frame
+-- Lemmas on the place after frame `f`: its mark, end word and banks are those before the next frame.
 standing_past : (m : Flight) (p f : ℕ) (o : Option ℕ) → Flies m → m.up p f ≡ true → f < m.frames → m.halt p f ≡ o → IsStanding m p (after_frame f o)
 standing_past m p f None y u l e = record { fresh = refl; within = l; up = y.stays p f u e; done = end_up m p f u ∙ ap (λ (o : Option ℕ). end_word_after f o) e }
 standing_past m p f (Some s) y u l e = record { step = s; up = u; halts = e }

@@ -18,7 +18,7 @@ use Rattle.kernel_pair.proofs.Placing.{Read, read}
 use Rattle.kernel_pair.proofs.Progress.{one_stays, over_noted, progress}
 
 module _ (spec : Parts) (script : ScriptParts) (fits : Fits spec script) (halt : Option UnitHalt) (s : Pair) (kept : PairKept (flight_of spec script) halt s) where
-  -- in the words of the one-thread trace
+  -- A processor that may make a frame finds the words of the one-thread trace.
   find : (p : ProcId) (u : ℕ) → (next : IsPairNext (flight_of spec script) halt s (Fly p u)) → FindsBy spec script s u next.2.0
   find p u next =
       let r : Read (flight_of spec script) halt s (script_flies spec script fits) kept u next.2.0 =

@@ -40,14 +40,14 @@ pub second_stays : (s : Pair) (halted : Bool) → ((s.unit 0).stopped ≡ None) 
 second_stays s halted (inl none) is e = let some : is_some (s.unit 0).stopped ≡ true = sym is ∙ e in let no : is_some (s.unit 0).stopped ≡ false = ap is_some none in cc
 second_stays s halted (inr none) is e = none
 
--- the kernel of a unit that has not halted has then ended all frames
+-- If the pair is over, then the kernel of a unit that has not halted has ended all frames.
 pub all_ended : (k : PairParts) (u : ℕ) (kernel : KernelParts) → PairHolds k.spec k.script k.halt (pair_in k) → IsPairOver (pair_flight k) (pair_in k) → u < 2 → ((pair_in k).unit u).stopped ≡ None → IsKernelOf k u kernel
     → kernel.past ≡ kernel.script.frames
 all_ended k u kernel holds over l going is =
     let stays : OneUnitStays (pair_flight k) (pair_in k) = holds.one_stays in
     ap (λ (x : KernelParts). x.past) is ∙ stays.noted_all over u l going ∙ sym (ap (λ (x : KernelParts). x.script.frames) is)
 
--- a list that is written back to the room in which it stood
+-- A list that is written back to the front of a longer list can be taken from it again.
 pub written_back : {A : Type 0} (xs ys : List A) (n : ℕ) → n ≡ length ys → take n (ys ++ drop (length ys) xs) ≡ ys
 written_back {A} xs ys n is = ap (λ (m : ℕ). take m (ys ++ drop (length ys) xs)) is ∙ front ys (drop (length ys) xs)
   where

@@ -8,19 +8,19 @@ use Rattle.kernel_pair.specs.declared.events.UnitHalt.{UnitHalt}
 use Rattle.kernel_pair.specs.Pairs.{Processor, KernelUnit, Pair, other_unit, with_at, with_proc, with_unit}
 use Rattle.kernel_pair.specs.Kept.{HasMet, IsAhead, IsProcessor, IsReached, IsUnit, PairKept, frames_past}
 
--- a fact that holds for units 0 and 1 holds for each unit
+-- A fact that holds for units 0 and 1 holds for each unit.
 pub two : (P : ℕ → Type 0) → P 0 → P 1 → (v : ℕ) → v < 2 → P v
 two P a b zero l = a
 two P a b (suc zero) l = b
 two P a b (suc (suc v)) l = absurd (omega arith)
 
--- a fact that holds for a unit and for the other one holds for each unit
+-- A fact that holds for a unit and for the other unit holds for each unit.
 pub both : (u : ℕ) → u < 2 → (P : ℕ → Type 0) → P u → P (other_unit u) → (v : ℕ) → v < 2 → P v
 both zero l P a b = two P a b
 both (suc zero) l P a b = two P b a
 both (suc (suc u)) l P a b = absurd (omega arith)
 
--- the facts about unit u that becomes x from which the invariant follows
+-- The facts from which the invariant follows if unit `u` becomes `x`.
 pub record UnitMoves (m : Flight) (halt : Option UnitHalt) (s : Pair) (u : ℕ) (x : KernelUnit) : Type 0 where
   pub own : IsUnit m halt u x
   pub ahead : (p : ℕ) → p < m.procs → IsAhead m p (s.proc p).place x
@@ -46,7 +46,7 @@ module _ (m : Flight) (halt : Option UnitHalt) (s : Pair) (k : PairKept m halt s
   }
   by_unit (suc (suc u)) l x o = absurd (omega arith)
 
-  -- processor p becomes y
+  -- If processor `p` becomes `y`, and `y` agrees with its place and with the units, then the invariant holds.
   pub by_proc : (p : ℕ) → (y : Processor) → IsProcessor m p y → ((u : ℕ) → u < 2 → IsAhead m p y.place (s.unit u)) → IsReached s.unit y.place → PairKept m halt (with_proc s p y)
   by_proc p y own ahead reached = record {
     units = k.units;

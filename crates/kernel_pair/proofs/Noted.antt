@@ -24,7 +24,7 @@ none_noted n k l = grind (arith, nat_tests)
 some_noted : (n j k : ℕ) → j < n → (if nat_le n j then suc k else k) ≡ k
 some_noted n j k l = grind (arith, nat_tests)
 
--- an event that changes unit v to x
+-- An event that changes a unit without a last note leaves the number of noted frames of each unit unchanged.
 with_same : (m : Flight) (s : Pair) (v : ℕ) (x : KernelUnit) → noted_frames m x ≡ noted_frames m (s.unit v) → (u : ℕ) → noted_frames m (with_at s.unit v x u) ≡ noted_frames m (s.unit u)
 with_same m s v x is u = by_place (ℕ_discrete u v)
   where
@@ -36,7 +36,7 @@ module _ (m : Flight) (halt : Option UnitHalt) (s : Pair) where
   goes_at : (u : ℕ) (e : PairEvent) → next_unit m halt s u ≡ Some e → Goes m halt u (s.unit u) (s.unit (other_unit u)).ready (λ p. (s.proc p).end) e
   goes_at u e i = goes m halt u (s.unit u) (s.unit (other_unit u)).ready (λ p. (s.proc p).end) e i
 
-  -- a step once all processors are noted
+  -- A step after all notes of a frame leaves the number of noted frames unchanged.
   behind_same : (u n : ℕ) (x : KernelUnit) → Behind m (s.unit u).frame (s.unit u).step n → x.frame ≡ (s.unit u).frame → x.step ≡ suc (s.unit u).step → noted_frames m x ≡ noted_frames m (s.unit u)
   behind_same u n x b frame step =
       let at = b.at in
@@ -61,7 +61,7 @@ module _ (m : Flight) (halt : Option UnitHalt) (s : Pair) where
       with_same m s v (released (s.unit v)) (none_noted m.procs (suc (s.unit v).frame) some ∙ sym (all_noted m.procs (s.unit v).step (s.unit v).frame (omega (arith, at)))) u
   noted_same some (Stop v) next i u = with_same m s v (halted_unit (halt_frame halt) (s.unit v)) refl u
 
-  -- a unit whose next event is a note is in a frame of the flight, and has not noted every processor
+  -- A unit whose next event is a note is in a frame of the flight and has not noted every processor.
   pub record Noting (u : ℕ) : Type 0 where
     pub low : (s.unit u).step < m.procs
     pub below : (s.unit u).frame < m.frames
@@ -73,11 +73,11 @@ module _ (m : Flight) (halt : Option UnitHalt) (s : Pair) where
       let x : IsUnit m halt u (s.unit u) = k.units u next.0 in
       record { low = g.at.0; below = x.below g.some; before = some_noted m.procs (s.unit u).step (s.unit u).frame g.at.0 }
 
-  -- that unit after the note
+  -- A note changes the unit that makes it as `noted` states.
   pub unit_after : (u : ℕ) (p : ProcId) → (pair_after m halt s (Note u p)).unit u ≡ noted p.0 (s.proc p.0) (s.unit u)
   unit_after u p = rw (nat_eq_self u) refl
 
-  -- a unit whose next event is a store has noted every processor
+  -- A unit whose next event is a store has noted every processor.
   pub storing : (u i : ℕ) → IsPairNext m halt s (Store u i) → noted_frames m (s.unit u) ≡ suc (s.unit u).frame
   storing u i next =
       let g : Goes m halt u (s.unit u) (s.unit (other_unit u)).ready (λ p. (s.proc p).end) (Store u i) = goes_at u (Store u i) next.1 in

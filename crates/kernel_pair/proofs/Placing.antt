@@ -17,7 +17,7 @@ use Rattle.kernel_pair.specs.Kept.{HasMet, IsProcessor, IsStanding, IsUnit, Pair
 use Rattle.kernel_pair.proofs.Frames.{restart_past_is, restart_past_some}
 use Rattle.kernel_pair.proofs.Moving.{both, two}
 
--- while no unit is ahead of frame k, a processor has the same place as with one kernel in frame k
+-- While no unit is ahead of frame `k`, a processor has the same place as with one kernel in frame `k`.
 pub placed_by : (m : Flight) (k j p : ℕ) (place : Place) → IsStanding m p place → ((f : ℕ) → frame_to_make (m.restart p) place ≡ Some f → NotBelow k j p f) → frames_past place ≤ suc k → IsPlaced m k j p place
 placed_by m k j p (At f n) w a b = record { up = w.up; low = (a f refl).0; high = b; fresh = λ g. w.fresh; within = rw w.fresh (omega arith); noted = (a f refl).1; done = λ g. w.done }
 placed_by m k j p (Halted h) d a b = record {
@@ -29,7 +29,7 @@ placed_by m k j p (Halted h) d a b = record {
   noted = λ g r e l. (a r (restart_past_some (m.restart p) h r e l)).1 g;
 }
 
--- a processor that may be noted in frame k makes a later frame next
+-- A processor that may be noted in frame `k` makes a later frame next.
 noted_ahead : (m : Flight) (k p f : ℕ) (place : Place) → Noted m k p place → frame_to_make (m.restart p) place ≡ Some f → k < f
 noted_ahead m k p f (At g n) l e = let same : g ≡ f = cc in subst (λ (x : ℕ). k < x) same l
 noted_ahead m k p f (Halted h) l e = let r = restart_past_is (m.restart p) h f e in l f r.0 r.1
@@ -56,14 +56,14 @@ pub released : (m : Flight) (k f : ℕ) → f < release_at m k → (f ≤ k) × 
 released m k f l = let a : f ≤ k = grind (arith, nat_tests) in let b : 0 < m.frames = grind (arith, nat_tests) in (a, b)
 
 module _ (m : Flight) (halt : Option UnitHalt) (s : Pair) (y : Flies m) (k : PairKept m halt s) where
-  -- how far the other unit has met unit u
+  -- Unless unit `u` has halted, the other unit has met it in no more frames than `u` has been ready in.
   pub met_other : (u : ℕ) → u < 2 → HasMet m (s.unit (other_unit u)) (s.unit u)
   met_other u l = two (λ v. HasMet m (s.unit (other_unit v)) (s.unit v)) (k.met 1 (omega arith)) (k.met 0 (omega arith)) u l
 
   pub bounded : (p : ℕ) → p < m.procs → (f : ℕ) → ((u : ℕ) → u < 2 → (s.unit u).frame ≤ f) → frames_past (s.proc p).place ≤ suc f
   bounded p l f all = let r = k.reached p l in let a = all r.unit r.there in let b = r.high in omega (arith, a, b)
 
-  -- until a unit that has not halted is ready, neither is ahead of it
+  -- Until a unit that has not halted is ready, no unit is ahead of it.
   pub none_ahead : (u : ℕ) → u < 2 → (s.unit u).stopped ≡ None → (s.unit u).step ≤ m.procs + 20 → (v : ℕ) → v < 2 → (s.unit v).frame ≤ (s.unit u).frame
   none_ahead u l going low v lv =
       let a = met_other u l going in
@@ -71,7 +71,7 @@ module _ (m : Flight) (halt : Option UnitHalt) (s : Pair) (y : Flies m) (k : Pai
       let c = readies_low m (s.unit u).frame (s.unit u).step low in
       both u l (λ (w : ℕ). (s.unit w).frame ≤ (s.unit u).frame) (omega arith) (omega (arith, a, b, c)) v lv
 
-  -- a processor that unit u may note has its mark and its image after the unit's frame
+  -- A processor that unit `u` may note has its mark and its image after the unit's frame.
   pub record Told (u p : ℕ) : Type 0 where
     pub ahead : (f : ℕ) → frame_to_make (m.restart p) (s.proc p).place ≡ Some f → (s.unit u).frame < f
     pub mark : (s.proc p).mark ≡ mark_before m p (suc (s.unit u).frame)
@@ -93,7 +93,7 @@ module _ (m : Flight) (halt : Option UnitHalt) (s : Pair) (y : Flies m) (k : Pai
         image = λ i li. rw (side_of m p (suc (s.unit u).frame) (s.proc p).mark mark) (o.bank (side m p (suc (s.unit u).frame)) i (omega arith) li ∙ g.held i li);
       }
 
-  -- the words that a processor reads when it makes frame f by the words of unit u
+  -- A processor that makes frame `f` by the words of unit `u` reads the words of that frame.
   pub record Read (u f : ℕ) : Type 0 where
     pub frame : f ≡ (s.unit u).frame
     pub some : 0 < m.frames

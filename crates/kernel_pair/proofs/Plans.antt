@@ -12,12 +12,12 @@ use Rattle.kernel_pair.specs.declared.events.PairEvent.TheVariants.{Fly, Note, S
 use Rattle.kernel_pair.specs.Pairs.{KernelUnit, is_at_halt, halts_below, may_meet, next_by, next_going, plan_noted, plan_unit, stops_at}
 use Rattle.kernel_pair.specs.Kept.{IsNamed}
 
--- n steps after the notes, in a frame that is not the last
+-- The unit is `n` steps after its notes, in a frame that is not the last.
 pub record Behind (m : Flight) (k j n : ℕ) : Type 0 where
   pub at : j ≡ m.procs + n
   pub more : suc k < m.frames
 
--- the event is one of unit u
+-- The event is an event of unit `u`.
 abbrev pub IsOf : ℕ → PairEvent → Type 0
 IsOf u (Fly p v) = ⊥
 IsOf u (Note v p) = v ≡ u
@@ -27,7 +27,7 @@ IsOf u (Meet v) = v ≡ u
 IsOf u (Release v) = v ≡ u
 IsOf u (Stop v) = v ≡ u
 
--- the place of unit u if its next event is this one
+-- The place of unit `u`, in frame `k` after `j` steps, is one at which the event is next.
 abbrev pub Planned : Flight → ℕ → ℕ → ℕ → ℕ → (ℕ → ℕ) → Bool → PairEvent → Type 0
 Planned m u k j ready ends stops (Fly p v) = ⊥
 Planned m u k j ready ends stops (Note v p) = (j < m.procs) × (p ≡ proc_id j) × (may_note m j k (ends j) ≡ true)
@@ -37,7 +37,7 @@ Planned m u k j ready ends stops (Meet v) = (may_meet k ready ≡ true) × Behin
 Planned m u k j ready ends stops (Release v) = Behind m k j 22
 Planned m u k j ready ends stops (Stop v) = stops ≡ true
 
--- the event is one of this unit, which is at that place
+-- The event is an event of unit `u`, which is at a place at which the event is next.
 abbrev PlansOwn : Flight → ℕ → ℕ → ℕ → ℕ → (ℕ → ℕ) → Bool → PairEvent → Type 0
 PlansOwn m u k j ready ends stops e = IsOf u e × Planned m u k j ready ends stops e
 
@@ -78,7 +78,7 @@ module _ (m : Flight) (u k j ready : ℕ) (ends : ℕ → ℕ) (e : PairEvent) w
   going_by true i = let same : Stop u ≡ e = cc in subst (λ (x : PairEvent). PlansOwn m u k j ready ends true x) same (refl, refl)
   going_by false i = planned i
 
--- a unit whose next event is e
+-- Event `e` is the next event of unit `u`, which has not halted.
 pub record Goes (m : Flight) (halt : Option UnitHalt) (u : ℕ) (x : KernelUnit) (ready : ℕ) (ends : ℕ → ℕ) (e : PairEvent) : Type 0 where
   pub some : 0 < m.frames
   pub going : x.stopped ≡ None
@@ -97,7 +97,7 @@ goes m halt u x ready ends e i = by_halt (nat_eq m.frames 0) x.stopped refl refl
     by_halt false (Some t) iz io i = cc
     by_halt false None iz io i = let own = going_by m u x.frame x.step ready ends e (stops_at m halt u x.frame x.step) i in record { some = positive m.frames iz; going = io; of = own.0; at = own.1 }
 
--- a unit that halts is named by the halt
+-- A unit that halts is the unit that the halt names.
 pub named : (m : Flight) (halt : Option UnitHalt) (u k j : ℕ) → stops_at m halt u k j ≡ true → IsNamed halt u
 named m None u k j e = cc
 named m (Some h) u k j e = record { named = h; is = refl; unit = left u h.unit (nat_lt h.frame m.frames && (nat_lt h.step (halts_below m h.frame) && is_at_halt m h k j)) e }

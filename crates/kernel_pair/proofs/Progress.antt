@@ -20,7 +20,7 @@ use Rattle.kernel_pair.proofs.Frames.{restart_past_some}
 use Rattle.kernel_pair.proofs.Moving.{both}
 use Rattle.kernel_pair.proofs.Placing.{bounded, none_ahead, readies_high, release_some}
 
--- a processor for which a unit waits in frame k makes frame k next
+-- If a unit waits in frame `k` for a processor, then the processor makes frame `k` next.
 to_make_now : (m : Flight) (p k e : ℕ) (place : Place) → IsStanding m p place → e ≡ end_at m p place → may_note m p k e ≡ false
     → ((f : ℕ) → frame_to_make (m.restart p) place ≡ Some f → k ≤ f) → frames_past place ≤ suc k → frame_to_make (m.restart p) place ≡ Some k
 to_make_now m p k e (At f n) w i may low high = ap (λ (x : ℕ). Some x) (now (ℕ_discrete f (suc k)) (low f refl))
@@ -43,7 +43,7 @@ to_make_now m p k e (Halted h) d i may low high = by_back (back_by (m.restart p)
         there ∙ ap (λ (x : ℕ). Some x) same
     by_back false j = let may2 = may_halted m p k h e end_is j in absurd (cc)
 
--- a unit that waits for the other
+-- The unit waits to meet the other unit.
 record Meeting (m : Flight) (x : KernelUnit) (ready : ℕ) : Type 0 where
   at : x.step ≡ m.procs + 21
   more : suc x.frame < m.frames
@@ -59,7 +59,7 @@ odd_met k t = let odd : (2 * t + 1) % 2 ≡ 1 = omega arith in rw odd (or_true (
     or_true true = refl
     or_true false = refl
 
--- the other unit, y, has not halted, and has not been ready in the frame of unit x
+-- The other unit, `y`, has not halted, and has not been ready in the frame of unit `x`.
 record Late (m : Flight) (x y : KernelUnit) : Type 0 where
   going : y.stopped ≡ None
   low : readies m y.frame y.step ≤ x.frame
@@ -71,7 +71,7 @@ late_by m x y (Some t) i is e = let met = odd_met x.frame t in absurd (cc)
 readies_least : (m : Flight) (k j : ℕ) → k ≤ readies m k j
 readies_least m k j = grind (arith, nat_tests)
 
--- one unit has not halted
+-- At least one unit has not halted.
 pub one_stays : (m : Flight) (halt : Option UnitHalt) (s : Pair) → PairKept m halt s → ((s.unit 0).stopped ≡ None) ⊎ ((s.unit 1).stopped ≡ None)
 one_stays m halt s k = by_stopped (s.unit 0).stopped refl (s.unit 1).stopped refl
   where
@@ -134,7 +134,7 @@ module _ (m : Flight) (halt : Option UnitHalt) (s : Pair) (y : Flies m) (k : Pai
         at_release : (s.unit u).step ≡ m.procs + 22 → plan_noted m u (s.unit u).frame (s.unit u).step (s.unit (other_unit u)).ready ≡ Some (Release u)
         at_release e = grind (arith, nat_tests)
 
-    -- some actor has a next event, or the unit has made its last note or waits for the other
+    -- Some actor has a next event, or the unit has made its last note or waits for the other unit.
     more_by : next_unit m halt s u ≡ plan_unit m u (s.unit u).frame (s.unit u).step (s.unit (other_unit u)).ready (λ p. (s.proc p).end) → Dec ((s.unit u).step < m.procs) → Dec (suc (s.unit u).frame < m.frames)
         → HasNext m halt s ⊎ (IsAtEnd m (s.unit u) ⊎ Meeting m (s.unit u) (s.unit (other_unit u)).ready)
     more_by i (yes a) b = inl (noting a i (may_note m (s.unit u).step (s.unit u).frame (s.proc (s.unit u).step).end) refl)
@@ -164,7 +164,7 @@ module _ (m : Flight) (halt : Option UnitHalt) (s : Pair) (y : Flies m) (k : Pai
   late : (u : ℕ) → u < 2 → Meeting m (s.unit u) (s.unit (other_unit u)).ready → Late m (s.unit u) (s.unit (other_unit u))
   late u l w = let z : IsUnit m halt (other_unit u) (s.unit (other_unit u)) = k.units (other_unit u) (other_less u) in late_by m (s.unit u) (s.unit (other_unit u)) (s.unit (other_unit u)).stopped refl (z.ready) w.waits
 
-  -- if a unit has made its last note, all processors are done
+  -- If a unit has made its last note, then all processors are done.
   all_done : (u : ℕ) → u < 2 → IsAtEnd m (s.unit u) → ((p r : ℕ) → m.restart p ≡ Some r → suc r ≤ m.frames) → (p : ℕ) → p < m.procs → IsDone m p (s.proc p).place
   all_done u l end within p lp = by_place (s.proc p).place (let o : IsProcessor m p (s.proc p) = k.processors p lp in o.place) (λ f e. (k.ahead u p l lp f e).1 (let n = end.noted_all in omega arith))
     where
@@ -183,7 +183,7 @@ module _ (m : Flight) (halt : Option UnitHalt) (s : Pair) (y : Flies m) (k : Pai
   over_if : (u : ℕ) → u < 2 → IsAtEnd m (s.unit u) → ((s.unit (other_unit u)).stopped ≡ None → IsAtEnd m (s.unit (other_unit u))) → ((p r : ℕ) → m.restart p ≡ Some r → suc r ≤ m.frames) → IsPairOver m s
   over_if u l a b within = inr (all_done u l a within, both u l (λ v. (s.unit v).stopped ≡ None → IsAtEnd m (s.unit v)) (λ n. a) b)
 
-  -- a unit in a frame in which the other has been ready does not wait for it
+  -- If the other unit has been ready in a unit's frame, then the unit does not wait for it.
   other_goes : (u : ℕ) → u < 2 → (s.unit (other_unit u)).stopped ≡ None → ((s.unit (other_unit u)).frame < readies m (s.unit u).frame (s.unit u).step ⊎ IsAtEnd m (s.unit (other_unit u)))
       → HasNext m halt s ⊎ IsAtEnd m (s.unit (other_unit u))
   other_goes u l going c = sorted (unit_goes (other_unit u) (other_less u) going)
@@ -251,7 +251,7 @@ module _ (m : Flight) (halt : Option UnitHalt) (s : Pair) (y : Flies m) (k : Pai
   one_goes within (inl i) = going_on 0 (omega arith) i within
   one_goes within (inr i) = going_on 1 (omega arith) i within
 
-  -- if the units are at their end, so are the processors
+  -- If each unit that has not halted has made its last note, then all processors are done.
   units_over : ((p r : ℕ) → m.restart p ≡ Some r → suc r ≤ m.frames) → ((u : ℕ) → u < 2 → (s.unit u).stopped ≡ None → IsAtEnd m (s.unit u)) → ((s.unit 0).stopped ≡ None) ⊎ ((s.unit 1).stopped ≡ None) → IsPairOver m s
   units_over within ends_are (inl i) = over_if 0 (omega arith) (ends_are 0 (omega arith) i) (ends_are 1 (omega arith)) within
   units_over within ends_are (inr i) = over_if 1 (omega arith) (ends_are 1 (omega arith) i) (ends_are 0 (omega arith)) within
@@ -263,7 +263,7 @@ progress m halt s y within k = by_frames (ℕ_discrete m.frames 0)
     by_frames (yes e) = inl (inl e)
     by_frames (no n) = one_goes m halt s y k (omega arith) within (one_stays m halt s k)
 
--- a pair is over if its units are at their end
+-- If each unit that has not halted has made its last note, then the pair is over.
 pub over_by : (m : Flight) (halt : Option UnitHalt) (s : Pair) → Flies m → ((p r : ℕ) → m.restart p ≡ Some r → suc r ≤ m.frames) → PairKept m halt s → ((u : ℕ) → u < 2 → (s.unit u).stopped ≡ None → IsAtEnd m (s.unit u)) → IsPairOver m s
 over_by m halt s y within k ends_are = by_frames (ℕ_discrete m.frames 0)
   where
@@ -271,7 +271,7 @@ over_by m halt s y within k ends_are = by_frames (ℕ_discrete m.frames 0)
     by_frames (yes e) = inl e
     by_frames (no n) = units_over m halt s y k (omega arith) within ends_are (one_stays m halt s k)
 
--- a unit that has not halted has then noted all frames
+-- If the pair is over, then a unit that has not halted has noted all frames.
 noted_end : (n j k f : ℕ) → suc k ≡ f → n ≤ j → (if nat_le n j then suc k else k) ≡ f
 noted_end n j k f e l = grind (arith, nat_tests)
 

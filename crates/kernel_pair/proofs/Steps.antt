@@ -18,12 +18,12 @@ use Rattle.kernel_pair.proofs.Moving.{by_proc, by_unit}
 use Rattle.kernel_pair.proofs.Placing.{Read, Told, met_other, meetings_high, meetings_low, read, readies_high, readies_low, release_some, told}
 use Rattle.kernel_pair.proofs.Plans.{Behind, Goes, goes, named}
 
--- after a frame of a processor
+-- The frame that a processor makes after frame `f` is ahead of each unit in frame `f` or before.
 ahead_past : (m : Flight) (k j p f : ℕ) (o r : Option ℕ) → k ≤ f → (g : ℕ) → frame_to_make r (after_frame f o) ≡ Some g → NotBelow k j p g
 ahead_past m k j p f None r l g e = let same : suc f ≡ g = cc in (omega arith, λ z. omega arith)
 ahead_past m k j p f (Some s) r l g e = let a = (restart_past_is r f g e).1 in (omega arith, λ z. omega arith)
 
--- the words of a unit from one step to the next
+-- Lemmas on the words of a unit from one step to the next.
 ready_low : (m : Flight) (o : Option ℕ) (k a b : ℕ) → a ≤ m.procs + 20 → b ≤ m.procs + 20 → ready_at m o k a ≡ ready_at m o k b
 ready_low m None k a b la lb = rw (readies_low m k a la, readies_low m k b lb) refl
 ready_low m (Some t) k a b la lb = refl
@@ -38,7 +38,7 @@ kernel_full m k j i h l = grind (arith, nat_tests)
 kernel_store : (m : Flight) (k j i d w : ℕ) → j ≡ m.procs + i → w ≡ kernel_at m k j d → (if nat_eq d i then word_in (m.kernel_image (suc k)) i else w) ≡ kernel_at m k (suc j) d
 kernel_store m k j i d w h e = grind (arith, nat_tests)
 
--- a ready word that lets a unit meet is odd, or that of this frame or of a later one
+-- If an even ready word lets a unit meet in frame `k`, then it is the word of that frame or of a later one.
 may_meet_is : (k r : ℕ) → may_meet k (2 * r) ≡ true → suc k ≤ r
 may_meet_is k r e = let even : 2 * r % 2 ≡ 0 = omega arith in grind (arith, nat_tests)
 
@@ -59,7 +59,7 @@ module _ (m : Flight) (halt : Option UnitHalt) (s : Pair) (y : Flies m) (k : Pai
     x : IsUnit m halt u (s.unit u)
     x = k.units u l
 
-    -- once all processors are noted
+    -- Once all processors are noted, each processor makes a later frame next.
     past_notes : (j : ℕ) → m.procs ≤ (s.unit u).step → (p : ℕ) → p < m.procs → (f : ℕ) → frame_to_make (m.restart p) (s.proc p).place ≡ Some f → NotBelow (s.unit u).frame j p f
     past_notes j low p lp f e = let a = k.ahead u p l lp f e in let b = a.1 (omega arith) in (a.0, λ g. b)
 

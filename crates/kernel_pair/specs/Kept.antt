@@ -65,8 +65,8 @@ pub record IsUnit (m : Flight) (halt : Option UnitHalt) (u : ℕ) (x : KernelUni
   pub marks : (p : ℕ) → p < m.procs → p < x.step → x.marks p ≡ mark_before m p (suc x.frame)
   pub images : (p i : ℕ) → p < m.procs → p < x.step → i < m.width → x.images p i ≡ word_in (image_before m p (suc x.frame)) i
 
--- Frame `f` of processor `p` is at least frame `k` of a unit. If the unit has noted `p` within its first `j` steps, `f`
--- is above `k`.
+-- Frame `f` of processor `p` is at least frame `k` of a unit. If the unit has noted `p` within its first `j` steps,
+-- then `f` is above `k`.
 abbrev pub NotBelow : ℕ → ℕ → ℕ → ℕ → Type 0
 NotBelow k j p f = (k ≤ f) × (p < j → k < f)
 
@@ -85,7 +85,8 @@ pub record IsReached (units : ℕ → KernelUnit) (place : Place) : Type 0 where
   pub there : unit < 2
   pub high : frames_past place ≤ suc (units unit).frame
 
--- Unless unit `y` has halted, unit `x` has met it in at most as many frames as `y` has been ready in.
+-- Unless unit `y` has halted, the number of frames in which unit `x` has met it is at most the number of frames in
+-- which `y` has been ready.
 abbrev pub HasMet : Flight → KernelUnit → KernelUnit → Type 0
 HasMet m x y = y.stopped ≡ None → meetings m x.frame x.step ≤ readies m y.frame y.step
 

@@ -20,7 +20,7 @@ use Rattle.kernel_pair.specs.Kept.{PairKept}
 abbrev pub noted_frames : Flight → KernelUnit → ℕ
 noted_frames m x = if nat_le m.procs x.step then suc x.frame else x.frame
 
--- If a unit has released frame `k + 1`, both units have noted frame `k`, unless the other unit has halted.
+-- If a unit has released frame `k + 1`, then both units have noted frame `k`, unless the other unit has halted.
 abbrev pub BothHaveNoted : Flight → Pair → Type 0
 BothHaveNoted m s = (u k : ℕ) → u < 2 → suc k < (s.unit u).release
     → (k < noted_frames m (s.unit u)) × ((s.unit (other_unit u)).stopped ≡ None → k < noted_frames m (s.unit (other_unit u)))

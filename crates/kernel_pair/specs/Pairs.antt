@@ -15,8 +15,8 @@ pub record Processor : Type 0 where
   pub end : ℕ
   pub bank : ℕ → ℕ → ℕ
 
--- A unit: its frame, the steps made in it and the frame of its halt, if it has halted. It also has its release word,
--- its ready word, its 20 words, and the marks and the words of the images that it has noted.
+-- A unit: its frame, the number of steps made in it, and the frame of its halt if it has halted. It also has its
+-- release word, its ready word, its 20 words, and the marks and the words of the images that it has noted.
 pub record KernelUnit : Type 0 where
   pub frame : ℕ
   pub step : ℕ
@@ -36,12 +36,12 @@ pub record Pair : Type 0 where
 abbrev pub other_unit : ℕ → ℕ
 other_unit u = 1 - u
 
--- The frame of a restart if it comes after frame `h`, or none.
+-- The frame of a restart if it comes after frame `h`, or `None` if there is no such restart.
 abbrev pub restart_past : ℕ → Option ℕ → Option ℕ
 restart_past h None = None
 restart_past h (Some r) = if nat_lt h r then Some r else None
 
--- The frame that a processor makes next, or none if it has halted for good. It is the frame at whose beginning the
+-- The frame that a processor makes next, or `None` if it has halted for good. It is the frame at whose beginning the
 -- processor is, or the frame of its restart.
 abbrev pub frame_to_make : Option ℕ → Place → Option ℕ
 frame_to_make restart (At f n) = Some f
@@ -76,8 +76,8 @@ halt_frame (Some h) = h.frame
 abbrev pub may_meet : ℕ → ℕ → Bool
 may_meet k ready = nat_le (2 * suc k) ready || nat_eq (ready % 2) 1
 
--- The event of unit `u` in frame `k` after `j` steps, if it has noted all processors, or none if it waits. `ready` is
--- the other unit's ready word.
+-- The event of unit `u` in frame `k` after `j` steps, once it has noted all processors, or `None` if it waits.
+-- `ready` is the other unit's ready word.
 abbrev pub plan_noted : Flight → ℕ → ℕ → ℕ → ℕ → Option PairEvent
 plan_noted m u k j ready =
     if nat_lt j (m.procs + 20) then Some (Store u (j - m.procs))
@@ -85,14 +85,14 @@ plan_noted m u k j ready =
     else (if nat_eq j (m.procs + 21) then (if may_meet k ready then Some (Meet u) else None)
     else (if nat_eq j (m.procs + 22) then Some (Release u) else None)))
 
--- The event of unit `u` in frame `k` after `j` steps, or none if it waits or has made its last note. `ready` is the
+-- The event of unit `u` in frame `k` after `j` steps, or `None` if it waits or has made its last note. `ready` is the
 -- other unit's ready word, and `ends` are the end words.
 abbrev pub plan_unit : Flight → ℕ → ℕ → ℕ → ℕ → (ℕ → ℕ) → Option PairEvent
 plan_unit m u k j ready ends =
     if nat_lt j m.procs then (if may_note m j k (ends j) then Some (Note u (proc_id j)) else None)
     else (if nat_lt (suc k) m.frames then plan_noted m u k j ready else None)
 
--- The next event of unit `u` with state `x`, which has not halted. `stops` says whether it halts here.
+-- The next event of unit `u` with state `x`, which has not halted. `stops` is `true` if the unit halts here.
 abbrev pub next_going : Flight → ℕ → KernelUnit → ℕ → (ℕ → ℕ) → Bool → Option PairEvent
 next_going m u x ready ends stops = if stops then Some (Stop u) else plan_unit m u x.frame x.step ready ends
 
@@ -102,8 +102,8 @@ next_by m halt u x ready ends =
     if nat_eq m.frames 0 then None
     else (if is_some x.stopped then None else next_going m u x ready ends (stops_at m halt u x.frame x.step))
 
--- The next event of unit `u`. There is none if it waits for a processor or for the other unit, has halted or has made
--- its last note, or if the flight has no frame.
+-- The next event of unit `u`, or `None` if the unit waits for a processor or for the other unit, has halted or has
+-- made its last note, or if the flight has no frame.
 abbrev pub next_unit : Flight → Option UnitHalt → Pair → ℕ → Option PairEvent
 next_unit m halt s u = next_by m halt u (s.unit u) (s.unit (other_unit u)).ready (λ p. (s.proc p).end)
 
@@ -249,7 +249,7 @@ pub record IsFirstUnit (m : Flight) (x : KernelUnit) : Type 0 where
   pub ready : x.ready ≡ 0
   pub kernel : (i : ℕ) → i < 20 → x.kernel i ≡ word_in (m.kernel_image 0) i
 
--- The state is an opening. Entries past the last processor, the last unit and the last word may be anything.
+-- The state is an opening. Entries past the last processor, the last unit and the last word are arbitrary.
 pub record IsPairOpening (m : Flight) (s : Pair) : Type 0 where
   pub processors : (p : ℕ) → p < m.procs → IsFirstProcessor m p (s.proc p)
   pub units : (u : ℕ) → u < 2 → IsFirstUnit m (s.unit u)

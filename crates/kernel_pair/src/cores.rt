@@ -52,7 +52,7 @@ impl<'a> PairCore<'a> {
     ///
     /// # Errors
     ///
-    /// Out of memory.
+    /// Returns an error if memory runs out.
     pub fn open(
         alloc: Global,
         spec: &'a Spec,
@@ -81,8 +81,8 @@ impl<'a> PairCore<'a> {
         })
     }
 
-    /// Returns the next event of unit 0 or 1. It returns `None` if and only if the unit waits for a processor or for
-    /// the other unit, has halted or has made its last note, or the flight has no frame.
+    /// Returns the next event of unit 0 or 1. Returns `None` if and only if the unit waits for a processor or for the
+    /// other unit, has halted or has made its last note, or the flight has no frame.
     pub fn next(&self, unit: u8) -> Option<PairEvent>
         requires { unit < 2 }
         ensures { result ≡ next_unit (pair_flight self.now) self.now.halt (pair_in self.now) unit }
@@ -206,16 +206,16 @@ impl<'a> PairCore<'a> {
         self.machine.holds();
     }
 
-    /// Returns whether no further event is possible. Then each processor has made all frames or has halted for good,
-    /// and each unit that has not halted has made its last note, or the flight has no frame.
+    /// Returns `true` if no further event is possible. In that case each processor has made all frames or has halted
+    /// for good, and each unit that has not halted has made its last note, or the flight has no frame.
     pub fn over(&self) -> bool
         ensures { IsTrue result ↔ IsPairOver (pair_flight self.now) (pair_in self.now) }
     {
         self.machine.over()
     }
 
-    /// Returns the rows and reports of a unit that has not halted. The flight is over. The rows and reports are those
-    /// of the one-thread trace.
+    /// Returns the rows and reports of a unit that has not halted. The flight must be over. The rows and reports are
+    /// those of the one-thread trace.
     pub fn finish(self) -> Flown
         requires { IsPairOver (pair_flight self) (pair_in self) }
         ensures rows { result.rows ≡ rows_of self.entry.spec self.entry.script }

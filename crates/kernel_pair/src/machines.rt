@@ -51,7 +51,7 @@ impl<'a> PairMachine<'a> {
     ///
     /// # Errors
     ///
-    /// Out of memory.
+    /// Returns an error if memory runs out.
     pub(crate) fn open(
         alloc: Global,
         setup: &Setup<'a>,
@@ -104,7 +104,7 @@ impl<'a> PairMachine<'a> {
         next_unit(&self.setup, &self.state, u)
     }
 
-    /// Returns whether an event is a next event of its actor.
+    /// Returns `true` if an event is a next event of its actor.
     pub(crate) fn is_next(&self, event: PairEvent) -> bool
         ensures { IsTrue result ↔ IsPairNext (pair_flight self.now) self.now.halt (pair_in self.now) event }
     {
@@ -140,7 +140,7 @@ impl<'a> PairMachine<'a> {
         snapshot(self.setup.spec, self.setup.script, &self.state, u, frame)
     }
 
-    /// Returns whether a unit has noted every processor in its frame.
+    /// Returns `true` if a unit has noted every processor in its frame.
     pub(crate) fn has_noted_all(&self, u: u8) -> bool
         requires { u < 2 }
         ensures { IsTrue result ↔ (length self.now.spec.procs ≤ ((pair_in self.now).unit u).step) }
@@ -149,7 +149,7 @@ impl<'a> PairMachine<'a> {
         spec.procs.items().len() <= usize::from(self.state.units[usize::from(u)].step)
     }
 
-    /// Returns whether a unit has halted.
+    /// Returns `true` if a unit has halted.
     pub(crate) fn has_halted(&self, u: u8) -> bool
         requires { u < 2 }
         ensures { result ≡ is_some ((pair_in self.now).unit u).stopped }
@@ -185,7 +185,7 @@ impl<'a> PairMachine<'a> {
         &self.events
     }
 
-    /// Returns whether the pair is over.
+    /// Returns `true` if the pair is over.
     pub(crate) fn over(&self) -> bool
         ensures { IsTrue result ↔ IsPairOver (pair_flight self.now) (pair_in self.now) }
     {

@@ -18,7 +18,7 @@ use fail_stop::notes;
 use fault_script::restart_of;
 use scram_types::{ProcId, Script};
 
-/// Returns whether an event is a next event of its actor, whatever its numbers are.
+/// Returns `true` if an event is a next event of its actor, whatever its numbers are.
 pub(crate) fn is_next(setup: &Setup, state: &PairState, event: PairEvent) -> bool
     ensures { IsTrue result ↔ IsPairNext (flight_by setup.now) setup.now.halt (pair_of state.now) event }
 {
@@ -134,8 +134,8 @@ fn stops_at(setup: &Setup, u: u8, frame: u32, step: u8) -> bool
     }
 }
 
-// Returns whether the flight allows the halt and a unit in `frame` after `step` steps has made exactly the steps before
-// the halt.
+// Returns `true` if the flight allows the halt and a unit in `frame` after `step` steps has made exactly the steps
+// before the halt.
 fn is_halt_here(setup: &Setup, halt: UnitHalt, frame: u32, step: u8) -> bool
     ensures { result ≡ (nat_lt halt.step (halts_below (flight_by setup.now) halt.frame) && is_at_halt (flight_by setup.now) halt frame step) }
 {

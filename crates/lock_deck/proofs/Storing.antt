@@ -37,7 +37,7 @@ has_looked m at words p q i e =
     let g = gate (nat_lt p m.procs) _ (Store q i) e in
     (is_less p m.procs g.0, place_looked m p (words ReleaseWord) (at.proc p) q i g.1)
 
--- the word of a draft is the word that its processor stores
+-- The word of a draft is the word that its processor stores.
 pub draft_word : (mission : MissionParts) (p f i word : ℕ) (x : ℤ) (made : Draft) → IsDraftOf mission p made → made.frame ≡ f → x ≡ slice_index_or made.image i (pos 0) → word ≡ encode x → IsDraftWord mission p f i word
 draft_word mission p f i word x made is here at w =
     w ∙ ap encode (at ∙ ap (λ image. slice_index_or image i (pos 0)) (is ∙ ap (draft mission.spec mission.script p) here)) ∙ sym (encoded_at (draft mission.spec mission.script p f) i)

@@ -39,8 +39,8 @@ pub struct LockFlight<'a> {
 }
 
 impl<'a> LockFlight<'a> {
-    /// Returns a flight of a mission before its first step. Allocates all memory that the flight needs. The only error
-    /// is out of memory.
+    /// Returns a flight of a mission before its first step. Allocates all memory that the flight needs. Returns an
+    /// error only if memory runs out.
     pub fn open(
         alloc: Global,
         mission: &'a Mission,
@@ -343,7 +343,7 @@ fn keep_member(kept: &mut Vec<Member>, member: Option<Member>)
     }
 }
 
-// Returns for each processor whether the caller flies it, because no thread is requested for it.
+// Returns, for each processor, whether the caller flies it because no thread is requested for it.
 fn flown_by_caller(asked: [bool; 8]) -> [AtomicBool; 8] {
     [
         AtomicBool::new(!asked[0]),

@@ -43,8 +43,8 @@ impl Member {
         self.flyer.proc()
     }
 
-    /// Acts on the result of a turn at the lock. The processor drafts from a returned snapshot and halts with its halt.
-    /// With the start of its restart it becomes live again in its spare rack.
+    /// Acts on the result of a turn at the lock. The processor drafts from a returned snapshot and halts if the turn
+    /// was its halt. With the start of its restart it becomes live again in its spare rack.
     pub(crate) fn follow(&mut self, mission: &Mission, made: &Made)
         requires saw { IfSaw made.now (IsSnapshotOf mission.now) }
         requires fits { MemberFits mission.now self.old }

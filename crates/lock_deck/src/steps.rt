@@ -16,7 +16,7 @@ use event_core::Core;
 use fail_stop::Draft;
 use scram_types::ProcId;
 
-// Makes an event with its word if the event is the next of its actor, and returns whether it was.
+// Applies an event with its word if the event is the next of its actor, and returns whether it was.
 fn make(core: &mut Core, event: Event, word: u64) -> bool
     requires { IsNextIn core.old event → IsWordIn core.old event word }
     ensures spec { core.new.spec ≡ core.old.spec }
@@ -25,7 +25,7 @@ fn make(core: &mut Core, event: Event, word: u64) -> bool
     core.step(event, word).is_ok()
 }
 
-// Returns whether an event needs no word.
+// Returns `true` if an event needs no word.
 fn is_plain(event: Event) -> bool
     ensures { IsTrue result → (m : Flight) (at : Places) (word : ℕ) → IsEventWord m at event word }
 {
@@ -42,7 +42,7 @@ fn is_plain(event: Event) -> bool
     }
 }
 
-// Makes an event that needs no word if the event is the next of its actor, and returns whether it was.
+// Applies an event that needs no word if the event is the next of its actor, and returns whether it was.
 fn make_plain(core: &mut Core, event: Event) -> bool
     ensures spec { core.new.spec ≡ core.old.spec }
     ensures script { core.new.script ≡ core.old.script }

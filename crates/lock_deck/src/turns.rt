@@ -86,8 +86,8 @@ fn make_turn_of_each<'a, J: FlightOf, R: Wait>(
     }
 }
 
-// Makes a step of a processor under the lock, if one is next, and acts on its result outside the lock. Returns `false`
-// if there was nothing to do.
+// Makes a step of a processor under the lock, if one is next, and acts on its result outside the lock. Returns
+// `false` if no step was next.
 fn make_turn<'a, J: FlightOf>(
     mission: &Mission,
     shared: MutexGuard<'_, SharedCore<'a, J>>,
@@ -108,7 +108,7 @@ fn make_turn<'a, J: FlightOf>(
     is_something(&made)
 }
 
-// Returns whether the kernel may be waiting for this result.
+// Returns `true` if the kernel may be waiting for this result.
 fn is_awaited(made: &Made) -> bool {
     match made {
         Made::Done => true,

@@ -22,7 +22,7 @@ use Rattle.schedule_replay.specs.Verbs.{verb_named, word_count}
 use Rattle.schedule_replay.specs.Events.{HasEvent, event_text}
 use Rattle.schedule_replay.specs.Reading.{event_read, event_told, is_legible}
 
--- a line without its line feed is printable and encodes an event
+-- A line, without its line feed, is printable and encodes an event.
 pub record LineBack (spec : Parts) (line : List ℕ) (event : Event) : Type 0 where
   pub plain : is_plain line ≡ true
   pub read : event_read spec line ≡ Ok event
@@ -41,7 +41,7 @@ from_words spec kind word words event visible short few named count told = recor
   read = rw (legible word words visible short, words_in_back word words visible few, words_back word words visible, named, count, told) refl;
 }
 
--- the name of a processor in a line
+-- The name of processor `p` is printable, short, and names `p`.
 record NameThere (spec : Parts) (p : ProcId) : Type 0 where
   visible : is_visible (proc_name spec p.0) ≡ true
   short : length (proc_name spec p.0) ≤ 16
@@ -54,7 +54,7 @@ name_there spec p sound below =
 both : (a b : Bool) → a ≡ true → b ≡ true → (a && b) ≡ true
 both a b e f = and_from a b e f
 
--- a word and the name of a processor
+-- A line with a first word and the name of a processor encodes the event of that kind and processor.
 of_proc : (spec : Parts) (kind : Verb) (word : List ℕ) (event : Event) (p : ProcId) → IsSpec spec → p.0 < length spec.procs → is_visible word ≡ true → length word ≤ 8
     → verb_named word ≡ Some kind → (2 == word_count kind) ≡ true → event_told spec kind (word ∷ proc_name spec p.0 ∷ []) ≡ Some event
     → LineBack spec (line_of (word ∷ proc_name spec p.0 ∷ [])) event

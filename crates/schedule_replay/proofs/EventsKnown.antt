@@ -34,7 +34,7 @@ module _ (m : Flight) (at : Places) (words : Word → ℕ) where
   acting : (p : ℕ) (e : Event) → next_of m at words p ≡ Some e → (p < m.procs) × (next_from m p (words ReleaseWord) (at.proc p) ≡ Some e)
   acting p e i = let g = gate (nat_lt p m.procs) (next_from m p (words ReleaseWord) (at.proc p)) e i in (is_less p m.procs g.0, g.1)
 
-  -- the processor that is looked at exists
+  -- The processor at which a processor looks next exists.
   pub looks_low : (p q : ProcId) → IsNext m at words (Look p q) → q.0 < m.procs
   looks_low p q i =
       let b : Mid m p.0 (at.proc p.0) (Look p q) = mid m p.0 (words ReleaseWord) (at.proc p.0) (Look p q) (acting p.0 (Look p q) i).1 (λ e. cc) in

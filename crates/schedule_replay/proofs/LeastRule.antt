@@ -29,7 +29,7 @@ both_told : {A B C : Type 0} (make : A → B → C) (o : Option A) (other : Opti
 both_told make None other = refl
 both_told make (Some a) other = one_told (make a) other
 
--- rule 4
+-- The words of a line encode an event if and only if they keep rule 4.
 named : (spec : Parts) (words : List (List ℕ)) (verb : Verb) → is_some (event_told spec verb words) ≡ names_event spec words verb
 named spec words Start = one_told event.Start (proc_in spec words)
 named spec words Look = both_told event.Look (proc_in spec words) (proc_named spec (word_at words 2))
@@ -47,7 +47,7 @@ last_rule None false is = refl
 last_rule (Some e) true is = refl
 last_rule (Some e) false is = cc
 
--- rule 3: no event has more words than a line of a trace
+-- Rule 3: no event has more words than the 16 that a line of a trace may have.
 few : (verb : Verb) → word_count verb ≤ 16
 few Start = omega arith
 few Look = omega arith
@@ -74,7 +74,7 @@ formed : (verb : Verb) (line : List ℕ) → words_for verb line ≡ (if has_wor
 formed verb line =
     counted verb (words_of line) (nat_le (length (words_of line)) 16) (list_all is_filled (words_of line)) (length (words_of line) == word_count verb) refl refl
 
--- rules 3 and 4 if the first word is known
+-- If the first word of a line is known, then the least of rules 3 and 4 that the line breaks is reported.
 form_case : (spec : Parts) (line : List ℕ) (verb : Verb) (has : Bool) →
     told_by (or_rule NO_FORM (if has then Some (words_of line) else None) (λ (words : List (List ℕ)). or_rule UNKNOWN_EVENT (event_told spec verb words) (λ (event : Event). Ok event)))
     ≡ least_from 3 (is_some (if has then Some verb else None) ∷ keeps (if has then Some verb else None) (names_event spec (words_of line)) ∷ [])

@@ -15,7 +15,7 @@ first_none (Some e) q is = cc
 first_none None q is = (refl, is)
 
 module _ (m : Flight) (at : Places) (words : Word → ℕ) where
-  -- none below
+  -- If no processor below `n` has a next event and processor `n` has none, then no processor below `n + 1` has one.
   at_or_below : (n p : ℕ) → Dec (p ≡ n) → p < suc n → next_of m at words n ≡ None → (p < n → next_of m at words p ≡ None) → next_of m at words p ≡ None
   at_or_below n p (yes same) low last before = ap (next_of m at words) same ∙ last
   at_or_below n p (no other) low last before = before (omega (arith, low, other))
@@ -26,7 +26,7 @@ module _ (m : Flight) (at : Places) (words : Word → ℕ) where
       let both = first_none (next_below m at words n) (next_of m at words n) is in
       at_or_below n p (ℕ_discrete p n) low both.1 (λ less. none_below n p less both.0)
 
-  -- one that is the first below
+  -- The event that is found is the next event of the first processor below `n` that has one.
   found_at : (n p : ℕ) (e : Event) → Dec (p ≡ n) → p < suc n → next_below m at words p ≡ None → next_of m at words p ≡ Some e → (p < n → next_below m at words n ≡ Some e) → next_below m at words (suc n) ≡ Some e
   found_at n p e (yes same) low none is before =
       ap (λ o. first_of_two o (next_of m at words n)) (subst (λ k. next_below m at words k ≡ None) same none) ∙ ap (next_of m at words) (sym same) ∙ is

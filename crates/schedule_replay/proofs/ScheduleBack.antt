@@ -13,7 +13,7 @@ use Rattle.schedule_replay.specs.Reading.{events_from, read_on, schedule_of}
 use Rattle.schedule_replay.proofs.EventsBack.{line_back}
 use Rattle.schedule_replay.proofs.Walk.{line_then, of_length}
 
--- the line of an event, and the lines that are read after it
+-- The line of an event is read as the event, and the reading continues with the lines after it.
 one_line : (spec : Parts) (k : ℕ) (so_far : List Event) (event : Event) (rest : List ℕ) → IsSpec spec → HasEvent spec event
     → events_from spec k so_far (pieces_of 10 (event_line spec event ++ rest)) ≡ events_from spec (k + 1) (so_far ++ event ∷ []) (pieces_of 10 rest)
 one_line spec k so_far event rest sound has =

@@ -19,7 +19,7 @@ use Rattle.schedule_replay.specs.Turns.{ending, steps_by}
 other_false : (a b : ℕ) → a ≢ b → nat_eq a b ≡ false
 other_false a b h = grind (arith, nat_tests, h)
 
--- an event of processor p moves neither the kernel nor any other processor
+-- An event of processor `p` moves neither the kernel nor any other processor.
 record IsOf (p : ℕ) (e : Event) : Type 0 where
   actor : (q : ℕ) → is_actor e q ≡ nat_eq q p
   asks : (m : Flight) (at : Places) (words : Word → ℕ) → next_of_actor m at words e ≡ next_of m at words p
@@ -51,7 +51,7 @@ joined m s (e ∷ es) t fs u i j = (i.0, joined m (happened m s e) es t fs u i.1
 pub kept_after : (m : Flight) (s : Machine) (e : Event) → Flies m → Kept m s.at s.words → IsNext m s.at s.words e → Kept m (happened m s e).at (happened m s e).words
 kept_after m s e y kept next = keeps m s.at s.words (happened m s e).at (happened m s e).words y kept e next (happens_so m s e)
 
--- processor p is at a place, and all others are where they were
+-- Processor `p` is at the given place, and all other actors are at the same places as before.
 pub record Came (m : Flight) (p : ℕ) (s t : Machine) (place : Place) : Type 0 where
   pub kept : Kept m t.at t.words
   pub frame : t.at.frame ≡ s.at.frame
@@ -64,7 +64,7 @@ pub record Leads (m : Flight) (s : Machine) (es : List Event) (p : ℕ) (place :
   pub schedule : IsSchedule m s es state
   pub came : Came m p s state place
 
--- the last step of a frame ends at this place
+-- The place at which the last step of a frame ends.
 abbrev pub ended_at : ℕ → Option ℕ → Place
 ended_at f None = At (suc f) 0
 ended_at f (Some s) = Halted f
@@ -104,7 +104,7 @@ module _ (m : Flight) (y : Flies m) (p : ℕ) (low : p < m.procs) where
   asked : (s : Machine) (place : Place) → s.at.proc p ≡ place → next_of m s.at s.words p ≡ next_from m p (s.words ReleaseWord) place
   asked s place here = rw (lt-ltb p m.procs low, here) refl
 
-  -- this number of events of one kind from step suc n of frame f on
+  -- A number of events of one kind, from step `suc n` of frame `f` on, lead to the step after them.
   many : (f n : ℕ) (value : ℕ → Event) (count : ℕ) (s : Machine) → Kept m s.at s.words → s.at.proc p ≡ At f (suc n) → ((k : ℕ) → IsOf p (value k))
       → ((k : ℕ) → k < count → plan m p f (suc (n + k)) ≡ Some (value k)) → ((k g j : ℕ) → moved m (value k) p (At g j) ≡ At g (suc j))
       → Leads m s (listed_below value count) p (At f (suc (n + count)))
@@ -161,7 +161,7 @@ module _ (m : Flight) (y : Flies m) (p : ℕ) (low : p < m.procs) where
       as_planned f (suc (m.procs + i)) (Store (proc_id p) i) (λ st is bad. let before = stores_before (m.halt p f) st is in omega (arith, bad, below, before)) (store_step i (suc (m.procs + i)) (omega arith) (omega (arith, below, few))))
       (λ k g j. refl)
 
-  -- one event of a frame that has begun
+  -- An event of a frame that has begun leads to the processor's next place.
   by_plan : (s : Machine) (f n : ℕ) (e : Event) (place : Place) → Kept m s.at s.words → s.at.proc p ≡ At f (suc n) → IsOf p e → plan m p f (suc n) ≡ Some e → moved m e p (At f (suc n)) ≡ place → Leads m s (e ∷ []) p place
   by_plan s f n e place kept here is next goes = one s e place kept is (asked s (At f (suc n)) here ∙ next) (ap (moved m e p) here ∙ goes)
 
@@ -201,7 +201,7 @@ module _ (m : Flight) (y : Flies m) (p : ℕ) (low : p < m.procs) where
   ends s f None is kept here = ends_done s f is kept here
   ends s f (Some st) is kept here = ends_by s f st (nat_lt m.width st) refl is kept here
 
-  -- the steps of a frame after the start
+  -- The steps of a frame, including the start, lead a processor to the end of the frame.
   pub steps_lead : (s : Machine) (f : ℕ) → Kept m s.at s.words → next_of m s.at s.words p ≡ Some (Start (proc_id p)) → moved m (Start (proc_id p)) p (s.at.proc p) ≡ At f 1
       → Leads m s (steps_by m p (m.halt p f)) p (ended_at f (m.halt p f))
   steps_lead s f kept next goes =

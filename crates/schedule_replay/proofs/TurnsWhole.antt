@@ -20,7 +20,7 @@ use Rattle.fail_stop.specs.ScriptFlights.{flight_of}
 use Rattle.schedule_replay.specs.Turns.{LeadsToTheEnd, TurnsLeadToTheEnd, frames_in_turns, releasing, turn_of_proc, turn_of_kernel, turns_of_procs}
 use Rattle.schedule_replay.proofs.TurnsLead.{Leads, ended_at, joined, kept_after, steps_lead}
 
--- a restart between two frames
+-- There is a restart after frame `h` and no later than frame `f`.
 record Back (o : Option ℕ) (h f : ℕ) : Type 0 where
   r : ℕ
   is : o ≡ Some r
@@ -35,7 +35,7 @@ not_at_once : (o : Option ℕ) (f : ℕ) → back_by o f f ≡ false
 not_at_once None f = refl
 not_at_once (Some r) f = grind (arith, nat_tests)
 
--- the processors whose turn in frame f is to come, and those whose turn has been
+-- The turn of a processor in frame `f` is still to come.
 abbrev Waits : ℕ → Place → Type 0
 Waits f (At g n) = (g ≡ f) × (n ≡ 0)
 Waits f (Halted h) = h < f
@@ -53,7 +53,7 @@ ended_went m p f None = (refl, refl)
 ended_went m p f (Some s) = (omega arith, not_at_once (m.restart p) f)
 
 module _ (m : Flight) (y : Flies m) where
-  -- the first step of a turn_of_proc
+  -- The first step of the turn of processor `p` in frame `f` is next.
   record Starts (s : Machine) (p f : ℕ) : Type 0 where
     next : next_of m s.at s.words p ≡ Some (Start (proc_id p))
     goes : moved m (Start (proc_id p)) p (s.at.proc p) ≡ At f 1
@@ -94,7 +94,7 @@ module _ (m : Flight) (y : Flies m) where
             goes = ap (moved m (Start (proc_id p)) p) here ∙ (rw b.is (ap (λ (k : ℕ). At k 1) same));
           }
 
-  -- a processor that is down stays where it is
+  -- A processor that is down does not move in its turn.
   down_went : (s : Machine) (p f : ℕ) (place : Place) → s.at.frame ≡ f → m.up p f ≡ false → IsPlaced m s.at.frame s.at.step p place → Waits f place → Went m p f place
   down_went s p f (At g n) frame down is w = absurd (let same : m.up p f ≡ true = subst (λ (k : ℕ). m.up p k ≡ true) w.0 is.up in let bad : true ≡ false = sym same ∙ down in cc)
   down_went s p f (Halted h) frame down is w = (omega (arith, w), not_back (back_by (m.restart p) h f) refl)
@@ -128,7 +128,7 @@ module _ (m : Flight) (y : Flies m) where
     went = down_went s p f (s.at.proc p) frame down (kept.placed p low) w;
   }
 
-  -- at the begin of frame f
+  -- The machine is at the begin of frame `f`.
   record Begun (s : Machine) (f : ℕ) : Type 0 where
     kept : Kept m s.at s.words
     frame : s.at.frame ≡ f
@@ -164,7 +164,7 @@ module _ (m : Flight) (y : Flies m) where
       went_by r t p below (yes same) = subst (λ (k : ℕ). Went m k f (t.leads.state.at.proc k)) (sym same) (subst (Went m n f) (sym t.leads.came.here) t.went)
       went_by r t p below (no apart) = subst (Went m p f) (sym (t.leads.came.others p apart)) (r.went p (omega (arith, below, apart)))
 
-  -- the kernel
+  -- Lemmas on the turn of the kernel.
   noted_end : (s : Machine) (p : ℕ) (place : Place) → Kept m s.at s.words → p < m.procs → s.at.proc p ≡ place → IsPlaced m s.at.frame s.at.step p place → Went m p s.at.frame place → may_note m p s.at.frame (s.words (EndWord p)) ≡ true
   noted_end s p (At g n) kept low here is w =
       let past = w.0 in
@@ -180,7 +180,7 @@ module _ (m : Flight) (y : Flies m) where
       or_true true = refl
       or_true false = refl
 
-  -- the kernel has made some steps, and the processors are where they were
+  -- The kernel has made `j` steps of frame `f`, and the processors are at the same places as before.
   record Kernel (s : Machine) (es : List Event) (f j : ℕ) : Type 0 where
     state : Machine
     schedule : IsSchedule m s es state
@@ -236,7 +236,7 @@ module _ (m : Flight) (y : Flies m) where
         procs = k.procs;
       }
 
-  -- the release begins the next frame
+  -- The events lead to the begin of the next frame.
   record Next (s : Machine) (es : List Event) (f : ℕ) : Type 0 where
     state : Machine
     schedule : IsSchedule m s es state
@@ -266,7 +266,7 @@ module _ (m : Flight) (y : Flies m) where
   moved_went : (s t : Machine) (f : ℕ) → ((p : ℕ) → t.at.proc p ≡ s.at.proc p) → ((p : ℕ) → p < m.procs → Went m p f (s.at.proc p)) → (p : ℕ) → p < m.procs → Went m p f (t.at.proc p)
   moved_went s t f same went p low = subst (Went m p f) (sym (same p)) (went p low)
 
-  -- a frame of the round-robin schedule, which is not the last one
+  -- The turns of a frame that is not the last lead to the begin of the next frame.
   frame_leads : (s : Machine) (f : ℕ) → suc f < m.frames → Begun s f → Next s (turns_of_procs m f m.procs ++ turn_of_kernel m f) (suc f)
   frame_leads s f flying b =
       let r = round s f m.procs (omega (arith, flying)) b (omega arith) in
@@ -297,7 +297,7 @@ module _ (m : Flight) (y : Flies m) where
         begun = x.begun;
       }
 
-  -- the end
+  -- Lemmas on the end of the schedule.
   went_done : ((p r : ℕ) → m.restart p ≡ Some r → r < m.frames) → (p f : ℕ) (place : Place) → suc f ≡ m.frames → Went m p f place → IsDone m p place
   went_done bound p f (At g n) last w = w.0 ∙ last
   went_done bound p f (Halted h) last w = λ r is. not_late r is (dec_le r h)

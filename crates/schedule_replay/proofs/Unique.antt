@@ -21,7 +21,7 @@ use Rattle.schedule_replay.specs.Laws.{OneAnswer}
 use Rattle.schedule_replay.specs.Replaying.{AnswersReplay, IsIllegal, IsShort, IsWholeSchedule, first_next, next_below}
 
 module _ (m : Flight) where
-  -- one state for one list
+  -- A list of events that is a schedule leads to only one state.
   one_state : (s : Machine) (es : List Event) (t u : Machine) → IsSchedule m s es t → IsSchedule m s es u → t ≡ u
   one_state s [] t u i j = i ∙ sym j
   one_state s (e ∷ es) t u i j = one_state (happened m s e) es t u i.1 j.1
@@ -39,7 +39,7 @@ module _ (m : Flight) where
       let more = next_in (happened m s e) es t index event i.1 h in
       record { there = more.there; schedule = (i.0, more.schedule); next = more.next }
 
-  -- no event of a schedule is out of turn
+  -- In a schedule no event is out of turn.
   in_turn : (list : List Event) (at : Places) (words : Word → ℕ) (index : ℕ) (given : Event) (told : Option Event) → IsReplay m list at words → IsIllegal m list index given told → ⊥
   in_turn list at words index given told r j =
       let n = next_in (opening m) list r.state index given r.schedule j.there in
@@ -60,7 +60,7 @@ module _ (m : Flight) where
       by_actor (KStore x) is = is
       by_actor Release is = is
 
-  -- two replays of one list
+  -- Two replays of one list lead to the same places and the same words.
   record Agrees (at : Places) (words : Word → ℕ) (at2 : Places) (words2 : Word → ℕ) : Type 0 where
     places : at ≡ at2
     words_are : (w : Word) → IsStored m w → words w ≡ words2 w
@@ -98,7 +98,7 @@ module _ (m : Flight) where
   moved_actor : (at : Places) (words : Word → ℕ) (at2 : Places) (words2 : Word → ℕ) (e : Event) → Agrees at words at2 words2 → next_of_actor m at words e ≡ next_of_actor m at2 words2 e
   moved_actor at words at2 words2 e a = actor_same at words words2 a.words_are e ∙ ap (λ (p : Places). next_of_actor m p words2 e) a.places
 
-  -- two answers
+  -- Lemmas on two answers to one list.
 
   not_both : (list : List Event) → IsWholeSchedule m list → (events : ℕ) (next : Event) → IsShort m list events next → ⊥
   not_both list w events next s = let a = agree list w.at w.words s.at s.words w.replay s.replay in s.going (subst (λ (p : Places). IsOver m p) a.places w.over)

@@ -9,7 +9,7 @@ use Rattle.schedule_replay.specs.declared.limits.TheConstants.{MAX_SCHEDULE_BYTE
 use Rattle.schedule_replay.specs.declared.schedule_reading.ScheduleFault.{ScheduleFault}
 use Rattle.schedule_replay.specs.Reading.{events_from, event_read, schedule_fault, read_on, schedule_of}
 
--- a line that is not the last
+-- A line that is not the last is read, and the reading continues with the next one.
 pub line_then : (spec : Parts) (k : ℕ) (so_far : List Event) (line : List ℕ) (lines : List (List ℕ)) → 0 < length lines →
     events_from spec k so_far (line ∷ lines) ≡ read_on k (event_read spec line) (λ (event : Event). events_from spec (k + 1) (so_far ++ event ∷ []) lines)
 line_then spec k so_far line [] h = absurd (omega arith)
@@ -24,7 +24,7 @@ step : (spec : Parts) (k : ℕ) (so_far : List Event) (text rest behind : List �
 step spec k so_far text rest behind read split here =
     sym (line_then spec k so_far text (pieces_of 10 behind) (some_piece 10 behind)) ∙ ap (events_from spec k so_far) (sym split) ∙ here
 
--- the reading continues after a line that is read
+-- If a line is read as an event, then the reading continues after it.
 pub taken : (spec : Parts) (k : ℕ) (so_far : List Event) (text rest behind : List ℕ) (event : Event) (read : Result (List Event) ScheduleFault) → pieces_of 10 rest ≡ text ∷ pieces_of 10 behind
     → event_read spec text ≡ Ok event → events_from spec k so_far (pieces_of 10 rest) ≡ read
     → events_from spec (k + 1) (so_far ++ event ∷ []) (pieces_of 10 behind) ≡ read
@@ -32,7 +32,7 @@ taken spec k so_far text rest behind event read split told here =
     ap (λ (r : Result Event ℕ). read_on k r (λ (e : Event). events_from spec (k + 1) (so_far ++ e ∷ []) (pieces_of 10 behind))) (sym told)
     ∙ step spec k so_far text rest behind read split here
 
--- a line that breaks a rule ends it
+-- If a line breaks a rule, then the reading ends with that rule.
 pub refused : (spec : Parts) (k : ℕ) (so_far : List Event) (text rest behind bytes : List ℕ) (rule : ℕ) → pieces_of 10 rest ≡ text ∷ pieces_of 10 behind
     → event_read spec text ≡ Err rule → length bytes ≤ MAX_SCHEDULE_BYTES → events_from spec k so_far (pieces_of 10 rest) ≡ events_from spec 1 [] (pieces_of 10 bytes)
     → schedule_of spec bytes ≡ Err (schedule_fault k rule)

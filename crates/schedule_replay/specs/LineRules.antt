@@ -17,7 +17,7 @@ use Rattle.schedule_replay.specs.Verbs.{word_count}
 abbrev pub has_words : List (List ℕ) → Verb → Bool
 has_words words verb = list_all is_filled words && (length words == word_count verb)
 
--- The kind of event whose form the words of a line have, or none if they have no form.
+-- The kind of event whose form the words of a line have, or `None` if they have no form.
 abbrev pub event_form : List ℕ → Option Verb
 event_form line = option_and_then (λ (verb : Verb). if has_words (words_of line) verb then Some verb else None) (verb_of line)
 

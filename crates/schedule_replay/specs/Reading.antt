@@ -25,24 +25,26 @@ use Rattle.schedule_replay.specs.Verbs.{verb_named, word_count}
 abbrev pub is_legible : List ℕ → Bool
 is_legible line = nat_le (length line) MAX_EVENT_BYTES && list_all is_printable line
 
--- The kind of event that the first word of a line names, or none. A line without a kind breaks rule 2.
+-- The kind of event that the first word of a line names, or `None` if it names none. A line without a kind breaks
+-- rule 2.
 abbrev pub verb_of : List ℕ → Option Verb
 verb_of line = verb_named (word_at (words_of line) 0)
 
--- The words of a line if their number is that of an event of the kind, or none.
+-- The words of a line if their number is that of an event of the kind, or `None` if it is not.
 abbrev pub words_counted : Verb → List (List ℕ) → Option (List (List ℕ))
 words_counted verb words = if length words == word_count verb then Some words else None
 
--- The words of a line for an event of a kind. If a word is empty or their number is not that of the kind, there are
--- none, and the line breaks rule 3.
+-- The words of a line for an event of a kind, or `None` if a word is empty or their number is not that of the kind.
+-- In the latter case the line breaks rule 3.
 abbrev pub words_for : Verb → List ℕ → Option (List (List ℕ))
 words_for verb line = option_and_then (words_counted verb) (words_in line)
 
--- The processor that the second word names, or none.
+-- The processor that the second word names, or `None` if it names none.
 abbrev pub proc_in : Parts → List (List ℕ) → Option ProcId
 proc_in spec words = proc_named spec (word_at words 1)
 
--- The event of a kind that the words of a line encode, or none. A line without an event breaks rule 4.
+-- The event of a kind that the words of a line encode, or `None` if they encode none. A line without an event breaks
+-- rule 4.
 abbrev pub event_told : Parts → Verb → List (List ℕ) → Option Event
 event_told spec Start words = option_map event.Start (proc_in spec words)
 event_told spec Look words =

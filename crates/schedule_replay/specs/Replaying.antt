@@ -13,12 +13,12 @@ use Rattle.scram_types.specs.declared.rows.Flown.{Flown}
 use Rattle.schedule_replay.specs.declared.replays.ReplayError.{ReplayError}
 use Rattle.schedule_replay.specs.declared.replays.ReplayError.TheVariants as error
 
--- The first of two optional events if there is one, or the second.
+-- The first of two optional events if it is present, or else the second.
 abbrev pub first_of_two : Option Event → Option Event → Option Event
 first_of_two (Some event) other = Some event
 first_of_two None other = other
 
--- The next event of the first processor below `n` that has one, or none.
+-- The next event of the first processor below `n` that has one, or `None` if none of them has one.
 abbrev pub next_below : Flight → Places → (Word → ℕ) → ℕ → Option Event
 next_below m at words zero = None
 next_below m at words (suc n) = first_of_two (next_below m at words n) (next_of m at words n)

@@ -26,7 +26,7 @@ steps_by m p halt =
     Start (proc_id p) ∷ (listed_below (λ (q : ℕ). Look (proc_id p) (proc_id q)) m.procs
     ++ (listed_below (λ (i : ℕ). Store (proc_id p) i) (stores_by m.width halt) ++ ending m p halt))
 
--- All steps of processor `p` in frame `f`, or none if the processor is down.
+-- All steps of processor `p` in frame `f`, or the empty list if the processor is down.
 abbrev pub turn_of_proc : Flight → ℕ → ℕ → List Event
 turn_of_proc m p f = if m.up p f then steps_by m p (m.halt p f) else []
 
@@ -35,7 +35,7 @@ abbrev pub turns_of_procs : Flight → ℕ → ℕ → List Event
 turns_of_procs m f zero = []
 turns_of_procs m f (suc n) = turns_of_procs m f n ++ turn_of_proc m n f
 
--- The steps of the kernel in frame `f` after its notes, or none if the frame is the last.
+-- The steps of the kernel in frame `f` after its notes, or the empty list if the frame is the last.
 abbrev pub releasing : Flight → ℕ → List Event
 releasing m f = if nat_lt (suc f) m.frames then listed_below KStore 20 ++ Release ∷ [] else []
 

@@ -9,25 +9,27 @@ ghost use Rattle.schedule_replay.specs.Turns.{TurnsLeadToTheEnd};
 use event_core::Core;
 use scram_types::Spec;
 
-/// If a script fits its specification, its round-robin sequence is a schedule, at whose end the flight is over.
+/// States that the round-robin sequence of a script that fits its specification is a schedule at whose end the flight
+/// is over.
 pub fn turns_lead_to_the_end()
     ensures { TurnsLeadToTheEnd }
 {}
 
-/// A line that breaks no rule is read. For any other line, the rule with the lowest number that it breaks is reported.
-/// Each rule is stated on its own, without an order of tests.
+/// States that a line that breaks no rule is read, and that for any other line the rule with the lowest number that
+/// it breaks is reported. Each rule is stated on its own, without an order of tests.
 pub fn least_rule_is_reported()
     ensures { LeastEventRuleIsReported }
 {}
 
-/// Apart from out of memory, a list of events has one answer. If the list is a whole schedule, the answer is the trace.
-/// Otherwise it is the first event that is not the next of its actor, or the event that would come next if the list
-/// ends too early.
+/// States that, apart from out of memory, a list of events has one answer. If the list is a whole schedule, the
+/// answer is the trace. Otherwise it is the first event that is not the next of its actor, or the event that would
+/// come next if the list ends too early.
 pub fn a_list_has_one_answer()
     ensures { OneAnswer }
 {}
 
-/// The specification of a core has each event of the core's history, so the history can be written as text.
+/// States that the specification of a core has each event of the core's history, so that the history can be written
+/// as text.
 pub fn history_is_known(core: &Core, spec: &Spec)
     requires { core.now.spec ≡ spec.now }
     ensures { HasEvents spec.now core.now.history }

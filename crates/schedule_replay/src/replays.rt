@@ -36,7 +36,7 @@ pub enum ReplayError {
         events: u32,
         next: Event,
     },
-    /// Out of memory.
+    /// Memory has run out.
     NoMemory,
 }
 
@@ -53,8 +53,8 @@ impl From<NoMemory> for ReplayError {
 ///
 /// # Errors
 ///
-/// Returns the first event that is not the next of its actor, or the event that would come next if the list ends before
-/// the flight is over. Out of memory is an error too.
+/// Returns an error with the first event that is not the next of its actor, or with the event that would come next if
+/// the list ends before the flight is over, and `NoMemory` if memory runs out.
 pub fn replay(
     alloc: Global,
     spec: &Spec,

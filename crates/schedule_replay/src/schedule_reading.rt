@@ -29,8 +29,12 @@ pub enum ScheduleError {
     NoMemory,
 }
 
-/// Returns the events that the lines encode, in order. The specification has each of them. The error is the first line
-/// that breaks a rule and the first rule that it breaks, or out of memory.
+/// Returns the events that the lines encode, in order. The specification has each of them.
+///
+/// # Errors
+///
+/// Returns an error with the first line that breaks a rule and the first rule that it breaks, and `NoMemory` if memory
+/// runs out.
 pub fn read_schedule(alloc: Global, bytes: &[u8], spec: &Spec) -> Result<Vec<Event>, ScheduleError>
     ensures read { AnswersSchedule (schedule_of spec.now bytes.now) result }
     ensures known { IfOk result (λ list. HasEvents spec.now list.items) }

@@ -16,7 +16,7 @@ use std::alloc::Global;
 ///
 /// # Errors
 ///
-/// Out of memory.
+/// Returns an error if memory runs out.
 pub fn write_schedule(alloc: Global, events: &[Event], spec: &Spec) -> Result<Vec<u8>, NoMemory>
     requires { HasEvents spec.now events.now }
     ensures text { IfOk result (λ text. text.items ≡ schedule_text spec.now events.now) }

@@ -22,7 +22,7 @@ use std::alloc::Global;
 ///
 /// # Errors
 ///
-/// Out of memory.
+/// Returns an error if memory runs out.
 pub fn in_turns(alloc: Global, spec: &Spec, script: &Script) -> Result<Vec<Event>, NoMemory>
     ensures turns { IfOk result (λ list. list.items ≡ in_turns spec.now script.now) }
     ensures known { IfOk result (λ list. HasEvents spec.now list.items) }

@@ -34,13 +34,13 @@ use Rattle.trace_props.proofs.Tests.{by_test}
 use Rattle.trace_props.proofs.Builds.{all_at}
 use Rattle.trace_props.proofs.Products.{has_value, is_env, plan_of, settles_under}
 
--- the target of a rule exists
+-- If each rule's target exists, then so does the target that is chosen among the rules.
 target_known : (n : ℕ) (c : ConfId) (v : Env) (rules : List Choice) → ((k : ℕ) (rule : Choice) → slice_get rules k ≡ Some rule → rule.to.0 < n) → c.0 < n → (target_among rules c v).0 < n
 target_known n c v [] to known = known
 target_known n c v (rule ∷ rules) to known =
     by_test (λ (t : ConfId). t.0 < n) (rule_fits c v rule) _ _ (λ e. to 0 rule refl) (λ e. target_known n c v rules (λ k other there. to (suc k) other there) known)
 
--- a fact of each bound is one of the bound that is given
+-- If a property holds for the frames of each bound in a list, then it holds for the bound that the list gives.
 pub bound_each : (P : ℕ → Type 0) (i j t : ℕ) (bounds : List Bound) → ((k : ℕ) (bound : Bound) → slice_get bounds k ≡ Some bound → P bound.frames) → bound_in bounds i j ≡ Some t → P t
 bound_each P i j t [] each is = cc
 bound_each P i j t (bound ∷ bounds) each is =
@@ -52,7 +52,7 @@ pub further_same : (policy : Policy) (n : ℕ) → (if settles_under policy then
 further_same Retarget n = refl
 further_same Settle n = refl
 
--- if not every number fails a test, one passes
+-- If not every number below `n` fails a test, then some number below `n` passes it.
 pub some_passes : (test : ℕ → Bool) (n : ℕ) → all_below (λ a. not (test a)) n ≡ false → (a : ℕ) × (a < n) × (test a ≡ true)
 some_passes test n h = let found = fails_below (λ a. not (test a)) n h in (found.0, found.1, not-false (test found.0) found.2)
 
@@ -63,7 +63,7 @@ on_placed (Some p) h = (p, refl)
 pub placed : (spec : Parts) (c : ConfId) (a : ℕ) → is_on spec c a ≡ true → (p : Place) × (place_of spec c a ≡ Some p)
 placed spec c a h = on_placed (place_of spec c a) h
 
--- if an application has a place, the configuration and the application exist
+-- If an application has a place in a configuration, then the configuration and the application exist.
 pub record IsThere (spec : Parts) (c : ConfId) (a : ℕ) (p : Place) : Type 0 where
   pub conf : Conf
   pub there : slice_get spec.confs c.0 ≡ Some conf
@@ -85,7 +85,7 @@ app_known spec sound c a p h =
     let at = (sound.confs c.0 t.conf t.there).places a p t.place in
     slice_get_within spec.apps a at.app at.there
 
--- the test that an environment belongs decides whether it belongs
+-- The test that an environment belongs to the specification decides whether it belongs.
 value_of : (spec : Parts) (v : Env) (x : ℕ) (o : Option Factor) → slice_get spec.factors x ≡ o → has_value spec v x ≡ true → nat_lt (factor_in v x) (option_map_or (λ (factor : Factor). length factor.values) o 1) ≡ true
 value_of spec v x o e h = rw e at h
 
@@ -125,7 +125,7 @@ not_not : (b : Bool) → not b ≡ false → b ≡ true
 not_not true h = refl
 not_not false h = absurd (true_false true refl h)
 
--- something is on, in each configuration
+-- In each configuration of an accepted specification some application is on.
 pub some_on : (spec : Parts) → Accepts spec → (c : ℕ) → c < length spec.confs → (a : ℕ) × (a < 8) × (is_on spec (conf_id c) a ≡ true)
 some_on spec accepts c known = some_passes (is_on spec (conf_id c)) 8 (accepts.shaped (conf_id c) known).something_on
 

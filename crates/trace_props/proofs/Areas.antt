@@ -15,7 +15,8 @@ use Rattle.trace_props.proofs.Deadlines.{Deadlines}
 use Rattle.trace_props.proofs.Coupling.{LeavingIn, Coupled, coupled, by_arrival}
 use Rattle.trace_props.proofs.Builds.{all_at, place_same, flown}
 
--- an area is within the ranges of the act that wrote it last
+-- If an area lies in the ranges of its last writer, and an act fills it, then the new area lies in the ranges of the
+-- writer after the act.
 lies_after : (laws : AreaLaws) (a : ℕ) (act : CourseAct) (w : Written) (old new : CourseArea) → laws.lies a w old ≡ true → IsAreaFilled laws a act old new → laws.lies a (written_after act w) new ≡ true
 lies_after laws a (Ran p) w old new h filled = filled
 lies_after laws a (Halted k n p) w old new h filled = filled
@@ -25,7 +26,8 @@ lies_after laws a (Initialised k n p) w old new h filled = filled.0
 lies_after laws a WasOff w old new h filled = filled
 lies_after laws a Lost w old new h filled = rw filled h
 
--- in a running configuration an application was run or initialised at its place, or is off
+-- An area whose application has a place was written by a run or an initialisation there. An area without a place was
+-- cleared.
 abbrev pub OwnAt : Option Place → Written → Type 0
 OwnAt None w = w ≡ Zeros
 OwnAt (Some p) w = (w ≡ DidRun p) ⊎ (w ≡ DidInit p)
@@ -34,7 +36,7 @@ own_opening : (o : Option Place) → OwnAt o (opening_written o)
 own_opening None = refl
 own_opening (Some p) = inr refl
 
--- an act that fits a place
+-- If an act fits an optional place, then the area after the act was written there, or cleared if there is no place.
 own_after : (o : Option Place) (act : CourseAct) (w : Written) → course_fits_place o act ≡ true → OwnAt o (written_after act w)
 own_after None (Ran q) w h = absurd (true_false false h refl)
 own_after None (Halted k n q) w h = absurd (true_false false h refl)
@@ -55,7 +57,8 @@ own_listed : (plan : Plan) (build : Build) (i a : ℕ) (w : Written) (o : Option
 own_listed plan build i a w None e own = rw own (inl e)
 own_listed plan build i a w (Some p) e own = elim own [ inl k ↦ rw k (inl e) | inr k ↦ rw k (inl e) ]
 
--- the phases in which a reconfiguration from i can be
+-- Each configuration of the phase is `i` or a target of `i`, and a phase that prepares or initialises is for a target
+-- of `i`.
 abbrev pub FromIn : Plan → ℕ → CoursePhase → Type 0
 FromIn plan i (Running c) = (c ≡ i) ⊎ IsPlanTarget plan i c
 FromIn plan i (Halting c age) = (c ≡ i) ⊎ IsPlanTarget plan i c
@@ -104,7 +107,7 @@ abbrev pub source_of : CourseReading → ℕ
 source_of (Steady c) = c
 source_of (Leaving c s) = c
 
--- a reading that has left c since s: it was steady in c before row s, and leaving since
+-- A reading that has left `c` since row `s`: its source is `c` in each frame from `s` to `e`.
 pub record SinceLeft (plan : Plan) (course : Course) (e c s : ℕ) : Type 0 where
   pub before : s < e
   pub sources : (g : ℕ) → s ≤ g → g ≤ e → source_of (course_reading_before plan course g) ≡ c
@@ -178,7 +181,7 @@ module _ (plan : Plan) (build : Build) (course : Course) (commits : ℕ → ℕ 
   known_in f (Leaving c s) (Stable k) h = absurd h.moves
   known_in f (Leaving c s) (Moving from halting to since) h = rw h.moves.0 at h.moves.1.from_in
 
-  -- the writer of an area is listed for the configuration that is left, or may be left
+  -- The writer of each area is listed for the reading's source.
   listed_before : (f : ℕ) (rd : CourseReading) → WrittenAs f rd → (a : ℕ) → a < build.apps → IsListed plan build (source_of rd) a (written f a)
   listed_before f (Steady c) h a known = own_listed plan build c a (written f a) (build.place c a) refl (h a known)
   listed_before f (Leaving c s) h a known = h a known
@@ -206,7 +209,7 @@ module _ (plan : Plan) (build : Build) (course : Course) (commits : ℕ → ℕ 
   written_as zero inside = λ a known. own_opening (build.place plan.start a)
   written_as (suc f) inside = written_step f (course_reading_before plan course f) (course_mode_at plan course f) inside (coupled plan course accepted within is_flown f (omega arith)) (is_flown f inside) refl (written_as f (omega arith))
 
-  -- an invariant holds after each row from the begin on
+  -- If a reading has left `c` since row `s`, then an invariant for `c` holds after each row from `s` on.
   kept_in_row : (e c s : ℕ) (inv : CourseInvariant) (g : ℕ) → e ≤ course.frames → course_reading_before plan course e ≡ Leaving c s → HoldsListedRanges plan build laws inv → SpeaksOfSource inv.source c → s ≤ g → g ≤ e → g < course.frames → inv.holds (area (suc g) inv.app) ≡ true
   kept_in_row e c s inv g inside is kept speaks from to row =
       let same = (since_left plan course e c s is).sources g from to in
@@ -214,7 +217,7 @@ module _ (plan : Plan) (build : Build) (course : Course) (commits : ℕ → ℕ 
       let listed = rw same at (row_listed g (course_reading_before plan course g) (course_mode_at plan course g) (omega arith) h refl (written_as g (omega arith)) inv.app kept.app_in) in
       kept.holds_listed c (written (suc g) inv.app) (area (suc g) inv.app) (rw same at (known_in g (course_reading_before plan course g) (course_mode_at plan course g) h)) speaks listed (lies_at (suc g) inv.app row kept.app_in)
 
-  -- the phase that is k frames into the initialisation
+  -- The phase that is `preparing + k` frames after the halting phase is frame `k` of the initialisation.
   in_init_after : (to late k : ℕ) → late ≡ plan.preparing to + k → k < plan.initialising to → course_after_halting plan to late ≡ Initialising to k
   in_init_after to late k is inside =
       by_test (λ x. x ≡ Initialising to k) (nat_lt late (plan.preparing to)) _ _ (λ e. let h = below late (plan.preparing to) e in absurd (omega arith))
@@ -239,7 +242,7 @@ module _ (plan : Plan) (build : Build) (course : Course) (commits : ℕ → ℕ 
       (λ e. by_test (λ x. x ≡ Hold p) (nat_lt (k - offset) n) _ _ (λ e. let h = below (k - offset) n e in absurd (omega arith)) (λ e. refl))
 
   module _ (first f from : ℕ) (halting : Option ℕ) (to since : ℕ) (inside : f ≤ course.frames) (d : Deadlines plan course first f from halting to since) where
-    -- the order of an application k frames into the initialisation, and that it is committed
+    -- In frame `k` of the initialisation each act carries out the application's order for that frame.
     act_in_init : (g k a : ℕ) → g ≡ since + plan_halting plan halting + plan.preparing to + k → k < plan.initialising to → g < f → acts g a ≡ course_act_of (commits g) (course_initialising_order (build.init_offset to a) (build.init_time to a) k (build.place to a))
     act_in_init g k a is below early =
         let w = d.whole g (omega arith) early in
@@ -285,7 +288,7 @@ module _ (plan : Plan) (build : Build) (course : Course) (commits : ℕ → ℕ 
         let was : acts g a ≡ WasOff = act ∙ (rw off refl) in
         rw next at (rw was at (filled.writes g a (omega arith) known))
 
--- facts on the reading, and on the row in which a reported reconfiguration ends
+-- Facts on the reading, and on the row in which a reported reconfiguration ends.
 pub record Reported (course : Course) (f : ℕ) (rd : CourseReading) (r : CourseReport) : Type 0 where
   pub reading : rd ≡ Leaving r.from r.begin
   pub row : course.running f ≡ Some r.to

@@ -29,7 +29,7 @@ use Rattle.trace_props.proofs.Differing.{same_id}
 use Rattle.trace_props.proofs.Ranging.{lies_is, lies_of}
 use Rattle.trace_props.proofs.TargetsJudged.{in_span, up_to_end}
 
--- SP4: numbers within their interval
+-- Lemmas on SP4 and numbers within their interval.
 outside_of : (low high x : ℤ) → not (lies_in low high x) ≡ true → Between (low, high) x → ⊥
 outside_of low high x h between = true_false (lies_in low high x) (lies_is low high x between) (not-true (lies_in low high x) h)
 
@@ -43,7 +43,7 @@ inside_of low high x h = by_bool (lies_in low high x)
     (λ inside. lies_of low high x inside)
     (λ beyond. absurd (h (not_from_false (lies_in low high x) beyond)))
 
--- a row in which an invariant is broken
+-- Row `f` of the reconfiguration breaks an invariant that is for its source.
 record BreaksBy (rows : List Row) (r : Report) (inv : Invariant) (f : ℕ) : Type 0 where
   speaks : has_source inv.from r.from ≡ true
   from : r.begin ≤ f
@@ -72,7 +72,7 @@ module _ (rows : List Row) (r : Report) (inv : Invariant) where
       (least_from (breaks_at rows inv) r.begin (r.end + 1 - r.begin)) (least_span (breaks_at rows inv) r.begin (r.end + 1 - r.begin)))
       (λ silent g b. true_false (has_source inv.from r.from) b.speaks silent)
 
--- some invariant of a list is broken
+-- Some invariant of a list is broken in row `f`.
 record BreaksSome (rows : List Row) (r : Report) (invs : List Invariant) (f : ℕ) : Type 0 where
   place : ℕ
   inv : Invariant
@@ -108,7 +108,7 @@ module _ (rows : List Row) (r : Report) where
       (least_unkept rows r o (inv ∷ invs))
       (all_unkept (λ f. A f ⊎ BreaksBy rows r inv f) invs (lesser_frame o (unkept_from rows r inv)) (least_lesser A (BreaksBy rows r inv) o (unkept_from rows r inv) h (unkept_judged rows r inv)))
 
--- a precondition of the target is broken in the row before the end
+-- Lemmas on a precondition of the target in the row before the end.
 module _ (row : Row) (to : Option ConfId) (pre : Precondition) where
   aimed_of : (o : Option ConfId) → goes_to o pre.conf ≡ true → o ≡ Some pre.conf
   aimed_of None h = absurd (true_false false h refl)

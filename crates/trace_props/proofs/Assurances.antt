@@ -9,7 +9,7 @@ use Rattle.trace_props.proofs.Deadlines.{Deadlines, bound_of, in_bound}
 use Rattle.trace_props.proofs.Coupling.{LeavingIn, Coupled, coupled}
 
 module _ (plan : Plan) (course : Course) (accepted : IsAcceptedPlan plan) (within : IsCourseWithin plan course) where
-  -- a reconfiguration that ends in row f
+  -- A reconfiguration that ends in row `f` keeps its promises.
   arrives : (f c s j : ℕ) (m : CourseMode) → f < course.frames → LeavingIn plan course f c s m → CourseRowUnder plan course f m → course.running f ≡ Some j
       → IsCourseAssured plan course (record { from = c; to = j; begin = s; end = f })
   arrives f c s j (Stable k) inside h row some = absurd h.moves

@@ -29,7 +29,7 @@ none_there : (o : Option Place) → ((p : Place) → o ≡ Some p → ⊥) → o
 none_there None h = refl
 none_there (Some p) h = absurd (h p refl)
 
--- places that agree below the number of applications agree
+-- If two configurations have the same places for all applications, then the test of their equality returns `true`.
 same_places : (spec : Parts) → IsSpec spec → (i j : ConfId) → ((a : ℕ) → a < length spec.apps → place_of spec i a ≡ place_of spec j a) → is_same spec i j ≡ true
 same_places spec sound i j same = each_all (λ a. is_same_place (place_of spec i a) (place_of spec j a)) 8 (λ a below. at a (low_or_high a (length spec.apps)))
   where

@@ -18,7 +18,7 @@ use Rattle.trace_props.proofs.Assurances.{reconfigures}
 le_or : (a b : ℕ) → a ≤ b → (suc a ≤ b) ⊎ (a ≡ b)
 le_or a b h = grind arith
 
--- all_below and least_from, as facts
+-- Lemmas that state the results of `all_below` and `least_from` as facts.
 pub all_at : (test : ℕ → Bool) (n : ℕ) → all_below test n ≡ true → (a : ℕ) → a < n → test a ≡ true
 all_at test n h a below = all_each test n a h below
 
@@ -41,7 +41,7 @@ pub least_none : (test : ℕ → Bool) (i n : ℕ) → least_from test i n ≡ N
 least_none test i zero h j from below = absurd (omega arith)
 least_none test i (suc n) h j from below = least_none_in test i n j (test i) refl h from (λ e k. least_none test (suc i) n e j k (omega arith))
 
--- an order that is neither to run nor to be off leaves an act that fits no place
+-- An order that neither runs an application nor has it off. Its act fits no place.
 abbrev pub Idle : CourseOrder → Type 0
 Idle (Run p) = ⊥
 Idle (Halt k n p) = Unit {0}
@@ -62,7 +62,7 @@ idle_fits commits (Prepare k n p) (Some q) h = by_test (λ x. course_is_ran q x 
 idle_fits commits (Init k n p) None h = by_test (λ x. course_is_off x ≡ false) (commits p.proc.0) _ _ (λ e. refl) (λ e. refl)
 idle_fits commits (Init k n p) (Some q) h = by_test (λ x. course_is_ran q x ≡ false) (commits p.proc.0) _ _ (λ e. refl) (λ e. refl)
 
--- the order of an application that is on, in each phase but the running one
+-- In each phase but the running one, an application that is on has an idle order.
 idle_halting : (time age : ℕ) (p : Place) → Idle (course_halting_order 0 time age (Some p))
 idle_halting time age p = by_test Idle (nat_lt age 0) _ _ (λ e. absurd (let h = below age 0 e in omega arith))
     (λ e. by_test Idle (nat_lt (age - 0) time) _ _ (λ h. tt) (λ h. tt))
@@ -73,7 +73,7 @@ idle_preparing time age p = by_test Idle (nat_lt age time) _ _ (λ h. tt) (λ h.
 idle_init : (offset time age : ℕ) (p : Place) → Idle (course_initialising_order offset time age (Some p))
 idle_init offset time age p = by_test Idle (nat_lt age offset) _ _ (λ e. tt) (λ e. by_test Idle (nat_lt (age - offset) time) _ _ (λ h. tt) (λ h. tt))
 
--- the configuration of a phase, and whether the phase runs it
+-- The configuration of a phase.
 abbrev pub conf_of : CoursePhase → ℕ
 conf_of (Running c) = c
 conf_of (Halting c age) = c
@@ -95,7 +95,7 @@ place_same p q h = place_made p.mode.0 p.proc.0 q.mode.0 q.proc.0 (equal p.mode.
 pub place_self : (p : Place) → place_eq p p ≡ true
 place_self p = and_true _ _ (equal_test p.mode.0 p.mode.0 refl) (equal_test p.proc.0 p.proc.0 refl)
 
--- a running order that was committed fits exactly its place
+-- A run order that was committed fits exactly its own place.
 ran_none : (b : Bool) (p : Place) → course_is_off (if b then Ran p else Lost) ≡ true → ⊥
 ran_none true p h = true_false false h refl
 ran_none false p h = true_false false h refl
@@ -114,21 +114,23 @@ fits_running commits None (Some p) h = absurd (true_false false h refl)
 fits_running commits (Some p) None h = absurd (ran_none (commits p.proc.0) p h)
 fits_running commits (Some p) (Some q) h = ap Some (ran_some (commits p.proc.0) p q h)
 
--- an order does not fit its own place only if it was not committed
+-- If the act of a running order does not fit the order's place, then the place's processor did not commit.
 lost_running : (commits : ℕ → Bool) (there : Option Place) → course_fits_place there (course_act_of commits (course_running_order there)) ≡ false → (p : Place) × (there ≡ Some p) × (commits p.proc.0 ≡ false)
 lost_running commits None h = absurd (true_false true refl h)
 lost_running commits (Some p) h = (p, refl, ran_not (commits p.proc.0) p h)
 
--- the mode is to run its target exactly in the running phase
+-- The phase is the running one if and only if the mode is to run its target, its configuration exists, and the
+-- running phase has the mode's target.
 abbrev pub InPhase : Plan → CourseMode → ℕ → CoursePhase → Type 0
 InPhase plan mode f ph = (runs_in ph ≡ course_is_running plan mode f) × (conf_of ph < plan.configurations) × (runs_in ph ≡ true → conf_of ph ≡ course_target mode)
 
--- the mode's configurations exist
+-- The configurations of the mode exist.
 abbrev pub Ranged : Plan → CourseMode → Type 0
 Ranged plan (Stable c) = c < plan.configurations
 Ranged plan (Moving from halting to since) = (from < plan.configurations) × (to < plan.configurations) × ((h : ℕ) → halting ≡ Some h → h < plan.configurations)
 
--- the phase after the halting one, whose length is h
+-- The phase `late` frames after a halting phase of length `h` runs if and only if all phases are past, and its
+-- configuration is the target.
 phase_after : (plan : Plan) (h to age late : ℕ) → age ≡ h + late
     → (runs_in (course_after_halting plan to late) ≡ nat_le (h + plan.preparing to + plan.initialising to) age) × (conf_of (course_after_halting plan to late) ≡ to)
 phase_after plan h to age late is =
@@ -175,7 +177,7 @@ module _ (plan : Plan) (course : Course) (accepted : IsAcceptedPlan plan) where
   ranged (suc f) = ranged_step f (course_mode_at plan course f) (ranged f)
 
   module _ (build : Build) (commits : ℕ → ℕ → Bool) (built : IsBuilt plan build) (run : IsRun plan build course commits) where
-    -- a phase that does not run leaves some application that is on without a run
+    -- In a phase that does not run, the acts do not run any configuration.
     busy : (acts : ℕ → CourseAct) (committed : ℕ → Bool) (ph : CoursePhase) (j : ℕ) → conf_of ph < plan.configurations → runs_in ph ≡ false → ((a : ℕ) → acts a ≡ course_act_of committed (course_order_in build ph a)) → course_runs build acts j ≡ true → ⊥
     busy acts committed (Running c) j known idle is h = true_false true refl idle
     busy acts committed (Halting c age) j known idle is h =
@@ -191,7 +193,7 @@ module _ (plan : Plan) (course : Course) (accepted : IsAcceptedPlan plan) where
         let fits = all_at (λ a. course_fits_place (build.place j a) (acts a)) build.apps h on.0 on.2 in
         true_false _ fits (rw (is on.0, on.3) (idle_fits committed (course_initialising_order (build.init_offset c on.0) (build.init_time c on.0) age (Some on.1)) (build.place j on.0) (idle_init (build.init_offset c on.0) (build.init_time c on.0) age on.1)))
 
-    -- a running phase runs its configuration and no other
+    -- If the acts of the running phase of `c` run configuration `j`, then `j` is `c`.
     alone : (acts : ℕ → CourseAct) (committed : ℕ → Bool) (c j : ℕ) → c < plan.configurations → ((a : ℕ) → acts a ≡ course_act_of committed (course_running_order (build.place c a))) → course_runs build acts j ≡ true → c ≡ j
     alone acts committed c j known is h =
         let same : (a : ℕ) → a < build.apps → build.place j a ≡ build.place c a = λ a below.
@@ -206,7 +208,8 @@ module _ (plan : Plan) (course : Course) (accepted : IsAcceptedPlan plan) where
     only_in acts committed (Preparing c age) j known is h = absurd (busy acts committed (Preparing c age) j known refl is h)
     only_in acts committed (Initialising c age) j known is h = absurd (busy acts committed (Initialising c age) j known refl is h)
 
-    -- if the running phase does not run its configuration, a processor that the configuration uses did not commit
+    -- If the acts of a running phase do not run its configuration, then a processor that the configuration uses did
+    -- not commit.
     lost_in : (acts : ℕ → CourseAct) (committed : ℕ → Bool) (ph : CoursePhase) → runs_in ph ≡ true → ((a : ℕ) → acts a ≡ course_act_of committed (course_order_in build ph a)) → course_runs build acts (conf_of ph) ≡ false
         → (a : ℕ) × (p : Place) × (a < build.apps) × (build.place (conf_of ph) a ≡ Some p) × (committed p.proc.0 ≡ false)
     lost_in acts committed (Running c) r is h =
@@ -217,7 +220,7 @@ module _ (plan : Plan) (course : Course) (accepted : IsAcceptedPlan plan) where
     lost_in acts committed (Preparing c age) r is h = absurd (true_false false r refl)
     lost_in acts committed (Initialising c age) r is h = absurd (true_false false r refl)
 
-    -- the facts that the law requires of row f
+    -- Row `f` of a run has the contents that the law requires of it.
     row_under : (f : ℕ) → f < course.frames → (m : CourseMode) → course_mode_at plan course f ≡ m → Ranged plan m → CourseRowUnder plan course f m
     row_under f inside m moded r = record {
       only = λ j h. let o = only_in acts (commits f) ph j i.1 is (rw (run.runs_is f j inside) at h) in (rw i.0 at o.0, sym (i.2 o.0) ∙ o.1);

@@ -31,7 +31,7 @@ not_of_false : (b : Bool) → not b ≡ false → b ≡ true
 not_of_false true h = refl
 not_of_false false h = cc
 
--- the lost applications of a row
+-- Lemmas on the lost applications of a row.
 lost_is : (x : Act) → is_lost x ≡ true → x ≡ act.Lost
 lost_is (act.Ran mode proc) h = absurd (true_false false h refl)
 lost_is (act.Halting k n proc) h = absurd (true_false false h refl)
@@ -50,7 +50,7 @@ lost_none : (acts : List Act) → ((a : ℕ) → act_at acts a ≡ act.Lost → 
 lost_none [] whole = refl
 lost_none (x ∷ xs) whole = rw (not_true (is_lost x) (λ h. whole 0 (lost_is x h)), lost_none xs (λ a. whole (suc a))) refl
 
--- environments that do not differ are the same
+-- If the environment of a row is not another one than the environment before, then both are equal.
 unchanged : (v : Env) (o before : Option Env) → o ≡ Some v → is_another_env o before ≡ false → before ≡ o
 unchanged v None before e h = cc
 unchanged v (Some w) None e h = absurd (true_false true refl h)
@@ -66,7 +66,7 @@ module _ (spec : Parts) (rows : List Row) where
   there (x ∷ xs) zero h = (x, refl)
   there (x ∷ xs) (suc f) h = there xs f (omega arith)
 
-  -- the environment of row t has been the same since then, and not for longer
+  -- From frame `held_since rows t` up to frame `t` the environment is the one of row `t`.
   same_since : (t f : ℕ) → t < length rows → held_since rows t ≤ f → f ≤ t → env_in rows f ≡ env_in rows t
   same_since zero f inside late early = let e : f ≡ 0 = omega arith in rw e refl
   same_since (suc t) f inside late early =

@@ -37,7 +37,7 @@ use Rattle.trace_props.proofs.Products.{build_of, course_of, is_env, plan_of, ru
 use Rattle.trace_props.proofs.SameActs.{committed, row_act, runs_same, shown}
 use Rattle.trace_props.proofs.TimesKept.{env_there, not_same, row_count, row_there}
 
--- no bound is greater than the greatest
+-- No bound is greater than the greatest bound.
 most_of : (i j n : ℕ) (bounds : List Bound) → bound_in bounds i j ≡ Some n → n ≤ greatest_bound bounds
 most_of i j n bounds given = bound_each (λ frames. frames ≤ greatest_bound bounds) i j n bounds (bounds_most bounds) given
 
@@ -46,7 +46,7 @@ met_if true true met h = h refl refl
 met_if true false met h = refl
 met_if false asks met h = refl
 
--- an application that is to run and is not lost ran
+-- If the act of a running order is not lost, then it fits the order's place.
 ran_unlost : (commits : ℕ → Bool) (o : Option Place) → shown (course_act_of commits (course_running_order o)) ≢ act.Lost → course_fits_place o (course_act_of commits (course_running_order o)) ≡ true
 ran_unlost commits None whole = refl
 ran_unlost commits (Some p) whole =
@@ -74,7 +74,7 @@ module _ (spec : Parts) (script : ScriptParts) (sound : IsSpec spec) (t : ℕ) (
       still : (f : ℕ) → env_at spec script f ≡ env_at spec script (suc f) → not (is_same_env (env_at spec script f) (env_at spec script (suc f))) ≡ false
       still f same = not_true (not (is_same_env (env_at spec script f) (env_at spec script (suc f)))) (λ h. not_same (env_at spec script f) (env_at spec script (suc f)) h same)
 
-  -- the target of a stable mode runs in the row
+  -- If the mode is stable in row `t`, then its configuration runs in that row.
   runs_resting : (c : ℕ) → course_mode_at (plan_of spec) (course_of spec script) t ≡ Stable c → runs_in_row spec script t c ≡ true
   runs_resting c moded = runs_same spec sound script t c ∙ each_all _ (length spec.apps) (λ a below. fits a below)
     where
@@ -113,6 +113,6 @@ module _ (spec : Parts) (script : ScriptParts) (sound : IsSpec spec) (t : ℕ) (
         (accepts.demanded settled.conf row.env settled.known (env_of_test spec sound row.env (and_left (is_env spec row.env) _ in_scope_there))
         (and_right (is_env spec row.env) _ in_scope_there) k demand there asks speaks))
 
-    -- a configuration at rest meets the demands
+    -- In a calm row of a mission the running configuration satisfies the demands.
     pub satisfied : Accepts spec → is_satisfied spec row ≡ true
     satisfied accepts = ap (satisfies spec row.env) settled.runs ∙ all_pass (meets spec settled.conf row.env) spec.demands (meets_each accepts)

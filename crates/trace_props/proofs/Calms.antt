@@ -12,7 +12,7 @@ use Rattle.trace_props.proofs.Counting.{count_changed, count_le, count_same}
 use Rattle.trace_props.proofs.Deadlines.{Deadlines, bound_of, in_bound, kept_in, further_cases}
 use Rattle.trace_props.proofs.Coupling.{Coupled, changed_when, coupled}
 
--- facts on the mode of frame f that do not depend on the rows read
+-- Facts on the mode of frame `f` that do not depend on the rows that were read.
 abbrev pub TimedIn : Plan → Course → ℕ → CourseMode → Type 0
 TimedIn plan course f (Stable c) = (plan.choose c (course.env f) ≡ c) × (c < plan.configurations)
 TimedIn plan course f (Moving from halting to since) = (first : ℕ) × Deadlines plan course first f from halting to since
@@ -23,14 +23,15 @@ timed_in plan course f (Steady c) (Moving from halting to since) h = (f, h.deadl
 timed_in plan course f (Leaving c s) (Stable k) h = absurd h.moves
 timed_in plan course f (Leaving c s) (Moving from halting to since) h = (h.first, h.moves.1)
 
--- if a window has at most one change: a reconfiguration begins with it and sees no other, and its target is kept
+-- A reconfiguration under way began with a change of the environment and has seen no other, and its target is chosen
+-- again. This holds if a window has at most one change.
 abbrev pub AloneIn : Plan → Course → ℕ → CourseMode → Type 0
 AloneIn plan course f (Stable c) = Unit {0}
 AloneIn plan course f (Moving from halting to since) =
     (p : ℕ) × (since ≡ suc p) × (course_changes_at plan course.env (suc p) ≡ true) × (course_changes_upto plan course.env f ≡ course_changes_upto plan course.env since) × (plan.choose to (course.env f) ≡ to)
 
 module _ (plan : Plan) (course : Course) (accepted : IsAcceptedPlan plan) (within : IsCourseWithin plan course) where
-  -- a decision that keeps the target: a moving mode arrives in it or continues
+  -- If a decision keeps the target, then a moving mode either arrives in it or continues.
   by_decision : (good : CourseMode → Type 0) (f from : ℕ) (halting : Option ℕ) (to since : ℕ)
       → course_wanted plan from to (course.env (suc f)) ≡ to
       → good (course_stable_decision (suc f) to (plan.choose to (course.env (suc f))))
@@ -47,11 +48,12 @@ module _ (plan : Plan) (course : Course) (accepted : IsAcceptedPlan plan) (withi
   same_env : (f : ℕ) → course_changes_at plan course.env (suc f) ≡ false → course.env f ≡ course.env (suc f)
   same_env f calm = accepted.tells (course.env f) (course.env (suc f)) calm
 
-  -- a stable mode stays if its configuration is chosen again
+  -- If the configuration of a stable mode is chosen again, then the mode stays stable.
   stays_stable : (good : CourseMode → Type 0) (f c : ℕ) → good (Stable c) → plan.choose c (course.env (suc f)) ≡ c → good (course_stable_decision (suc f) c (plan.choose c (course.env (suc f))))
   stays_stable good f c stable rests = by_test good (nat_eq (plan.choose c (course.env (suc f))) c) _ _ (λ e. stable) (λ e. absurd (differ _ _ e rests))
 
-  -- the window that ends in the next frame holds the change with which the reconfiguration began
+  -- If a window has at most one change, and the reconfiguration began with it, then the next frame is not a change
+  -- frame.
   no_other : (first f p from : ℕ) (halting : Option ℕ) (to since : ℕ) → suc f ≤ course.frames → plan.changes ≡ 0 → Deadlines plan course first f from halting to since
       → since ≡ suc p → course_changes_at plan course.env (suc p) ≡ true → course_changes_upto plan course.env f ≡ course_changes_upto plan course.env since → course_changes_at plan course.env (suc f) ≡ false
   no_other first f p from halting to since inside none d is began counted = not_true (course_changes_at plan course.env (suc f)) (λ changed.
@@ -88,7 +90,8 @@ module _ (plan : Plan) (course : Course) (accepted : IsAcceptedPlan plan) (withi
   alone flown none (suc f) inside =
       alone_step f inside none (course_mode_at plan course f) (timed flown f (omega arith)) (alone flown none f (omega arith))
 
-  -- if the target is not what the table now chooses, bounds allow for two further changes or more
+  -- If the target of a moving mode is not what the table chooses now, then the bounds allow for two further changes
+  -- or more.
   put_off : IsCourseFlown plan course → (f first from : ℕ) (halting : Option ℕ) (to since : ℕ) → f ≤ course.frames → Deadlines plan course first f from halting to since
       → course_mode_at plan course f ≡ Moving from halting to since → plan.choose to (course.env f) ≢ to → 2 ≤ plan_further plan
   put_off flown f first from halting to since inside d moded away = elim (further_cases plan) [
@@ -104,23 +107,24 @@ module _ (plan : Plan) (course : Course) (accepted : IsAcceptedPlan plan) (withi
       none_or_more : (n : ℕ) → (n ≡ 0) ⊎ (1 ≤ n)
       none_or_more n = grind arith
 
--- the arithmetic over plain numbers: a reconfiguration that follows another is over within its own bound
+-- The arithmetic of a reconfiguration that follows another one: it is over within `b` frames after `s`.
 followed : (f since halted p i h pj ij q x t b s : ℕ) → f ≤ since + halted + p + i → since ≤ s → halted + 2 ≤ q → p + i + 1 + h ≤ q → 2 ≤ x → 1 + h + x * q + pj + ij ≤ t → t ≤ b
     → suc f + h + pj + ij < s + b
 followed f since halted p i h pj ij q x t b s settled old short slow twice enough most = let m : 2 * q ≤ x * q = grind arith in omega arith
 
--- a moving mode dates from s or before, or its target is chosen again and it ends less than b frames after s
+-- A moving mode dates from frame `s` or before, or its target is chosen again and it ends less than `b` frames after
+-- `s`.
 abbrev pub SoonIn : Plan → Course → ℕ → ℕ → ℕ → CourseMode → Type 0
 SoonIn plan course s b f (Stable c) = Unit {0}
 SoonIn plan course s b f (Moving from halting to since) =
     (since ≤ s) ⊎ ((plan.choose to (course.env f) ≡ to) × (since + plan_halting plan halting + plan.preparing to + plan.initialising to < s + b))
 
--- the environment does not change after s and up to t, and no bound is greater than b
+-- The environment does not change after frame `s` and up to frame `t`, and no bound is greater than `b`.
 pub record IsCalmFrom (plan : Plan) (course : Course) (s b t : ℕ) : Type 0 where
   pub still : (f : ℕ) → s ≤ f → f < t → course_changes_at plan course.env (suc f) ≡ false
   pub most : (i j n : ℕ) → plan.bound i j ≡ Some n → n ≤ b
 
--- the mode is stable in frame t, and its configuration is chosen again
+-- The mode is stable in frame `t`, and its configuration is chosen again there.
 pub record IsAtRest (plan : Plan) (course : Course) (t : ℕ) (mode : CourseMode) : Type 0 where
   pub conf : ℕ
   pub known : conf < plan.configurations
@@ -128,7 +132,7 @@ pub record IsAtRest (plan : Plan) (course : Course) (t : ℕ) (mode : CourseMode
   pub chosen : plan.choose conf (course.env t) ≡ conf
 
 module _ (plan : Plan) (course : Course) (accepted : IsAcceptedPlan plan) (within : IsCourseWithin plan course) (flown : IsCourseFlown plan course) where
-  -- a halting phase is shorter than the slowest turn
+  -- A halting phase is at least two frames shorter than the slowest turn.
   short : (halting : Option ℕ) (to : ℕ) → to < plan.configurations → ((h : ℕ) → halting ≡ Some h → h < plan.configurations) → plan_halting plan halting + 2 ≤ plan.slowest
   short None to aimed known = let slow = accepted.slow to aimed in let lasts = accepted.lasts to aimed in omega arith
   short (Some h) to aimed known = let slow = accepted.slow h (known h refl) in let lasts = accepted.lasts h (known h refl) in omega arith
@@ -138,7 +142,7 @@ module _ (plan : Plan) (course : Course) (accepted : IsAcceptedPlan plan) (withi
     soon_at f (Stable c) is h = tt
     soon_at f (Moving from halting to since) is h = let now = h.1.now in inl (omega arith)
 
-    -- if a reconfiguration ends in a target that is not chosen again, the next reconfiguration ends in time
+    -- If a reconfiguration ends in a target that is not chosen again, then the next reconfiguration ends in time.
     follows_soon : (f first from : ℕ) (halting : Option ℕ) (to since : ℕ) → suc f ≤ course.frames → course.env f ≡ course.env (suc f) → course_mode_at plan course f ≡ Moving from halting to since
         → Deadlines plan course first f from halting to since → since ≤ s → plan.choose to (course.env (suc f)) ≢ to
         → SoonIn plan course s b (suc f) (Moving to (Some to) (plan.choose to (course.env (suc f))) (suc f))
@@ -194,6 +198,6 @@ module _ (plan : Plan) (course : Course) (accepted : IsAcceptedPlan plan) (withi
       | inr rests ↦ let settled = h.1.settled in absurd (omega (arith, rests.1))
     ]
 
-    -- b frames after s no reconfiguration is under way
+    -- No reconfiguration is under way `b` frames after `s`.
     pub calm_rests : t ≤ course.frames → t ≡ s + b → IsAtRest plan course t (course_mode_at plan course t)
     calm_rests inside is = rest_at (course_mode_at plan course t) inside is (timed plan course accepted within flown t inside) (soon t (omega arith) (omega arith) inside)

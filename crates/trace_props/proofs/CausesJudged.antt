@@ -25,7 +25,7 @@ use Rattle.trace_props.proofs.TimesKept.{not_same}
 use Rattle.trace_props.proofs.TargetsJudged.{Judges}
 use Rattle.scram_types.specs.Lookups.{env_before, env_in}
 
--- SP5: changes of the environment
+-- Lemmas on SP5 and changes of the environment.
 row_past : (rows : List Row) (f : ℕ) → slice_get rows f ≡ None → length rows ≤ f
 row_past [] f h = omega arith
 row_past (row ∷ rows) zero h = absurd (let no : ◌≡◌ {A = Option Row} (Some row) None = h in cc)
@@ -73,7 +73,8 @@ found_some : (A : ℕ → Type 0) (o : Option ℕ) → IsLeastOf A o → (f : �
 found_some A None h f a = absurd (h f a)
 found_some A (Some g) h f a = refl
 
--- the reconfiguration that was read just before one, if it may be followed
+-- `before` is a reconfiguration that was read, and each one that ended in the row before the begin of `r` is
+-- `before`.
 pub record IsJustBefore (spec : Parts) (rows : List Row) (before : Option Report) (r : Report) : Type 0 where
   pub there : (x : Report) → before ≡ Some x → (place : ℕ) × (slice_get (reports spec rows) place ≡ Some x)
   pub only : (place : ℕ) (x : Report) → slice_get (reports spec rows) place ≡ Some x → suc x.end ≡ r.begin → before ≡ Some x

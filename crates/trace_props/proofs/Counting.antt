@@ -7,7 +7,7 @@ use Rattle.scram_types.proofs.Naturals.{at_or_below}
 use Rattle.trace_props.proofs.Plans.{Plan}
 use Rattle.trace_props.proofs.Courses.{course_changes_at, course_changes_upto}
 
--- a frame adds one if it is a change frame
+-- A change frame adds one to the count of change frames.
 pub count_changed : (plan : Plan) (env : ℕ → Env) (f : ℕ) → course_changes_at plan env (suc f) ≡ true → course_changes_upto plan env (suc f) ≡ suc (course_changes_upto plan env f)
 count_changed plan env f h = rw h (omega arith)
 
@@ -24,12 +24,12 @@ count_grows plan env f = at_most_one (plan.differ (env f) (env (suc f))) (course
 count_step : (plan : Plan) (env : ℕ → Env) (a b : ℕ) → a ≤ suc b → (a ≤ b → course_changes_upto plan env a ≤ course_changes_upto plan env b) → course_changes_upto plan env a ≤ course_changes_upto plan env (suc b)
 count_step plan env a b h before = elim (at_or_below a b h) [ inl e ↦ let grown = count_grows plan env b in let below = before e in omega arith | inr e ↦ rw e (omega arith) ]
 
--- the counts rise with the frame
+-- The count of change frames does not fall from a frame to a later one.
 pub count_le : (plan : Plan) (env : ℕ → Env) (a b : ℕ) → a ≤ b → course_changes_upto plan env a ≤ course_changes_upto plan env b
 count_le plan env a zero h = let e : a ≡ 0 = omega arith in rw e (omega arith)
 count_le plan env a (suc b) h = count_step plan env a b h (count_le plan env a b)
 
--- two frames whose environments differ have a change frame between them
+-- There is a change frame after frame `a` and up to frame `b`.
 pub record ChangeBetween (plan : Plan) (env : ℕ → Env) (a b : ℕ) : Type 0 where
   pub change : ℕ
   pub after : a < change
@@ -49,7 +49,7 @@ between_step plan tells env c t a b h was not before = elim (at_or_below a b h) 
   | inr e ↦ absurd (not (rw e at was))
 ]
 
--- the choices in two frames differ only if there is a change frame between them
+-- If the choices in two frames differ, then there is a change frame between them.
 pub change_between : (plan : Plan) → ((v w : Env) → plan.differ v w ≡ false → v ≡ w) → (env : ℕ → Env) (c t a b : ℕ) → a ≤ b → plan.choose c (env a) ≡ t → (plan.choose c (env b) ≡ t → ⊥) → ChangeBetween plan env a b
 change_between plan tells env c t a zero h was not = absurd (not (let e : a ≡ 0 = omega arith in rw e at was))
 change_between plan tells env c t a (suc b) h was not = between_step plan tells env c t a b h was not (change_between plan tells env c t a b)

@@ -12,7 +12,7 @@ use Rattle.trace_props.proofs.Tests.{by_test}
 use Rattle.trace_props.proofs.Counting.{ChangeBetween, change_between}
 use Rattle.trace_props.proofs.Deadlines.{Deadlines, begins, stays, turns_early, turns_anew, wanted_runs, room_of}
 
--- the mode of frame f continues a reconfiguration from `from` whose first moving frame is `first`
+-- The mode of frame `f` continues a reconfiguration from `c` whose first moving frame is `first`.
 abbrev pub MovesOn : Plan → Course → ℕ → ℕ → ℕ → CourseMode → Type 0
 MovesOn plan course first f c (Stable k) = ⊥
 MovesOn plan course first f c (Moving from halting to since) = (from ≡ c) × Deadlines plan course first f from halting to since
@@ -44,7 +44,7 @@ by_arrival good c s None none some = none refl
 by_arrival good c s (Some j) none some = some j refl
 
 module _ (plan : Plan) (course : Course) (accepted : IsAcceptedPlan plan) (within : IsCourseWithin plan course) where
-  -- one decision of a moving mode that has not arrived
+  -- If a moving mode has not arrived, then the next decision continues its reconfiguration.
   pub moves_on : (first f from : ℕ) (halting : Option ℕ) (to since : ℕ) → suc f ≤ course.frames → Deadlines plan course first f from halting to since → course_mode_at plan course f ≡ Moving from halting to since
       → (course_is_running plan (Moving from halting to since) f ≡ true → plan.is_runnable to (course.env (suc f)) ≡ false)
       → MovesOn plan course first (suc f) from (course_turn plan (suc f) from halting to since (course_is_running plan (Moving from halting to since) f) (course_wanted plan from to (course.env (suc f))))
@@ -65,7 +65,7 @@ module _ (plan : Plan) (course : Course) (accepted : IsAcceptedPlan plan) (withi
           let now = d.now in
           stays plan course accepted within first f from halting to since inside d same (omega arith) moded
 
-  -- a decision from a configuration that runs
+  -- A decision from a configuration that runs agrees with a steady reading.
   pub steady_on : (f c : ℕ) → f ≤ course.frames → c < plan.configurations → (plan.choose c (course.env f) ≢ c → CourseHasCause plan course f)
       → (plan.choose c (course.env f) ≢ c → plan.settles ≡ false → (p : ℕ) × (f ≡ suc p) × (course_changes_at plan course.env (suc p) ≡ true))
       → SteadyIn plan course f c (course_stable_decision f c (plan.choose c (course.env f)))
@@ -75,11 +75,12 @@ module _ (plan : Plan) (course : Course) (accepted : IsAcceptedPlan plan) (withi
       (λ e. let away = differ (plan.choose c (course.env f)) c e in
       record { same = refl; new = refl; deadlines = begins plan course accepted within f c inside known away (room_of plan course accepted within f (change away)); cause = cause away })
 
-  -- the choice changes only in a change frame
+  -- The choice from `c` changes only in a change frame.
   pub changed_when : (f c : ℕ) → plan.choose c (course.env f) ≡ c → plan.choose c (course.env (suc f)) ≢ c → course_changes_at plan course.env (suc f) ≡ true
   changed_when f c was away = not_false (course_changes_at plan course.env (suc f)) (λ calm. away (let same = accepted.tells (course.env f) (course.env (suc f)) calm in cc))
 
-  -- a frame in which a configuration runs, or an application is lost
+  -- After a frame in which the mode was stable, the reading agrees with the next mode, whether or not an application
+  -- was lost.
   pub after_stable : (f c : ℕ) → suc f ≤ course.frames → c < plan.configurations → plan.choose c (course.env f) ≡ c → CourseRowUnder plan course f (Stable c) → course_mode_at plan course f ≡ Stable c
       → Coupled plan course (suc f) (course_read_row course f (Steady c)) (course_decision_after plan course f (Stable c))
   after_stable f c inside known current row moded =
@@ -99,7 +100,7 @@ module _ (plan : Plan) (course : Course) (accepted : IsAcceptedPlan plan) (withi
         cause = inr (inl changed);
       }))
 
-  -- a decision after a frame that did not arrive
+  -- If a moving mode did not arrive in frame `f`, then its reconfiguration continues in the next frame.
   pub not_arrived : (first f from : ℕ) (halting : Option ℕ) (to since : ℕ) → suc f ≤ course.frames → Deadlines plan course first f from halting to since
       → CourseRowUnder plan course f (Moving from halting to since) → course_mode_at plan course f ≡ Moving from halting to since
       → (course_is_running plan (Moving from halting to since) f ≡ true → course.runs f to ≡ false)
@@ -109,7 +110,7 @@ module _ (plan : Plan) (course : Course) (accepted : IsAcceptedPlan plan) (withi
       (λ arrived. absurd (true_false _ (and_right _ _ arrived) (left (and_left _ _ arrived))))
       (λ e. moves_on first f from halting to since inside d moded (λ running. row.lost running (left running) d.runnable))
 
-  -- the first moving frame, if the preceding row ran its configuration
+  -- After the first moving frame, the reading agrees with the next mode, if the preceding row ran its configuration.
   pub after_start : (f c from : ℕ) (halting : Option ℕ) (to since : ℕ) → suc f ≤ course.frames → Starts plan course f c from halting to since
       → CourseRowUnder plan course f (Moving from halting to since) → course_mode_at plan course f ≡ Moving from halting to since
       → Coupled plan course (suc f) (course_read_row course f (Steady c)) (course_decision_after plan course f (Moving from halting to since))
@@ -133,7 +134,7 @@ module _ (plan : Plan) (course : Course) (accepted : IsAcceptedPlan plan) (withi
           let new = st.new in
           omega arith)
 
-  -- a later moving frame
+  -- After a later moving frame, the reading agrees with the next mode.
   pub after_leaving : (f c s first from : ℕ) (halting : Option ℕ) (to since : ℕ) → suc f ≤ course.frames → s ≤ first → first ≤ suc s → first ≡ course_first_moving plan course s → from ≡ c → Deadlines plan course first f from halting to since → CourseHasCause plan course s
       → CourseRowUnder plan course f (Moving from halting to since) → course_mode_at plan course f ≡ Moving from halting to since
       → course_report_at plan course f ≡ course_report_of course f (Leaving c s)
@@ -189,7 +190,7 @@ module _ (plan : Plan) (course : Course) (accepted : IsAcceptedPlan plan) (withi
           change_next)
           (λ e. true_false _ ran_to (and_false _ _ e o.0)))
 
-  -- one frame, from any state
+  -- If the reading agrees with the mode in a frame, then it agrees with it in the next one.
   pub coupled_step : (f : ℕ) → suc f ≤ course.frames → (r : CourseReading) (m : CourseMode) → Coupled plan course f r m → CourseRowUnder plan course f m
       → course_report_at plan course f ≡ course_report_of course f r → course_mode_at plan course f ≡ m → Coupled plan course (suc f) (course_read_row course f r) (course_decision_after plan course f m)
   coupled_step f inside (Steady c) (Stable k) h row reported moded =
@@ -200,7 +201,7 @@ module _ (plan : Plan) (course : Course) (accepted : IsAcceptedPlan plan) (withi
   coupled_step f inside (Leaving c s) (Moving from halting to since) h row reported moded =
       after_leaving f c s h.first from halting to since inside h.from_begin h.by_next h.first_is h.moves.0 h.moves.1 h.cause row moded reported
 
-  -- in each frame the reading agrees with the mode
+  -- In each frame of a flown course the reading agrees with the mode.
   pub coupled : IsCourseFlown plan course → (f : ℕ) → f ≤ course.frames → Coupled plan course f (course_reading_before plan course f) (course_mode_at plan course f)
   coupled flown zero inside =
       let opens : plan.choose plan.start (course.env 0) ≡ plan.start = rw within.opens accepted.starts in

@@ -1,4 +1,4 @@
--- Areas, by the act that wrote them last; invariants and preconditions.
+-- Areas, by the act that wrote them last, with invariants and preconditions.
 use Rattle.std.specs.Prelude.{◌≡◌, ℕ, zero, suc, ◌<◌, ◌≤◌, ◌⊎◌, Bool, true, List, ℤ, Option, Some, None}
 use Rattle.trace_props.proofs.Plans.{Plan, IsAcceptedPlan, IsPlanTarget}
 use Rattle.trace_props.proofs.Courses.{Course, CourseReading.Leaving, CourseReport, course_reading_before, course_report_at, IsCourseWithin}
@@ -8,7 +8,7 @@ use Rattle.trace_props.proofs.CourseRows.{CourseAct, CourseAct.Ran, CourseAct.Ha
 abbrev pub CourseArea : Type 0
 CourseArea = List ℤ
 
--- the act that wrote an area last; a start area counts as initialised
+-- The act that wrote an area last. A start area counts as initialised.
 pub data Written : Type 0 where
   DidRun : Place → Written
   DidHalt : Place → Written
@@ -33,8 +33,8 @@ abbrev pub written_by : (ℕ → CourseAct) → Written → ℕ → Written
 written_by acts w zero = w
 written_by acts w (suc f) = written_after (acts f) (written_by acts w f)
 
--- lies a w v: the area v of a is in the ranges of its writer w; initialised a p v: in the ranges after a whole
--- initialisation
+-- The laws of areas. `lies a w v` states that area `v` of application `a` lies in the ranges of its writer `w`, and
+-- `initialised a p v` that it lies in the ranges after a whole initialisation at `p`.
 pub record AreaLaws : Type 0 where
   pub lies : ℕ → Written → CourseArea → Bool
   pub initialised : ℕ → Place → CourseArea → Bool
@@ -48,7 +48,7 @@ IsAreaFilled laws a (Initialised k n p) old new = (laws.lies a (DidInit p) new �
 IsAreaFilled laws a WasOff old new = laws.lies a Zeros new ≡ true
 IsAreaFilled laws a Lost old new = new ≡ old
 
--- area f a: the area of a after f frames
+-- The areas open and are filled by the laws. `area f a` is the area of application `a` after `f` frames.
 pub record AreAreasFilled (plan : Plan) (build : Build) (course : Course) (commits : ℕ → ℕ → Bool) (laws : AreaLaws) (area : ℕ → ℕ → CourseArea) : Type 0 where
   pub opens : (a : ℕ) → a < build.apps → laws.lies a (opening_written (build.place plan.start a)) (area 0 a) ≡ true
   pub writes : (f a : ℕ) → f < course.frames → a < build.apps → IsAreaFilled laws a (course_acts_at plan build course commits f a) (area f a) (area (suc f) a)
@@ -67,14 +67,14 @@ abbrev pub SpeaksOfSource : Option ℕ → ℕ → Type 0
 SpeaksOfSource None i = Unit {0}
 SpeaksOfSource (Some c) i = c ≡ i
 
--- the application has this place in i, or in a possible target of i
+-- Application `a` has the place `o` in some possible target of `i`.
 abbrev pub IsPlacedInTarget : Plan → Build → ℕ → ℕ → Option Place → Type 0
 IsPlacedInTarget plan build i a o = (j : ℕ) × IsPlanTarget plan i j × (build.place j a ≡ o)
 
 abbrev pub IsPlacedInEither : Plan → Build → ℕ → ℕ → Option Place → Type 0
 IsPlacedInEither plan build i a o = (build.place i a ≡ o) ⊎ IsPlacedInTarget plan build i a o
 
--- the ranges that are listed for an invariant of source i
+-- The writer's ranges are listed for an invariant of source `i`.
 abbrev pub IsListed : Plan → Build → ℕ → ℕ → Written → Type 0
 IsListed plan build i a (DidRun p) = IsPlacedInEither plan build i a (Some p)
 IsListed plan build i a (DidHalt p) = IsPlacedInEither plan build i a (Some p)
@@ -82,18 +82,18 @@ IsListed plan build i a (DidPrepare p) = IsPlacedInTarget plan build i a (Some p
 IsListed plan build i a (DidInit p) = IsPlacedInEither plan build i a (Some p)
 IsListed plan build i a Zeros = IsPlacedInEither plan build i a None
 
--- the invariant's interval holds each listed range
+-- The invariant's interval holds each listed range.
 pub record HoldsListedRanges (plan : Plan) (build : Build) (laws : AreaLaws) (inv : CourseInvariant) : Type 0 where
   pub app_in : inv.app < build.apps
   pub holds_listed : (i : ℕ) (w : Written) (v : CourseArea) → i < plan.configurations → SpeaksOfSource inv.source i → IsListed plan build i inv.app w → laws.lies inv.app w v ≡ true → inv.holds v ≡ true
 
--- the precondition's interval holds the range after a whole initialisation, or zeros
+-- The precondition's interval holds the range after a whole initialisation, or zeros if the application is off.
 pub record HoldsInitialisedRange (build : Build) (laws : AreaLaws) (pre : CoursePrecondition) : Type 0 where
   pub app_in : pre.app < build.apps
   pub holds_on : (p : Place) (v : CourseArea) → build.place pre.conf pre.app ≡ Some p → laws.initialised pre.app p v ≡ true → pre.holds v ≡ true
   pub holds_off : (v : CourseArea) → build.place pre.conf pre.app ≡ None → laws.lies pre.app Zeros v ≡ true → pre.holds v ≡ true
 
--- SP4
+-- SP4 over a course: reconfigurations keep their invariants and meet their preconditions.
 pub record AreasKept (plan : Plan) (build : Build) (course : Course) (laws : AreaLaws) (area : ℕ → ℕ → CourseArea) : Type 0 where
   pub throughout : (f : ℕ) (r : CourseReport) (inv : CourseInvariant) (g : ℕ) → f < course.frames → course_report_at plan course f ≡ Some r → HoldsListedRanges plan build laws inv → SpeaksOfSource inv.source r.from
       → r.begin ≤ g → g ≤ r.end → inv.holds (area (suc g) inv.app) ≡ true

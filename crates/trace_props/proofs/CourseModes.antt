@@ -7,12 +7,12 @@ pub data CourseMode : Type 0 where
   Stable : ℕ → CourseMode
   Moving : ℕ → Option ℕ → ℕ → ℕ → CourseMode
 
--- the configuration that runs or is to run
+-- The configuration that a mode runs or is to run.
 abbrev pub course_target : CourseMode → ℕ
 course_target (Stable c) = c
 course_target (Moving from halting to since) = to
 
--- the orders of the frame are to run the target
+-- Whether the orders of the frame are to run the target.
 abbrev pub course_is_running : Plan → CourseMode → ℕ → Bool
 course_is_running plan (Stable c) frame = true
 course_is_running plan (Moving from halting to since) frame = nat_le (plan_halting plan halting + plan.preparing to + plan.initialising to) (frame - since)
@@ -20,7 +20,7 @@ course_is_running plan (Moving from halting to since) frame = nat_le (plan_halti
 abbrev pub course_stable_decision : ℕ → ℕ → ℕ → CourseMode
 course_stable_decision frame c t = if nat_eq t c then Stable c else Moving c (Some c) t frame
 
--- the policy's choice in an environment
+-- The target that the policy chooses in an environment.
 abbrev pub course_wanted : Plan → ℕ → ℕ → Env → ℕ
 course_wanted plan from to v = if (plan.settles && plan.is_runnable to v) then to else plan.choose from v
 
@@ -30,7 +30,8 @@ course_turn plan frame from halting to since settled t =
     else (if nat_lt (frame - since) (plan_halting plan halting) then Moving from halting t since
     else (if settled then Moving from (Some to) t frame else Moving from None t frame))
 
--- settled: the preceding frame was to run its target; arrived: its row did
+-- The mode after a decision. `settled` states that the preceding frame was to run its target, and `arrived` that its
+-- row did run it.
 abbrev pub course_decision : Plan → ℕ → CourseMode → Bool → Bool → Env → CourseMode
 course_decision plan frame (Stable c) settled arrived v = course_stable_decision frame c (plan.choose c v)
 course_decision plan frame (Moving from halting to since) settled arrived v =

@@ -31,7 +31,7 @@ pub data CourseAct : Type 0 where
   WasOff : CourseAct
   Lost : CourseAct
 
--- the applications, their places, and the begin and length of each of their phases
+-- The applications, their places, and the begin and length of each of their phases.
 pub record Build : Type 0 where
   pub apps : ℕ
   pub place : ℕ → ℕ → Option Place
@@ -77,7 +77,7 @@ course_order_in build (Halting c age) a = course_halting_order (build.halt_offse
 course_order_in build (Preparing c age) a = course_preparing_order (build.prepare_time c a) age (build.place c a)
 course_order_in build (Initialising c age) a = course_initialising_order (build.init_offset c a) (build.init_time c a) age (build.place c a)
 
--- the act that carries out an order, given the processors that commit
+-- The act that carries out an order, given the processors that commit.
 abbrev pub course_act_of : (ℕ → Bool) → CourseOrder → CourseAct
 course_act_of commits (Run p) = if commits p.proc.0 then Ran p else Lost
 course_act_of commits (Halt k n p) = if commits p.proc.0 then Halted k n p else Lost
@@ -111,14 +111,14 @@ abbrev pub course_fits_place : Option Place → CourseAct → Bool
 course_fits_place None act = course_is_off act
 course_fits_place (Some p) act = course_is_ran p act
 
--- the acts of a row run a configuration
+-- Whether the acts of a row run configuration `c`.
 abbrev pub course_runs : Build → (ℕ → CourseAct) → ℕ → Bool
 course_runs build acts c = all_below (λ a. course_fits_place (build.place c a) (acts a)) build.apps
 
 abbrev pub course_acts_at : Plan → Build → Course → (ℕ → ℕ → Bool) → ℕ → ℕ → CourseAct
 course_acts_at plan build course commits f a = course_act_of (commits f) (course_order_in build (course_phase plan (course_mode_at plan course f) f) a)
 
--- the facts on an accepted build
+-- The facts on an accepted build.
 pub record IsBuilt (plan : Plan) (build : Build) : Type 0 where
   pub placed_in : (c a : ℕ) (p : Place) → build.place c a ≡ Some p → c < plan.configurations
   pub first_halts : (c : ℕ) → c < plan.configurations → (a : ℕ) × (p : Place) × (a < build.apps) × (build.place c a ≡ Some p) × (build.halt_offset c a ≡ 0)
@@ -126,8 +126,8 @@ pub record IsBuilt (plan : Plan) (build : Build) : Type 0 where
   pub differ : (i j : ℕ) → i < plan.configurations → j < plan.configurations → ((a : ℕ) → a < build.apps → build.place i a ≡ build.place j a) → i ≡ j
   pub needs_up : (c a : ℕ) (p : Place) (v : Env) → a < build.apps → build.place c a ≡ Some p → plan.is_runnable c v ≡ true → build.is_up p.proc.0 v ≡ true
 
--- the rows of the course result from the orders and the processors that commit; a processor that does not commit is
--- down in this frame's environment or in the next
+-- The rows of the course result from the orders and the processors that commit. A processor that does not commit is
+-- down in this frame's environment or in the next.
 pub record IsRun (plan : Plan) (build : Build) (course : Course) (commits : ℕ → ℕ → Bool) : Type 0 where
   pub runs_is : (f j : ℕ) → f < course.frames → course.runs f j ≡ course_runs build (course_acts_at plan build course commits f) j
   pub running_is : (f : ℕ) → f < course.frames → course.running f ≡ least_from (course.runs f) 0 plan.configurations

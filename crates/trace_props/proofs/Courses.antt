@@ -4,7 +4,8 @@ use Rattle.scram_types.specs.declared.rows.Env.{Env}
 use Rattle.trace_props.proofs.Plans.{Plan}
 use Rattle.trace_props.proofs.CourseModes.{CourseMode, course_target, course_is_running, course_decision, course_stable_decision}
 
--- runs f c: row f runs c; running f: the configuration with the smallest number that row f runs
+-- A course of frames, environments and rows. `runs f c` states that row `f` runs `c`, and `running f` is the
+-- configuration with the smallest number that row `f` runs.
 pub record Course : Type 0 where
   pub frames : ℕ
   pub env : ℕ → Env
@@ -15,7 +16,7 @@ abbrev pub course_changes_at : Plan → (ℕ → Env) → ℕ → Bool
 course_changes_at plan env zero = false
 course_changes_at plan env (suc f) = plan.differ (env f) (env (suc f))
 
--- the number of change frames up to a frame
+-- The number of change frames up to a frame.
 abbrev pub course_changes_upto : Plan → (ℕ → Env) → ℕ → ℕ
 course_changes_upto plan env zero = 0
 course_changes_upto plan env (suc f) = course_changes_upto plan env f + (if plan.differ (env f) (env (suc f)) then 1 else 0)
@@ -60,13 +61,13 @@ course_report_of course f (Leaving c s) = course_arrival c s f (course.running f
 abbrev pub course_report_at : Plan → Course → ℕ → Option CourseReport
 course_report_at plan course f = course_report_of course f (course_reading_before plan course f)
 
--- the failure assumption
+-- The course keeps to the failure assumption.
 pub record IsCourseWithin (plan : Plan) (course : Course) : Type 0 where
   pub opens : course.env 0 ≡ plan.opening
   pub scope : (f : ℕ) → f ≤ course.frames → plan.in_scope (course.env f) ≡ true
   pub few : (f : ℕ) → f ≤ course.frames → course_changes_upto plan course.env f ≤ course_changes_upto plan course.env (f - plan.window) + plan.changes + 1
 
--- the contents of row f under a mode
+-- The contents of row `f` agree with a mode.
 pub record CourseRowUnder (plan : Plan) (course : Course) (f : ℕ) (mode : CourseMode) : Type 0 where
   pub only : (j : ℕ) → course.runs f j ≡ true → (course_is_running plan mode f ≡ true) × (course_target mode ≡ j)
   pub lost : course_is_running plan mode f ≡ true → course.runs f (course_target mode) ≡ false → plan.is_runnable (course_target mode) (course.env f) ≡ true → plan.is_runnable (course_target mode) (course.env (suc f)) ≡ false

@@ -10,13 +10,13 @@ use Rattle.trace_props.proofs.CourseModes.{CourseMode.Moving, course_wanted}
 use Rattle.trace_props.proofs.Courses.{Course, IsCourseWithin, course_changes_at, course_changes_upto, course_mode_at}
 use Rattle.trace_props.proofs.Counting.{count_changed, count_grows, count_le}
 
--- frame g has this mode, and the processors that the target uses are up in it and in the next frame
+-- Frame `g` has this mode, and the processors that the target uses are up in it and in the next frame.
 pub record IsWhole (plan : Plan) (course : Course) (g from : ℕ) (halting : Option ℕ) (to since : ℕ) : Type 0 where
   pub moded : course_mode_at plan course g ≡ Moving from halting to since
   pub before : plan.is_runnable to (course.env g) ≡ true
   pub behind : plan.is_runnable to (course.env (suc g)) ≡ true
 
--- facts on frame f in a mode `Moving from halting to since` whose first moving frame is `first`
+-- Facts on frame `f` in a mode `Moving from halting to since` whose first moving frame is `first`.
 pub record Deadlines (plan : Plan) (course : Course) (first f from : ℕ) (halting : Option ℕ) (to since : ℕ) : Type 0 where
   pub from_in : from < plan.configurations
   pub to_in : to < plan.configurations
@@ -41,14 +41,14 @@ pub record Deadlines (plan : Plan) (course : Course) (first f from : ℕ) (halti
 scaled : (a b q : ℕ) → a ≤ b → a * q ≤ b * q
 scaled a b q h = grind arith
 
--- the arithmetic of a step, over plain numbers
+-- The arithmetic of a step: frame `f` is before the end of the bound `t` that counts from frame `first`.
 pub in_time : (f first since halted h q x d p i t : ℕ) → f ≤ since + halted + p + i → since + halted ≤ first + h + d * q → d ≤ x → 1 + h + x * q + p + i ≤ t → suc f ≤ first + t
 in_time f first since halted h q x d p i t a b c e = let m : d * q ≤ x * q = grind arith in omega arith
 
 pub later : (f first since halted h q d p i k : ℕ) → f ≤ since + halted + p + i → since + halted ≤ first + h + d * q → p + i + 1 + k ≤ q → suc f + k ≤ first + h + suc d * q
 later f first since halted h q d p i k a b c = omega arith
 
--- the policy's choice: the target kept, or the choice made anew
+-- The policy either keeps the target or chooses it anew.
 wanted_by : (a b : Bool) (to t : ℕ) → ((a ≡ true) × (b ≡ true) × ((if (a && b) then to else t) ≡ to)) ⊎ (((a ≡ false) ⊎ (b ≡ false)) × ((if (a && b) then to else t) ≡ t))
 wanted_by true true to t = inl (refl, refl, refl)
 wanted_by true false to t = inr (inr refl, refl)
@@ -75,7 +75,7 @@ module _ (plan : Plan) (course : Course) (accepted : IsAcceptedPlan plan) (withi
   count : ℕ → ℕ
   count f = course_changes_upto plan course.env f
 
-  -- the window that ends in g holds the first moving frame
+  -- After a change frame, a window adds at most `plan.changes` further change frames.
   pub room_at_change : (p g : ℕ) → course_changes_at plan course.env (suc p) ≡ true → g ≤ course.frames → g < suc p + plan.window → course_changes_upto plan course.env g ≤ course_changes_upto plan course.env (suc p) + plan.changes
   room_at_change p g changed inside near =
       let few = within.few g inside in
@@ -89,7 +89,8 @@ module _ (plan : Plan) (course : Course) (accepted : IsAcceptedPlan plan) (withi
       let below = count_le plan course.env (g - plan.window) m (omega arith) in
       omega arith
 
-  -- if the choice is followed at once, a reconfiguration begins moving in a change frame
+  -- After the frame `m` in which a reconfiguration began to move, a window adds at most the number of further changes
+  -- for which the plan allows.
   pub room_of : (m : ℕ) → (plan.settles ≡ false → (p : ℕ) × (m ≡ suc p) × (course_changes_at plan course.env (suc p) ≡ true)) → (g : ℕ) → g ≤ course.frames → g < m + plan.window → course_changes_upto plan course.env g ≤ course_changes_upto plan course.env m + plan_further plan
   room_of m begins g inside near = elim (further_cases plan) [
     | inl e ↦ rw e.1 (room_anywhere m g inside near)
@@ -126,7 +127,7 @@ module _ (plan : Plan) (course : Course) (accepted : IsAcceptedPlan plan) (withi
   bound_of first f from halting to since inside d =
       rw d.chosen at (accepted.bounded from (course.env d.chosen_at) d.from_in (within.scope d.chosen_at (omega arith)) (rw d.chosen d.away))
 
-  -- SP3 of a frame: not later than the bound from the first moving frame
+  -- A moving frame is within the bound, counted from the first moving frame (SP3).
   pub in_bound : (first f from : ℕ) (halting : Option ℕ) (to since t : ℕ) → Deadlines plan course first f from halting to since → plan_least_bound plan from to ≤ t → suc f ≤ first + t
   in_bound first f from halting to since t d enough = in_time f first since (plan_halting plan halting) (plan.halting from) plan.slowest (plan_further plan) d.more (plan.preparing to) (plan.initialising to) t d.settled d.halted d.few enough
 
@@ -168,7 +169,7 @@ module _ (plan : Plan) (course : Course) (accepted : IsAcceptedPlan plan) (withi
     | inr e ↦ rw e.1 (accepted.choose_in from v known)
   ]
 
-  -- the frame in which the target of the policy was chosen
+  -- The policy's target was chosen in some frame from the first moving frame to the next frame.
   pub chosen_when : (first f from : ℕ) (halting : Option ℕ) (to since : ℕ) → Deadlines plan course first f from halting to since
       → (t : ℕ) × (first ≤ t) × (t ≤ suc f) × (plan.choose from (course.env t) ≡ course_wanted plan from to (course.env (suc f))) × (plan.settles ≡ false → t ≡ suc f)
   chosen_when first f from halting to since d = elim (wanted_cases plan from to (course.env (suc f))) [
@@ -176,7 +177,7 @@ module _ (plan : Plan) (course : Course) (accepted : IsAcceptedPlan plan) (withi
     | inr e ↦ (suc f, omega arith, omega arith, sym e.1, λ h. refl)
   ]
 
-  -- the target stays
+  -- If the policy keeps the target, then the deadlines hold in the next frame.
   pub stays : (first f from : ℕ) (halting : Option ℕ) (to since : ℕ) → suc f ≤ course.frames → Deadlines plan course first f from halting to since
       → course_wanted plan from to (course.env (suc f)) ≡ to → suc f ≤ since + plan_halting plan halting + plan.preparing to + plan.initialising to → course_mode_at plan course f ≡ Moving from halting to since
       → Deadlines plan course first (suc f) from halting to since
@@ -210,7 +211,8 @@ module _ (plan : Plan) (course : Course) (accepted : IsAcceptedPlan plan) (withi
         room = d.room;
       }
 
-  -- the policy chooses another target: the phases up to it count from `start`, and their halting phase is not over
+  -- If the policy chooses another target, then the deadlines hold in the next frame. The phases up to the target
+  -- count from `start`, and their halting phase is not over.
   turns : (first f from : ℕ) (halting new : Option ℕ) (to since start : ℕ) (inside : suc f ≤ course.frames) (d : Deadlines plan course first f from halting to since)
       → course_wanted plan from to (course.env (suc f)) ≢ to → ((h : ℕ) → new ≡ Some h → (h < plan.configurations) × ((h ≡ from) ⊎ IsPlanTarget plan from h))
       → first ≤ start → start ≤ suc f → suc f ≤ start + plan_halting plan new
@@ -242,14 +244,14 @@ module _ (plan : Plan) (course : Course) (accepted : IsAcceptedPlan plan) (withi
         room = d.room;
       }
 
-  -- if the policy chooses another target, the environment has changed
+  -- If the policy chooses another target, then the environment has changed.
   turn_changes : (first f from : ℕ) (halting : Option ℕ) (to since : ℕ) (inside : suc f ≤ course.frames) (d : Deadlines plan course first f from halting to since)
       → course_wanted plan from to (course.env (suc f)) ≢ to → suc d.more ≤ (next_count first f from halting to since inside d).next
   turn_changes first f from halting to since inside d other =
       (next_count first f from halting to since inside d).changed
       (not_false (course_changes_at plan course.env (suc f)) (λ calm. other (kept_in first f from halting to since d calm)))
 
-  -- another target, while the halting phase goes on
+  -- If the policy chooses another target while the halting phase goes on, then the deadlines hold in the next frame.
   pub turns_early : (first f from : ℕ) (halting : Option ℕ) (to since : ℕ) → suc f ≤ course.frames → Deadlines plan course first f from halting to since
       → course_wanted plan from to (course.env (suc f)) ≢ to → suc f - since < plan_halting plan halting
       → Deadlines plan course first (suc f) from halting (course_wanted plan from to (course.env (suc f))) since
@@ -259,7 +261,7 @@ module _ (plan : Plan) (course : Course) (accepted : IsAcceptedPlan plan) (withi
       turns first f from halting halting to since since inside d other d.halts d.begun (omega arith) (omega arith) (omega arith)
       (turn_changes first f from halting to since inside d other)
 
-  -- another target, and phases that begin anew
+  -- If the policy chooses another target and the phases begin anew, then the deadlines hold in the next frame.
   pub turns_anew : (first f from : ℕ) (halting new : Option ℕ) (to since : ℕ) → suc f ≤ course.frames → Deadlines plan course first f from halting to since
       → course_wanted plan from to (course.env (suc f)) ≢ to → plan_halting plan new ≤ plan.halting to → ((h : ℕ) → new ≡ Some h → h ≡ to)
       → Deadlines plan course first (suc f) from new (course_wanted plan from to (course.env (suc f))) (suc f)

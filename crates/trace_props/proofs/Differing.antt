@@ -18,7 +18,7 @@ use Rattle.trace_props.specs.Judging.{begin_told, compare, compare_with, differe
 use Rattle.trace_props.proofs.Firsts.{IsLeastOf}
 use Rattle.trace_props.proofs.Tests.{by_test}
 
--- equal reports
+-- Lemmas on equal reports.
 pub same_id : (c d : ConfId) → (c.0 == d.0) ≡ true → c ≡ d
 same_id c d h = ap conf_id (equal c.0 d.0 h)
 
@@ -51,7 +51,7 @@ report_self one =
     and_true (one.from.0 == one.from.0 && is_same_target one.to one.to && one.begin == one.begin) _
     (and_true (one.from.0 == one.from.0 && is_same_target one.to one.to) _ (and_true (one.from.0 == one.from.0) _ (equal_test one.from.0 one.from.0 refl) (target_self one.to)) (equal_test one.begin one.begin refl)) (equal_test one.end one.end refl)
 
--- equal lists
+-- Lemmas on equal lists.
 past_none : (k : ℕ) → slice_get {X = Report} [] k ≡ None
 past_none k = slice_get_past {X = Report} [] k (omega arith)
 
@@ -65,7 +65,7 @@ same_list (x ∷ xs) (y ∷ ys) h =
     let tail = same_list xs ys (λ k. h (suc k)) in
     cc
 
--- the reports agree with the first reconfigurations, or the place of their first difference is known
+-- The reports agree with the first reconfigurations, or SP1 is broken in the frame of their first difference.
 abbrev pub Agrees : List Report → List Report → ℕ → Agreement → Type 0
 Agrees told all place (Alike n) = (n ≡ place) × ((k : ℕ) → k < place → slice_get told k ≡ slice_get all k)
 Agrees told all place (Apart frame) = BreaksSp1 told all frame
@@ -106,7 +106,7 @@ agrees_all spec rows told all (r ∷ read) place rest s h =
     let here : slice_get all place ≡ Some r = ap (slice_get all) (omega arith) ∙ rest 0 in
     agrees_all spec rows told all read (suc place) (λ k. ap (slice_get all) (omega arith) ∙ rest (suc k)) (judge spec rows told s (Some r)) (agrees_next told all place r here s.agreement h)
 
--- two lists that differ have one first difference, in one frame
+-- If two lists differ, then they have one first difference, in one frame.
 places : (a b : ℕ) → (a < b) ⊎ ((b < a) ⊎ (a ≡ b))
 places a b = grind arith
 

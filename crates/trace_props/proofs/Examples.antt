@@ -29,7 +29,7 @@ use Rattle.trace_props.specs.Judging.{first_break}
 abbrev pub mode : ℕ → ModeSpec
 mode m = record { mode = record { 0 = m }; load = 20; halt = 1; prepare = 1; init = 1 }
 
--- a power monitor with two modes, and a configuration for each
+-- A power monitor with two modes, and a configuration for each.
 abbrev pub monitor : AppSpec
 monitor = record { name = 109 ∷ []; kind = record { 0 = 2 }; needs = []; modes = mode 1 ∷ mode 2 ∷ []; rank = 0 }
 
@@ -61,7 +61,7 @@ spec_of bounds policy invariants preconditions = spec_with_demands bounds policy
 abbrev pub spec : Parts
 spec = spec_of (bound 0 0 8 ∷ bound 0 1 8 ∷ bound 1 0 8 ∷ bound 1 1 8 ∷ []) Retarget [] []
 
--- rows in the order of their frames: the environment, the monitor's act, and its first two words
+-- Rows in the order of their frames, with the environment, the monitor's act, and the first two words of its area.
 abbrev env : ℕ → ℕ → Env
 env up value = record { up = up; factors = value ∷ replicate 5 0 }
 
@@ -84,7 +84,7 @@ before = env 1 0
 abbrev after : Env
 after = env 1 1
 
--- a quiet change of the environment: another set of processors, by which the table does not choose
+-- An environment with another set of processors, by which the table does not choose: a quiet change.
 abbrev other : Env
 other = env 0 0
 
@@ -97,7 +97,7 @@ cut_off begin end = record { from = conf_id 0; to = None; begin = begin; end = e
 abbrev broken : Property → ℕ → Option Broken
 broken property frame = Some (record { property = property; frame = frame })
 
--- left in frame 2, in which the environment changes, and run in frame 4
+-- The first configuration is left in frame 2, in which the environment changes, and the second runs in frame 4.
 abbrev good : List Row
 good = row before (ran 1) 1 10 ∷ row before (ran 1) 1 10 ∷ row after act.Held 1 10 ∷ row after act.Held 4 10 ∷ row after (ran 2) 1 10 ∷ []
 
@@ -107,7 +107,7 @@ holds = refl
 holds_of_no_rows : first_break spec [] [] ≡ None
 holds_of_no_rows = refl
 
--- SP1
+-- SP1 is broken in the begin at the first difference.
 not_told : first_break spec good [] ≡ broken Sp1 2
 not_told = refl
 
@@ -123,14 +123,14 @@ told_otherwise = refl
 told_beyond : first_break spec good (moved 1 2 4 ∷ moved 1 9 12 ∷ []) ≡ broken Sp1 9
 told_beyond = refl
 
--- SP2, in the end
+-- SP2 is broken in the end.
 abbrev unchosen : List Row
 unchosen = row before (ran 1) 1 10 ∷ row before (ran 1) 1 10 ∷ row other act.Held 1 10 ∷ row other act.Held 4 10 ∷ row other (ran 2) 1 10 ∷ []
 
 not_chosen : first_break spec unchosen (moved 1 2 4 ∷ []) ≡ broken Sp2 4
 not_chosen = refl
 
--- SP3, in the end or in the last row
+-- SP3 is broken in the end or in the last row.
 late : first_break (spec_of (bound 0 1 1 ∷ []) Retarget [] []) good (moved 1 2 4 ∷ []) ≡ broken Sp3 4
 late = refl
 
@@ -149,7 +149,7 @@ cut_late = refl
 cut_in_time : first_break (spec_of (bound 0 1 1 ∷ bound 0 0 2 ∷ []) Retarget [] []) unfinished (cut_off 2 4 ∷ []) ≡ None
 cut_in_time = refl
 
--- SP4, in the row
+-- SP4 is broken in the row.
 abbrev charged : Option ConfId → ℕ → Invariant
 charged from greatest = record { from = from; app = record { 0 = 0 }; variable = 1; least = pos 0; greatest = pos greatest }
 
@@ -182,14 +182,14 @@ unmet : first_break (spec_with [] (begun 1 ∷ [])) good (moved 1 2 4 ∷ []) �
 unfolding word
 unmet = refl
 
--- SP5, in the begin
+-- SP5 is broken in the begin.
 abbrev causeless : List Row
 causeless = row after (ran 1) 1 10 ∷ row after (ran 1) 1 10 ∷ row after act.Held 1 10 ∷ row after act.Held 4 10 ∷ row after (ran 2) 1 10 ∷ []
 
 no_cause : first_break spec causeless (moved 1 2 4 ∷ []) ≡ broken Sp5 2
 no_cause = refl
 
--- frame 0 is compared with the environment in which a flight opens, and a change in the next row suffices
+-- Frame 0 is compared with the environment in which a flight opens, and a change in the next row suffices.
 at_once : first_break spec (row before act.Held 1 10 ∷ row before act.Held 1 10 ∷ []) (cut_off 0 2 ∷ []) ≡ broken Sp5 0
 at_once = refl
 
@@ -202,7 +202,7 @@ caused_next = refl
 not_asked : first_break spec (row before (ran 1) 1 10 ∷ row before act.Lost 1 10 ∷ []) (cut_off 1 2 ∷ []) ≡ None
 not_asked = refl
 
--- a reconfiguration that begins as another one ends, which saw a change; settled targets may be left in this way
+-- A reconfiguration that begins as another one ends, which saw a change. Settled targets may be left in this way.
 abbrev followed : List Row
 followed =
     row before (ran 1) 1 10 ∷ row after act.Held 1 10 ∷ row before act.Held 4 10 ∷ row before (ran 2) 1 10 ∷ row before act.Held 1 10 ∷ row before act.Held 4 10 ∷ row before (ran 1) 1 10 ∷ []
@@ -216,7 +216,7 @@ settled = refl
 chosen_anew : first_break (spec_of (bound 0 1 8 ∷ bound 1 0 8 ∷ []) Retarget [] []) followed (moved 1 1 3 ∷ back ∷ []) ≡ broken Sp5 4
 chosen_anew = refl
 
--- SP6, in a calm row: the second configuration is demanded everywhere, from every source
+-- SP6 is broken in a calm row: the second configuration is demanded everywhere, from every source.
 abbrev second_wanted : Demand
 second_wanted = record { name = []; from = 0; wants = []; up = 0; down = 0; to = 2; on = replicate 8 None; off = 0 }
 
@@ -251,7 +251,7 @@ nothing_asked = refl
 lost_not_calm : first_break (demanding (bound 0 1 2 ∷ []) second_wanted) (steady before ∷ steady before ∷ row before act.Lost 1 10 ∷ []) (cut_off 2 3 ∷ []) ≡ None
 lost_not_calm = refl
 
--- the first frame comes first, and in one frame the smallest number
+-- The break in the earliest frame comes first, and within one frame the property with the smallest number.
 earlier_frame : first_break spec (row before (ran 1) 1 10 ∷ row before act.Held 1 10 ∷ row before act.Held 4 10 ∷ row before (ran 2) 1 10 ∷ []) (moved 1 1 3 ∷ []) ≡ broken Sp5 1
 earlier_frame = refl
 

@@ -28,7 +28,7 @@ pub first_moved : (A B : Property → ℕ → Type 0) → ((p : Property) (g : �
 first_moved A B to from None h = λ p g b. h p g (from p g b)
 first_moved A B to from (Some x) h = (to x.property x.frame h.0, λ p g b. h.1 p g (from p g b))
 
--- the smaller of two first frames
+-- Lemmas on the smaller of two first frames.
 le_cases : (a b : ℕ) → (a ≤ b) ⊎ (b ≤ a)
 le_cases a b = grind arith
 
@@ -50,7 +50,7 @@ least_lesser A B None (Some f) h k = (inr k.0, λ g e. elim e [ inl x ↦ absurd
 least_lesser A B (Some f) None h k = (inl h.0, λ g e. elim e [ inl x ↦ h.1 g x | inr y ↦ absurd (k g y) ])
 least_lesser A B (Some f) (Some g) h k = (lesser_of A B f g h.0 k.0 (min f g) refl, λ n e. either_le A B f g n h.1 k.1 e)
 
--- the order of two breaks
+-- Lemmas on the order of two breaks.
 same_or_less : (a b : ℕ) → a ≤ b → (a < b) ⊎ (a ≡ b)
 same_or_less a b h = grind arith
 
@@ -105,7 +105,7 @@ first_earlier A B (Some a) (Some b) h k = by_test {A = Option Broken} (IsFirstOf
       ],
     ))
 
--- the breaks of one property
+-- Lemmas on the breaks of one property.
 alone : (p q : Property) (f g : ℕ) → q ≡ p → f ≤ g → ComesBefore p f q g
 alone p q f g e h = elim (same_or_less f g h) [
   | inl less ↦ inl less
@@ -130,7 +130,7 @@ none_right None b h = h
 none_right (Some a) None h = refl
 none_right (Some a) (Some b) h = absurd (by_test {A = Option Broken} (λ o. o ≡ None → ⊥) (comes_before b a) (Some b) (Some a) (λ _ e. cc) (λ _ e. cc) h)
 
--- a test of the frames from one on
+-- Frame `f` is one of the `n` frames from `i` on, and passes the test.
 pub record InSpan (test : ℕ → Bool) (i n f : ℕ) : Type 0 where
   pub from : i ≤ f
   pub up_to : f < i + n

@@ -7,7 +7,7 @@ use Rattle.scram_types.proofs.Booleans.{and_left}
 use Rattle.scram_types.proofs.Naturals.{below, not_below}
 use Rattle.trace_props.proofs.Tests.{by_test}
 
--- some bound is the greatest, and at least t
+-- The greatest bound exists and is at least `t`.
 pub record IsAtLeast (greatest : Option ℕ) (t : ℕ) : Type 0 where
   pub bound : ℕ
   pub is : greatest ≡ Some bound
@@ -20,7 +20,7 @@ greater_new : (greatest : Option ℕ) (frames : ℕ) → frames ≤ greater_of g
 greater_new None frames = omega arith
 greater_new (Some most) frames = by_test (λ n. frames ≤ n) (nat_lt most frames) _ _ (λ e. omega arith) (λ e. not_below most frames e)
 
--- the greatest bound so far is at most the greatest of all
+-- If the greatest bound so far is at least `t`, then so is the greatest bound of all.
 at_least : (most t i : ℕ) (bounds : List Bound) → t ≤ most → IsAtLeast (greatest_bound_from (Some most) bounds i) t
 at_least most t i [] enough = record { bound = most; is = refl; enough = enough }
 at_least most t i (bound ∷ bounds) enough =

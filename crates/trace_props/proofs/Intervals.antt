@@ -24,14 +24,14 @@ use Rattle.trace_props.proofs.Products.{build_of, is_env, halting_number, plan_o
 use Rattle.trace_props.specs.Judging.{lies_in}
 use Rattle.trace_props.proofs.Ranging.{area_of, area_test, laws_of, lies_held, range_of}
 
--- an invariant, and a precondition, as the law states them
+-- An invariant, as the law states it.
 abbrev pub invariant_of : told_invariants.Invariant → CourseInvariant
 invariant_of inv = record { source = halting_number inv.from; app = inv.app.0; holds = λ v. lies_in inv.least inv.greatest (word v inv.variable) }
 
 abbrev pub precondition_of : told_preconditions.Precondition → CoursePrecondition
 precondition_of pre = record { conf = pre.conf.0; app = pre.app.0; holds = λ v. lies_in pre.least pre.greatest (word v pre.variable) }
 
--- the source of an invariant
+-- If an invariant's source includes `i` under the law, then it includes `i` in the specification.
 source_is : (from : Option ConfId) (i : ℕ) → SpeaksOfSource (halting_number from) i → has_source from (conf_id i) ≡ true
 source_is None i h = refl
 source_is (Some c) i h = rw h (equal_test i i refl)
@@ -53,7 +53,8 @@ module _ (spec : Parts) (sound : IsSpec spec) (accepts : Accepts spec) where
     small : inv.variable < 8
     small = let few = (sound.invariants k inv there).interval.is_variable in omega arith
 
-    -- the ranges of an act in a mode are held if the interval holds them
+    -- If an invariant holds the ranges of an act in a mode, then its interval holds the word of each area in these
+    -- ranges.
     held_during : (act mode : ℕ) (v : List ℤ) → holds_during spec inv act mode ≡ true → area_test (during (kind_of_app spec inv.app.0) act mode) v ≡ true → lies_in inv.least inv.greatest (word v inv.variable) ≡ true
     held_during act mode v h lies =
         lies_held inv.least inv.greatest _ _ (word v inv.variable) h (area_of (during (kind_of_app spec inv.app.0) act mode) v lies inv.variable small)
@@ -61,7 +62,8 @@ module _ (spec : Parts) (sound : IsSpec spec) (accepts : Accepts spec) where
     held_off : (v : List ℤ) → holds_off inv ≡ true → area_test (λ i. (pos 0, pos 0)) v ≡ true → lies_in inv.least inv.greatest (word v inv.variable) ≡ true
     held_off v h lies = lies_held inv.least inv.greatest (pos 0) (pos 0) (word v inv.variable) h (area_of (λ i. (pos 0, pos 0)) v lies inv.variable small)
 
-    -- the ranges that are held while a place is left, and while it is reached
+    -- If an invariant holds the ranges in which a place is left, or in which it is reached, then it holds the ranges
+    -- of each act there.
     init_held : (p : Place) → holds_leaving spec inv (Some p) ≡ true → holds_during spec inv 4 p.mode.0 ≡ true
     init_held p h = and_left (holds_during spec inv 4 p.mode.0) (holds_during spec inv 1 p.mode.0) (and_left (holds_during spec inv 4 p.mode.0 && holds_during spec inv 1 p.mode.0) _ h)
 
@@ -82,7 +84,8 @@ module _ (spec : Parts) (sound : IsSpec spec) (accepts : Accepts spec) where
       kept : acceptance.IsKept spec inv (conf_id i)
       kept = accepts.kept k inv there (conf_id i) known (source_is inv.from i speaks)
 
-      -- if the application has this place in i or in a possible target of i
+      -- If the application has this place in `i` or in a possible target of `i`, then the invariant holds the ranges
+      -- in which it is left.
       left_at : (o : Option Place) → IsPlacedInEither (plan_of spec) (build_of spec) i inv.app.0 o → holds_leaving spec inv o ≡ true
       left_at o site = elim site [
         | inl here ↦ rw here at kept.leaving

@@ -25,7 +25,7 @@ use Rattle.trace_props.proofs.AreasJudged.{sp4_kept, sp4_least}
 use Rattle.trace_props.proofs.CalmJudged.{sp6_least}
 use Rattle.trace_props.proofs.CausesJudged.{IsJustBefore, sp5_judged}
 
--- a reconfiguration keeps SP2 to SP5
+-- A reconfiguration keeps SP2 to SP5.
 record Keeps (spec : Parts) (rows : List Row) (r : Report) : Type 0 where
   sp2 : KeepsSp2 spec rows r
   sp3 : KeepsSp3 spec r
@@ -83,7 +83,7 @@ module _ (spec : Parts) (rows : List Row) (before : Option Report) (r : Report) 
             (none_at Sp5 (causeless_at spec rows before r) (none_right (broken_at Sp4 (unkept_at spec rows r)) (broken_at Sp5 (causeless_at spec rows before r)) late));
       }
 
--- a break by one of the first reconfigurations of a list
+-- One of the first `n` reconfigurations of a list breaks property `p` in frame `g`.
 record BreaksBelow (spec : Parts) (rows : List Row) (all : List Report) (n : ℕ) (p : Property) (g : ℕ) : Type 0 where
   place : ℕ
   below : place < n
@@ -91,7 +91,7 @@ record BreaksBelow (spec : Parts) (rows : List Row) (all : List Report) (n : ℕ
   there : slice_get all place ≡ Some r
   broken : BreaksIn spec rows r p g
 
--- the facts after the first reconfigurations; low: the frame in which the last of them ended
+-- The facts after the first `n` reconfigurations are judged. The last of them ended before frame `low`.
 record IsJudged (spec : Parts) (rows : List Row) (all : List Report) (n low : ℕ) (s : Judgement) : Type 0 where
   first : IsFirstOf (BreaksBelow spec rows all n) s.broken
   kept : s.broken ≡ None → (k : ℕ) (x : Report) → k < n → slice_get all k ≡ Some x → Keeps spec rows x
@@ -106,7 +106,7 @@ module _ (spec : Parts) (rows : List Row) (told : List Report) where
     here : slice_get Read n ≡ Some r
     here = ap (slice_get Read) (omega arith) ∙ rest 0
 
-    -- the one before, if it ended in the frame before
+    -- A reconfiguration that ended in the frame before the begin of `r` is the one that was judged last.
     only : (place : ℕ) (x : Report) → slice_get Read place ≡ Some x → suc x.end ≡ r.begin → s.before ≡ Some x
     only place x there last = elim (low_or_past place n) [
       | inl less ↦ elim (h.past place x less there).1 [
@@ -173,7 +173,7 @@ module _ (spec : Parts) (rows : List Row) (told : List Report) where
   judged : (m : ℕ) × (end : ℕ) × ((k : ℕ) → slice_get Read (m + k) ≡ None) × IsJudged spec rows Read m end Final
   judged = judged_all Read 0 0 opening_judgement from_zero (ordered_reports spec rows) opened
 
-  -- no reconfiguration is past all that were judged
+  -- If the list of reconfigurations ends at index `m`, then each index of a reconfiguration is below `m`.
   below_all : (m : ℕ) → ((k : ℕ) → slice_get Read (m + k) ≡ None) → (place : ℕ) (x : Report) → slice_get Read place ≡ Some x → place < m
   below_all m ended place x there = elim (low_or_past place m) [
     | inl less ↦ less
@@ -244,7 +244,7 @@ module _ (spec : Parts) (rows : List Row) (told : List Report) where
             (none_at Sp6 (unsatisfied_at spec rows) (none_right (first_in_reports spec rows told) (broken_at Sp6 (unsatisfied_at spec rows)) all));
       }
 
-  -- if all hold, nothing is broken
+  -- If all properties hold, then none is broken in any frame.
   pub unbroken_of : HoldsAll spec rows told → (p : Property) (g : ℕ) → BreaksAt spec rows told p g → ⊥
   unbroken_of h Sp1 g b = b.differ (ap (λ xs. slice_get xs b.place) h.sp1)
   unbroken_of h Sp2 g b = b.broken.0 (h.sp2 b.place b.reconfiguration b.there)

@@ -12,21 +12,24 @@ use Rattle.frame_model.specs.Readings.{arrival, arrive, as_list, close, ended_in
 use Rattle.frame_model.specs.Runs.{running, runs}
 use Rattle.trace_props.proofs.Tests.{by_test}
 
--- the reconfigurations still to be read in rows, the first of which is the row of frame f, and after n rows in all
+-- The reconfigurations still to be read. The first of the rows is the row of frame `f`, and there are `n` rows in
+-- all.
 abbrev pub still_read : Parts → Reading → ℕ → List Row → ℕ → List Report
 still_read spec rd f rows n = ended_in spec rd f rows ++ as_list (close (reading_after spec rd f rows) n)
 
--- each begins at or after a frame, ends at or after its begin, and the next begins after that
+-- Each reconfiguration begins at or after frame `low` and ends at or after its begin, and the next one begins after
+-- its end.
 abbrev pub Ordered : ℕ → List Report → Type 0
 Ordered low [] = Unit {0}
 Ordered low (r ∷ read) = (low ≤ r.begin) × (r.begin ≤ r.end) × Ordered (suc r.end) read
 
--- the reconfiguration under way began at or after a frame and before another
+-- A reconfiguration under way began at or after frame `low` and at or before frame `f`.
 abbrev BeginsIn : Reading → ℕ → ℕ → Type 0
 BeginsIn (Steady c) low f = low ≤ f
 BeginsIn (Leaving c begin) low f = (low ≤ begin) × (begin ≤ f)
 
--- a reconfiguration under way ends in a row, or continues
+-- If the reconfiguration under way ends in the row of frame `f` or continues, then the reconfigurations still to be
+-- read are in order.
 arrived : (spec : Parts) (rows : List Row) (c : ConfId) (begin low f n : ℕ) (o : Option ConfId) → low ≤ begin → begin ≤ f
     → Ordered low (still_read spec (Leaving c begin) (suc f) rows n) → ((j : ConfId) → Ordered (suc f) (still_read spec (Steady j) (suc f) rows n))
     → Ordered low ((as_list (arrival c begin f o) ++ ended_in spec (arrive c begin o) (suc f) rows) ++ as_list (close (reading_after spec (arrive c begin o) (suc f) rows) n))
@@ -47,7 +50,7 @@ ordered_from spec (row ∷ rows) (Leaving c begin) low f n begins count =
 pub ordered_reports : (spec : Parts) (rows : List Row) → Ordered 0 (reports spec rows)
 ordered_reports spec rows = ordered_from spec rows (Steady spec.start) 0 0 (length rows) (omega arith) (omega arith)
 
--- no reconfiguration of such a list ends before
+-- No reconfiguration of an ordered list ends before frame `low`.
 pub ends_after : (low : ℕ) (read : List Report) → Ordered low read → (k : ℕ) (x : Report) → slice_get read k ≡ Some x → low ≤ x.end
 ends_after low [] o k x e = absurd (let no : ◌≡◌ {A = Option Report} None (Some x) = sym (slice_get_past {X = Report} [] k (omega arith)) ∙ e in cc)
 ends_after low (r ∷ read) o zero x e = let same : r ≡ x = cc in let a = o.0 in let b = o.1 in rw (← same) (omega arith)

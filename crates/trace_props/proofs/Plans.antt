@@ -19,26 +19,26 @@ pub record Plan : Type 0 where
   pub differ : Env → Env → Bool
   pub bound : ℕ → ℕ → Option ℕ
 
--- the number of further changes that a reconfiguration may see
+-- The number of further changes that a reconfiguration may see.
 abbrev pub plan_further : Plan → ℕ
 plan_further plan = if plan.settles then suc plan.changes else plan.changes
 
--- the length of the halting phase of a configuration, or of none
+-- The length of the halting phase of a configuration, or 0 if there is none.
 abbrev pub plan_halting : Plan → Option ℕ → ℕ
 plan_halting plan None = 0
 plan_halting plan (Some c) = plan.halting c
 
--- the smallest bound that suffices for a change from i to j
+-- The smallest bound that suffices for a change from `i` to `j`.
 abbrev pub plan_least_bound : Plan → ℕ → ℕ → ℕ
 plan_least_bound plan i j = 1 + plan.halting i + plan_further plan * plan.slowest + plan.preparing j + plan.initialising j
 
--- j is chosen from i in some environment in scope
+-- Configuration `j` is chosen from `i` in some environment in scope.
 pub record IsPlanTarget (plan : Plan) (i j : ℕ) : Type 0 where
   pub seen : Env
   pub scope : plan.in_scope seen ≡ true
   pub chosen : plan.choose i seen ≡ j
 
--- the facts on an accepted plan
+-- The facts on an accepted plan.
 pub record IsAcceptedPlan (plan : Plan) : Type 0 where
   pub start_in : plan.start < plan.configurations
   pub choose_in : (c : ℕ) (v : Env) → c < plan.configurations → plan.choose c v < plan.configurations

@@ -27,11 +27,11 @@ use Rattle.trace_props.proofs.CourseModes.{CourseMode, CourseMode.Stable, Course
 use Rattle.trace_props.proofs.Courses.{Course}
 use Rattle.trace_props.proofs.CourseRows.{CoursePhase, CoursePhase.Running, CoursePhase.Halting, CoursePhase.Preparing, CoursePhase.Initialising, Build}
 
--- Factor x has one of its values, or 0 if there is no such factor.
+-- Factor `x` has one of its values, or 0 if there is no such factor.
 abbrev pub has_value : Parts → Env → ℕ → Bool
 has_value spec v x = nat_lt (factor_in v x) (option_map_or (λ (factor : Factor). length factor.values) (slice_get spec.factors x) 1)
 
--- The test that an environment belongs to the specification.
+-- Whether an environment belongs to the specification.
 abbrev pub is_env : Parts → Env → Bool
 is_env spec v = nat_lt v.up (2 ^ length spec.procs) && (length v.factors == 6 && all_below (has_value spec v) 6)
 
@@ -70,7 +70,7 @@ build_of spec = record {
   is_up = λ p v. is_up_in v p;
 }
 
--- Row f runs configuration c.
+-- Whether row `f` runs configuration `c`.
 abbrev pub runs_in_row : Parts → ScriptParts → ℕ → ℕ → Bool
 runs_in_row spec script f c = runs spec (row_at spec script f).acts (conf_id c)
 

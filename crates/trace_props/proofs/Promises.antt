@@ -4,7 +4,7 @@ use Rattle.trace_props.proofs.Plans.{Plan, IsAcceptedPlan, plan_further, plan_ha
 use Rattle.trace_props.proofs.CourseModes.{CourseMode, CourseMode.Stable, CourseMode.Moving}
 use Rattle.trace_props.proofs.Courses.{Course, CourseReading, CourseReading.Steady, CourseReading.Leaving, CourseReport, course_reading_before, course_report_at, course_changes_at, course_changes_upto, course_mode_at, IsCourseWithin, IsCourseFlown}
 
--- a reconfiguration that begins at s follows another one, which saw a change after its begin
+-- A reconfiguration that begins in frame `s` follows another one, which saw a change after its begin.
 pub record CourseFollows (plan : Plan) (course : Course) (s : ℕ) : Type 0 where
   pub settles : plan.settles ≡ true
   pub before : CourseReport
@@ -18,7 +18,7 @@ pub record CourseFollows (plan : Plan) (course : Course) (s : ℕ) : Type 0 wher
 abbrev pub CourseHasCause : Plan → Course → ℕ → Type 0
 CourseHasCause plan course s = (course_changes_at plan course.env s ≡ true) ⊎ (course_changes_at plan course.env (suc s) ≡ true) ⊎ CourseFollows plan course s
 
--- SP2, SP3, SP5 of a finished reconfiguration
+-- SP2, SP3 and SP5 of a finished reconfiguration.
 pub record IsCourseAssured (plan : Plan) (course : Course) (r : CourseReport) : Type 0 where
   pub chosen_at : ℕ
   pub chosen_from : r.begin ≤ chosen_at
@@ -29,7 +29,7 @@ pub record IsCourseAssured (plan : Plan) (course : Course) (r : CourseReport) : 
   pub in_time : r.end ≤ r.begin + bound
   pub cause : CourseHasCause plan course r.begin
 
--- SP3, SP5 of a reconfiguration that the course's end cuts off
+-- SP3 and SP5 of a reconfiguration that the course's end cuts off.
 pub record IsCourseCutOff (plan : Plan) (course : Course) (c s : ℕ) : Type 0 where
   pub to : ℕ
   pub bound : ℕ
@@ -44,7 +44,7 @@ pub record IsCourseAllAssured (plan : Plan) (course : Course) : Type 0 where
 abbrev pub Reconfigures : Type 0
 Reconfigures = (plan : Plan) (course : Course) → IsAcceptedPlan plan → IsCourseWithin plan course → IsCourseFlown plan course → IsCourseAllAssured plan course
 
--- the first moving frame of a reconfiguration that began at s
+-- The first moving frame of a reconfiguration that began in frame `s`.
 abbrev pub course_first_moving_in : CourseMode → ℕ → ℕ
 course_first_moving_in (Stable c) s = suc s
 course_first_moving_in (Moving from halting to since) s = s
@@ -52,16 +52,16 @@ course_first_moving_in (Moving from halting to since) s = s
 abbrev pub course_first_moving : Plan → Course → ℕ → ℕ
 course_first_moving plan course s = course_first_moving_in (course_mode_at plan course s) s
 
--- the begin of the reconfiguration to which a moving frame belongs
+-- The begin of the reconfiguration to which a moving frame belongs.
 abbrev pub course_begin_of : CourseReading → ℕ → ℕ
 course_begin_of (Steady c) f = f
 course_begin_of (Leaving c s) f = s
 
--- change frames after the first moving frame and up to f
+-- The number of change frames after the first moving frame and up to frame `f`.
 abbrev pub course_further_changes : Plan → Course → ℕ → ℕ → ℕ
 course_further_changes plan course s f = course_changes_upto plan course.env f - course_changes_upto plan course.env (course_first_moving plan course s)
 
--- the central facts of a moving frame f, in a reconfiguration that began at s
+-- The central facts on a moving frame `f` in a reconfiguration that began in frame `s`.
 pub record CentralFacts (plan : Plan) (course : Course) (s f from : ℕ) (halting : Option ℕ) (to since : ℕ) : Type 0 where
   pub runnable : plan.is_runnable to (course.env f) ≡ true
   pub chosen_at : ℕ

@@ -41,21 +41,21 @@ use Rattle.trace_props.proofs.SameActs.{committed, phase_same}
 pub int_trans : (a b c : ℤ) → a ≤ℤ b → b ≤ℤ c → a ≤ℤ c
 int_trans a b c h k = omega (arith, ints)
 
--- x lies in an interval
+-- If `x` is between two ends, then the test that it lies in their interval returns `true`.
 pub lies_is : (low high x : ℤ) → Between (low, high) x → lies_in low high x ≡ true
 lies_is low high x h = and_true (int_le low x) (int_le x high) (int_is low x h.least) (int_is x high h.greatest)
 
 pub lies_of : (low high x : ℤ) → lies_in low high x ≡ true → Between (low, high) x
 lies_of low high x h = record { least = int_of low x (and_left (int_le low x) _ h); greatest = int_of x high (and_right (int_le low x) _ h) }
 
--- an interval that holds a range holds each number within the range
+-- An interval that holds a range holds each number within the range.
 pub lies_held : (low high least most x : ℤ) → (int_le low least && int_le most high) ≡ true → Between (least, most) x → lies_in low high x ≡ true
 lies_held low high least most x h between =
     let l = int_of low least (and_left (int_le low least) _ h) in
     let m = int_of most high (and_right (int_le low least) _ h) in
     lies_is low high x (record { least = int_trans low least x l between.least; greatest = int_trans x most high between.greatest m })
 
--- each word of an area lies in its range
+-- Whether each word of an area lies in its range.
 abbrev pub area_test : (ℕ → ℤ × ℤ) → List ℤ → Bool
 area_test range area = all_below (λ i. lies_in (range i).0 (range i).1 (word area i)) 8
 
@@ -65,7 +65,7 @@ area_is range area h = each_all (λ i. lies_in (range i).0 (range i).1 (word are
 pub area_of : (range : ℕ → ℤ × ℤ) (area : List ℤ) → area_test range area ≡ true → (i : ℕ) → i < 8 → Between (range i) (word area i)
 area_of range area h i below = lies_of (range i).0 (range i).1 (word area i) (all_at (λ i. lies_in (range i).0 (range i).1 (word area i)) 8 h i below)
 
--- the ranges of the act that wrote an area last
+-- The ranges of the act that wrote an area last.
 abbrev pub range_of : ℕ → Written → ℕ → ℤ × ℤ
 range_of kind (DidRun p) = during kind 1 p.mode.0
 range_of kind (DidHalt p) = during kind 2 p.mode.0
@@ -112,7 +112,7 @@ eight_or value d (suc (suc (suc (suc (suc (suc zero)))))) h = refl
 eight_or value d (suc (suc (suc (suc (suc (suc (suc zero))))))) h = refl
 eight_or value d (suc (suc (suc (suc (suc (suc (suc (suc a)))))))) h = absurd (omega arith)
 
--- the task of an order
+-- The task of an order.
 abbrev pub task_of_order : CourseOrder → Task
 task_of_order (Run p) = tasks.task_at order.Run p
 task_of_order (Halt k n p) = tasks.task_at (order.Halt k n) p
@@ -152,7 +152,7 @@ task_same spec (told.Halting c age) a = halting_task (halt_offset spec c a) (hal
 task_same spec (told.Preparing c age) a = preparing_task (prepare_time spec c a) age (place_of spec c a)
 task_same spec (told.Initialising c age) a = init_task (init_offset spec c a) (init_time spec c a) age (place_of spec c a)
 
--- the facts on the laws of the kinds
+-- The facts on the laws of the kinds.
 pub record KindsLie : Type 0 where
   pub during : LawLiesDuring
   pub initialised : LawLiesAfterInit
@@ -193,7 +193,7 @@ module _ (spec : Parts) (sound : IsSpec spec) (kinds : KindsLie) where
   init_by a k n p true old new h last = (h, last)
   init_by a k n p false old new h last = refl
 
-  -- the area that an order leaves
+  -- The area that an order leaves is filled as the order's act requires.
   filled_order : (v : Env) (state : State) (commits : ℕ → Bool) (a : ℕ) (x : CourseOrder) → IsAreaFilled (laws_of spec) a (course_act_of commits x) (area_at state.areas a) (area_after spec v commits state (task_of_order x) a)
   filled_order v state commits a (Run p) =
       ran_by a p (commits p.proc.0) (area_at state.areas a) (law_of spec v state (tasks.task_at order.Run p) a)
@@ -213,7 +213,7 @@ module _ (spec : Parts) (sound : IsSpec spec) (kinds : KindsLie) where
   filled_order v state commits a Off = zeros_lie
 
   module _ (script : ScriptParts) where
-    -- the area of an application after this number of frames
+    -- The area of application `a` after `f` frames.
     abbrev pub area : ℕ → ℕ → List ℤ
     area f a = area_at (state_after spec script f).areas a
 

@@ -28,7 +28,7 @@ use Rattle.trace_props.proofs.Tests.{by_test}
 use Rattle.trace_props.proofs.Products.{build_of, course_of, has_value, is_env, plan_of}
 use Rattle.trace_props.proofs.SameActs.{committed, runs_same}
 
--- every course opens with all processors up and each factor at its first value
+-- Every course opens with all processors up and each factor at its first value.
 all_bits : (n : ℕ) → suc (bits_below (λ p. true) n) ≡ 2 ^ n
 all_bits zero = refl
 all_bits (suc n) = let before = all_bits n in grind (arith, before)
@@ -52,7 +52,7 @@ opens spec script fits = made _ _ _ _ (let all = all_bits (length spec.procs) in
     sixth : {a b c d e f : ℕ} → a ≡ 0 → b ≡ 0 → c ≡ 0 → d ≡ 0 → e ≡ 0 → f ≡ 0 → ◌≡◌ {A = List ℕ} (a ∷ b ∷ c ∷ d ∷ e ∷ f ∷ []) (0 ∷ 0 ∷ 0 ∷ 0 ∷ 0 ∷ 0 ∷ [])
     sixth p q r s t u = rw (p, q, r, s, t, u) refl
 
--- every environment of a script belongs to the specification
+-- Every environment of a script belongs to the specification.
 six_at : (spec : Parts) (script : ScriptParts) (f x : ℕ) → x < 6 → factor_in (env_at spec script f) x ≡ factor_at script x f
 six_at spec script f zero h = refl
 six_at spec script f (suc zero) h = refl
@@ -81,7 +81,7 @@ belongs spec script f shows =
         let there = six_at spec script f x below in
         rw (some.1, there) (below_test (factor_at script x f) (length some.0.values) (shows.values x some.0 some.1))
 
--- the processors that are down in an environment are those that are not up
+-- The processors that are down in an environment are those that are not up.
 bit_up : (v : Env) (p : ℕ) → bit_at v.up p ≡ 1 → is_up_in v p ≡ true
 bit_up v p h = rw h refl
 

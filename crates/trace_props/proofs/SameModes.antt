@@ -39,7 +39,7 @@ wanted_same : (policy : Policy) (spec : Parts) (from to : ConfId) (v : Env)
 wanted_same Retarget spec from to v = refl
 wanted_same Settle spec from to v = wanted_if (is_runnable spec to v) to (choose spec from v)
 
--- an order of tests over both kinds of modes
+-- The mode that three tests pick among the kernel's modes is the law's mode that they pick.
 four_ways : (a b c : Bool) (w x y z : KMode) → course_mode_of (if a then w else (if b then x else (if c then y else z))) ≡ (if a then course_mode_of w else (if b then course_mode_of x else (if c then course_mode_of y else course_mode_of z)))
 four_ways true b c w x y z = refl
 four_ways false true c w x y z = refl

@@ -11,7 +11,7 @@ use Rattle.frame_model.specs.declared.readings.Reading.TheVariants.{Steady, Leav
 use Rattle.frame_model.specs.Readings.{arrival, arrive, as_list, close, ended_in, read_row, reading_after, report_of, reports}
 use Rattle.frame_model.specs.Runs.{running, runs}
 
--- a reconfiguration under way has had its row
+-- The number of reconfigurations that are under way: 1, or 0 if there is none.
 abbrev begun : Reading → ℕ
 begun (Steady c) = 0
 begun (Leaving c begin) = 1

@@ -19,7 +19,7 @@ use Rattle.trace_props.proofs.Tests.{by_test}
 use Rattle.trace_props.proofs.Differing.{same_id}
 use Rattle.scram_types.specs.Lookups.{env_in}
 
--- a property of one reconfiguration, broken in one frame or kept
+-- A property of one reconfiguration is kept if no frame is given, and fails in the given frame otherwise.
 abbrev pub Judges : Type 0 → ℕ → Option ℕ → Type 0
 Judges Keeps frame None = Keeps
 Judges Keeps frame (Some f) = Fails Keeps × (f ≡ frame)
@@ -28,14 +28,14 @@ pub least_judged : (Keeps : Type 0) (frame : ℕ) (o : Option ℕ) → Judges Ke
 least_judged Keeps frame None h = λ g b. b.0 h
 least_judged Keeps frame (Some f) h = (h, λ g b. (let e = h.1 in let k = b.1 in omega arith))
 
--- the frames of a reconfiguration
+-- A frame of a reconfiguration that passes a test is in the span of the test from the begin on.
 pub in_span : (test : ℕ → Bool) (r : Report) (f : ℕ) → r.begin ≤ f → f ≤ r.end → test f ≡ true → InSpan test r.begin (r.end + 1 - r.begin) f
 in_span test r f from up_to passes = record { from = from; up_to = omega arith; passes = passes }
 
 pub up_to_end : (begin end f : ℕ) → begin ≤ f → f < begin + (end + 1 - begin) → f ≤ end
 up_to_end begin end f from inside = omega arith
 
--- SP2
+-- Lemmas on SP2.
 module _ (spec : Parts) (rows : List Row) (from to : ConfId) where
   choice_of : (f : ℕ) (o : Option Row) → slice_get rows f ≡ o → chooses_in spec from to o ≡ true → (row : Row) × (slice_get rows f ≡ Some row) × (choose spec from row.env ≡ to)
   choice_of f None e h = absurd (true_false false h refl)
@@ -75,7 +75,7 @@ module _ (spec : Parts) (rows : List Row) (r : Report) where
   pub sp2_judged : Judges (KeepsSp2 spec rows r) r.end (unchosen_at spec rows r)
   sp2_judged = unchosen_judged r.to refl
 
--- SP3
+-- Lemmas on SP3.
 late_judged : (spec : Parts) (r : Report) (o : Option ℕ) → bound_on spec r.from r.to ≡ o → Judges (KeepsSp3 spec r) (last_frame r) (late_by r o)
 late_judged spec r None e = ((λ keeps. some_none keeps.bound (sym (sym e ∙ keeps.given))), refl)
 late_judged spec r (Some bound) e = by_test {A = Option ℕ} (Judges (KeepsSp3 spec r) (last_frame r)) (nat_le (r.end - r.begin) bound) None (Some (last_frame r))

@@ -94,7 +94,7 @@ module _ (spec : Parts) (script : ScriptParts) where
           ]
         ]
 
-    -- the timing properties of a reconfiguration
+    -- The timing properties of a reconfiguration.
     pub record KeepsTimes (r : told_reports.Report) : Type 0 where
       pub sp2 : KeepsSp2 spec (rows_of spec script) r
       pub sp3 : KeepsSp3 spec r

@@ -148,12 +148,12 @@ is_mission = record {
   within = (leaves_nowhere spec script).within refl;
 }
 
--- it has a reconfiguration
+-- The mission has one reconfiguration.
 moves_once : reports_of spec script ≡ moved 1 3 6 ∷ []
 moves_once = refl
 
--- its last row is calm, since the greatest bound is 8 and the environment the same from frame 3 on, and runs the chosen
--- configuration
+-- The mission's last row is calm and runs the chosen configuration. The greatest bound is 8, and the environment is
+-- the same from frame 3 on.
 settled_last : running spec (row_at spec script 11).acts ≡ Some (record { 0 = 1 })
 settled_last = refl
 

@@ -25,7 +25,8 @@ property_number Sp6 = 6
 abbrev pub Fails : Type 0 → Type 0
 Fails Fact = Fact → ⊥
 
--- The smaller begin of two optional reconfigurations, the begin of the only one, or none.
+-- The smaller begin of two optional reconfigurations, the begin of the only one present, or `None` if both are
+-- absent.
 abbrev pub lesser_begin : Option Report → Option Report → Option ℕ
 lesser_begin None None = None
 lesser_begin (Some one) None = Some one.begin

@@ -34,13 +34,13 @@ use Rattle.scram_types.specs.Lookups.{env_before, env_in}
 abbrev pub comes_before : Broken → Broken → Bool
 comes_before one other = nat_lt one.frame other.frame || (one.frame == other.frame && nat_lt (property_number one.property) (property_number other.property))
 
--- The earlier of two optional breaks, the only one, or none.
+-- The earlier of two optional breaks, the only one present, or `None` if both are absent.
 abbrev pub earlier : Option Broken → Option Broken → Option Broken
 earlier None other = other
 earlier (Some one) None = Some one
 earlier (Some one) (Some other) = if comes_before other one then Some other else Some one
 
--- The break of a property in a frame, or none if there is no frame.
+-- The break of a property in a frame, or `None` if `frame` is `None`.
 abbrev pub broken_at : Property → Option ℕ → Option Broken
 broken_at property None = None
 broken_at property (Some frame) = Some (record { property = property; frame = frame })
@@ -66,12 +66,13 @@ abbrev pub compare : List Report → Agreement → Report → Agreement
 compare told (Alike place) read = compare_with place (slice_get told place) read
 compare told (Apart frame) read = Apart frame
 
--- The frame in which a reported reconfiguration began, or none if there is no report.
+-- The frame in which a reported reconfiguration began, or `None` if there is no report.
 abbrev pub begin_told : Option Report → Option ℕ
 begin_told None = None
 begin_told (Some one) = Some one.begin
 
--- The frame in which SP1 is broken, once all reconfigurations are read, or none. Any further report breaks it.
+-- The frame in which SP1 is broken once all reconfigurations are read, or `None` if SP1 is kept. Any further report
+-- breaks it.
 abbrev pub difference : List Report → Agreement → Option ℕ
 difference told (Alike place) = begin_told (slice_get told place)
 difference told (Apart frame) = Some frame
@@ -85,28 +86,28 @@ chooses_in spec from to (Some row) = (choose spec from row.env).0 == to.0
 abbrev pub chooses : Parts → List Row → ConfId → ConfId → ℕ → Bool
 chooses spec rows from to f = chooses_in spec from to (slice_get rows f)
 
--- The end of a reconfiguration, or none if a frame was found in which the target was chosen.
+-- The end of a reconfiguration, or `None` if a frame was found in which the target was chosen.
 abbrev pub unless_chosen : Option ℕ → ℕ → Option ℕ
 unless_chosen None end = Some end
 unless_chosen (Some f) end = None
 
--- The frame in which SP2 is broken, or none, given the reconfiguration's target.
+-- The frame in which SP2 is broken, or `None` if SP2 is kept, given the reconfiguration's target.
 abbrev pub unchosen_to : Parts → List Row → Report → Option ConfId → Option ℕ
 unchosen_to spec rows r None = None
 unchosen_to spec rows r (Some to) = unless_chosen (least_from (chooses spec rows r.from to) r.begin (r.end + 1 - r.begin)) r.end
 
--- The frame in which SP2 is broken: the end, if the table does not choose the target in any row of the reconfiguration.
--- It is none otherwise.
+-- The frame in which SP2 is broken: the end of the reconfiguration if the table does not choose the target in any of
+-- its rows, or `None` if SP2 is kept.
 abbrev pub unchosen_at : Parts → List Row → Report → Option ℕ
 unchosen_at spec rows r = unchosen_to spec rows r r.to
 
--- The frame in which SP3 is broken, or none, given the reconfiguration's bound.
+-- The frame in which SP3 is broken, or `None` if SP3 is kept, given the reconfiguration's bound.
 abbrev pub late_by : Report → Option ℕ → Option ℕ
 late_by r None = Some (last_frame r)
 late_by r (Some bound) = if nat_le (r.end - r.begin) bound then None else Some (last_frame r)
 
--- The frame in which SP3 is broken: the last frame, if no bound is given or the reconfiguration took longer. It is none
--- otherwise.
+-- The frame in which SP3 is broken: the last frame if no bound is given or the reconfiguration took longer, or `None`
+-- if SP3 is kept.
 abbrev pub late_at : Parts → Report → Option ℕ
 late_at spec r = late_by r (bound_on spec r.from r.to)
 
@@ -127,17 +128,18 @@ row_breaks inv (Some row) = breaks_invariant row inv
 abbrev pub breaks_at : List Row → Invariant → ℕ → Bool
 breaks_at rows inv f = row_breaks inv (slice_get rows f)
 
--- The first frame in which an invariant is broken, or none if the invariant is kept or is not for the source.
+-- The first frame in which an invariant is broken, or `None` if the invariant is kept or is not for the source.
 abbrev pub unkept_from : List Row → Report → Invariant → Option ℕ
 unkept_from rows r inv = if has_source inv.from r.from then least_from (breaks_at rows inv) r.begin (r.end + 1 - r.begin) else None
 
--- The smaller of two optional frames, the only one, or none.
+-- The smaller of two optional frames, the only one present, or `None` if both are absent.
 abbrev pub lesser_frame : Option ℕ → Option ℕ → Option ℕ
 lesser_frame None other = other
 lesser_frame (Some one) None = Some one
 lesser_frame (Some one) (Some other) = Some (min one other)
 
--- The first frame in which an invariant of a list is broken, or a frame found before if it is earlier, or none.
+-- The first frame in which an invariant of a list is broken, an earlier frame that was found before, or `None` if
+-- there is neither.
 abbrev pub least_unkept : List Row → Report → Option ℕ → List Invariant → Option ℕ
 least_unkept rows r least [] = least
 least_unkept rows r least (inv ∷ invs) = least_unkept rows r (lesser_frame least (unkept_from rows r inv)) invs
@@ -159,17 +161,18 @@ breaks_target_precondition row to pre = goes_to to pre.conf && breaks_preconditi
 abbrev pub unmet_in : Parts → Row → Option ConfId → Bool
 unmet_in spec row to = list_any (breaks_target_precondition row to) spec.preconditions
 
--- The frame before a given end, if its row does not meet some precondition of the target. It is none otherwise.
+-- The frame before a given end if its row does not meet some precondition of the target, or `None` if it meets them
+-- all.
 abbrev pub unmet_before : Parts → List Row → Option ConfId → ℕ → Option ℕ
 unmet_before spec rows to zero = None
 unmet_before spec rows to (suc f) = option_and_then (λ (row : Row). if unmet_in spec row to then Some f else None) (slice_get rows f)
 
--- The frame before the end of a reconfiguration, if its row does not meet some precondition of the target. It is none
--- otherwise.
+-- The frame before the end of a reconfiguration if its row does not meet some precondition of the target, or `None`
+-- if it meets them all.
 abbrev pub unmet_at : Parts → List Row → Report → Option ℕ
 unmet_at spec rows r = unmet_before spec rows r.to r.end
 
--- The first frame in which SP4 is broken, by an invariant or by a precondition, or none.
+-- The first frame in which SP4 is broken, by an invariant or by a precondition, or `None` if SP4 is kept.
 abbrev pub unkept_at : Parts → List Row → Report → Option ℕ
 unkept_at spec rows r = least_unkept rows r (unmet_at spec rows r) spec.invariants
 
@@ -200,13 +203,13 @@ follows spec rows (Some before) r =
 abbrev pub has_cause : Parts → List Row → Option Report → Report → Bool
 has_cause spec rows before r = changes_in spec rows r.begin || changes_in spec rows (r.begin + 1) || follows spec rows before r
 
--- The frame in which SP5 is broken: the begin, if the reconfiguration has no cause and does not begin in the last row.
--- It is none otherwise.
+-- The frame in which SP5 is broken: the begin if the reconfiguration has no cause and does not begin in the last row,
+-- or `None` if SP5 is kept.
 abbrev pub causeless_at : Parts → List Row → Option Report → Report → Option ℕ
 causeless_at spec rows before r = if nat_le (length rows) (r.begin + 1) || has_cause spec rows before r then None else Some r.begin
 
--- The first break of SP2 to SP5 by a reconfiguration, or none. `before` is the reconfiguration that was read just
--- before.
+-- The first break of SP2 to SP5 by a reconfiguration, or `None` if it keeps them. `before` is the reconfiguration
+-- that was read just before.
 abbrev pub broken_in : Parts → List Row → Option Report → Report → Option Broken
 broken_in spec rows before r = earlier
     (earlier (broken_at Sp2 (unchosen_at spec rows r)) (broken_at Sp3 (late_at spec r)))
@@ -230,7 +233,7 @@ judge_all spec rows told so_far (r ∷ read) = judge_all spec rows told (judge s
 abbrev pub opening_judgement : Judgement
 opening_judgement = record { agreement = Alike 0; broken = None; before = None }
 
--- The first break of SP1 to SP5 once all reconfigurations are judged, or none.
+-- The first break of SP1 to SP5 once all reconfigurations are judged, or `None` if all five hold.
 abbrev pub conclusion : List Report → Judgement → Option Broken
 conclusion told judgement = earlier (broken_at Sp1 (difference told judgement.agreement)) judgement.broken
 
@@ -276,14 +279,14 @@ breaks_after spec rows frames f since = nat_le frames (f - since) && unsatisfied
 abbrev pub breaks_calm : Parts → List Row → ℕ → Bool
 breaks_calm spec rows f = breaks_after spec rows (greatest_bound spec.bounds) f (held_since rows f)
 
--- The first frame in which SP6 is broken, or none.
+-- The first frame in which SP6 is broken, or `None` if SP6 is kept.
 abbrev pub unsatisfied_at : Parts → List Row → Option ℕ
 unsatisfied_at spec rows = least_from (breaks_calm spec rows) 0 (length rows)
 
--- The first break of SP1 to SP5, the properties of reconfigurations, or none.
+-- The first break of SP1 to SP5, the properties of reconfigurations, or `None` if all five hold.
 abbrev pub first_in_reports : Parts → List Row → List Report → Option Broken
 first_in_reports spec rows told = conclusion told (judge_all spec rows told opening_judgement (reports spec rows))
 
--- The first break of a trace, or none if all properties hold.
+-- The first break of a trace, or `None` if all properties hold.
 abbrev pub first_break : Parts → List Row → List Report → Option Broken
 first_break spec rows told = earlier (first_in_reports spec rows told) (broken_at Sp6 (unsatisfied_at spec rows))

@@ -43,8 +43,8 @@ pub record IsChosen (spec : Parts) (rows : List Row) (r : Report) (j : ConfId) :
 abbrev pub KeepsSp2 : Parts → List Row → Report → Type 0
 KeepsSp2 spec rows r = (j : ConfId) → r.to ≡ Some j → IsChosen spec rows r j
 
--- The bound on a reconfiguration, or none if no bound is given. An unfinished reconfiguration has the greatest bound
--- that is given from its source.
+-- The bound on a reconfiguration, or `None` if no bound is given. An unfinished reconfiguration has the greatest
+-- bound that is given from its source.
 abbrev pub bound_on : Parts → ConfId → Option ConfId → Option ℕ
 bound_on spec from None = greatest_bound_in spec.bounds from.0
 bound_on spec from (Some j) = bound_in spec.bounds from.0 j.0

@@ -58,7 +58,7 @@ pub(crate) fn broken_at(property: Property, frame: Option<u32>) -> Option<Broken
     }
 }
 
-// Returns the earlier of two breaks, the only one if one is absent, or `None`.
+// Returns the earlier of two breaks, the only one present, or `None` if both are absent.
 pub(crate) fn earlier(one: Option<Broken>, other: Option<Broken>) -> Option<Broken>
     ensures { result ≡ earlier one other }
 {

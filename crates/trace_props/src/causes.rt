@@ -36,7 +36,7 @@ fn has_cause(spec: &Spec, rows: &[Row], before: Option<Report>, read: Report) ->
         || follows(spec, rows, before, read)
 }
 
-// Returns whether the targets are settled, and another reconfiguration ended in the preceding row and saw a change
+// Returns `true` if the targets are settled, and another reconfiguration ended in the preceding row and saw a change
 // after its begin.
 fn follows(spec: &Spec, rows: &[Row], before: Option<Report>, read: Report) -> bool
     ensures { result ≡ follows spec.now rows.now before read }
@@ -73,7 +73,7 @@ fn first_change(spec: &Spec, rows: &[Row], read: Report) -> Option<usize>
     None
 }
 
-// Returns whether row `frame` exists and its environment differs from the environment of the preceding row.
+// Returns `true` if row `frame` exists and its environment differs from the environment of the preceding row.
 fn changes_in(spec: &Spec, rows: &[Row], frame: usize) -> bool
     ensures { result ≡ changes_in spec.now rows.now frame }
 {

@@ -91,7 +91,7 @@ fn is_satisfied(spec: &Spec, row: &Row) -> bool
     satisfies(spec, &row.env, running(spec, &row.acts))
 }
 
-// Returns whether the running configuration satisfies the demands in an environment.
+// Returns `true` if the running configuration satisfies the demands in an environment.
 fn satisfies(spec: &Spec, env: &Env, running: Option<ConfId>) -> bool
     ensures { result ≡ satisfies spec.now env.now running }
 {

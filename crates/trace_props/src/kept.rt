@@ -58,7 +58,8 @@ fn breaks_invariant(row: &Row, inv: &Invariant) -> bool
     !lies_in(inv.least, inv.greatest, word_in(row, inv.app, inv.variable))
 }
 
-// Returns the frame before the end if its row does not meet some precondition of the target, or `None`.
+// Returns the frame before the end if its row does not meet some precondition of the target, or `None` if it meets
+// them all.
 fn unmet_at(spec: &Spec, rows: &[Row], read: Report) -> Option<u32>
     ensures { result ≡ unmet_at spec.now rows.now read }
 {
@@ -139,7 +140,7 @@ fn lies_in(low: i64, high: i64, word: i64) -> bool
     low <= word && word <= high
 }
 
-// Returns the smaller of two frames, the only one if one is absent, or `None`.
+// Returns the smaller of two frames, the only one present, or `None` if both are absent.
 fn lesser_frame(one: Option<u32>, other: Option<u32>) -> Option<u32>
     ensures { result ≡ lesser_frame one other }
 {

@@ -10,8 +10,8 @@ use frame_model::{reports, rows};
 use scram_types::{Flown, List, NoMemory};
 use std::alloc::Global;
 
-/// Flies a mission frame by frame. Returns one row for each frame of its script, and the reconfigurations that are read
-/// off the rows. SP1 to SP6 hold for both. The only error is out of memory.
+/// Flies a mission frame by frame. Returns one row for each frame of its script, and the reconfigurations that are
+/// read off the rows. SP1 to SP6 hold for both. Returns an error only if memory runs out.
 #[tactic(auto, using(crate::proofs::Sizes::few_reports))]
 pub fn one_thread(alloc: Global, mission: &Mission, racks: Vec<Rack>) -> Result<Flown, NoMemory>
     ensures { IfOk result (IsTraceOf mission.now) }
