@@ -1,4 +1,4 @@
--- Cubes with all digits and with none.
+-- Lemmas on cubes with all digits open, and on cubes with no digit open at some place.
 use Rattle.std.proofs.Common.{◌≡◌, ◌∙◌, ℕ, ◌+◌, ◌*◌, ◌-◌, ◌^◌, ◌<◌, ◌≤◌, ◌%◌, refl, ap, sym, arith, Bool, true, false, not, ◌&&◌, ◌||◌}
 use mathlib.Core.Logic.{inl, inr}
 use Rattle.std.specs.Prelude.{◌==◌, bit_and, if◌then◌else◌}

@@ -53,8 +53,8 @@ marked_more regions by passes k d v low =
     ∙ ap (λ (b : Bool). b && holds by v)
     (sym (ap (λ (rs : List Region). is_marked rs passes v) (take_more regions k d low) ∙ marks_one (take k regions) (get_or regions k d) passes v))
 
--- If a demand applies to configuration `i`, the environments that its regions mark outside of the met targets are
--- those in which the table misses the demand.
+-- If a demand applies to configuration `i`, the table misses it in exactly those environments of the demand's cube
+-- that are in a region of `i` whose target does not meet the demand.
 pub missed : (spec : Parts) (made : IsSpec spec) (i : ConfId) (demand : Demand) (regions : List Region) (by : Cube) (met : ℕ) → i.0 < length spec.confs
     → AreAll spec i regions → Agree spec (holds by) (applies_in demand) → met ≡ bits_below (λ c. is_met spec demand (conf_id c)) 12 → applies_from demand i ≡ true
     → Agree spec (λ v. is_marked regions (is_outside met) v && holds by v) (misses spec demand i)

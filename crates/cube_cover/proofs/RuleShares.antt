@@ -156,7 +156,7 @@ module _ (spec : Parts) (made : IsSpec spec) (c : ConfId) (k : ℕ) (cubes : Lis
     rule_rest rest is v scope =
         is v scope ∙ ap (λ (n : ℕ). if rule_fits c v (get_or spec.rules k d) then 0 else n) (held v scope) ∙ rest_first spec.rules c v k d low
 
-  -- The cubes that remain after the last rule hold the environments that no rule fits.
+  -- The share of the cubes that remain after the last rule is the share of the environments that no rule fits.
   pub last_share : (share : Share) → length spec.rules ≤ k → k ≤ length spec.rules → IsShare spec (is_in cubes) share → IsShare spec (is_ruled_by spec c k) share
   last_share share past low is = share_same spec made (is_in cubes) (is_ruled_by spec c k) share
       (λ v scope. held_from v scope ∙ last_rule spec.rules c v k past low) is

@@ -30,7 +30,7 @@ pub(crate) struct Finding {
 ///
 /// # Errors
 ///
-/// Out of memory.
+/// Returns an error if memory runs out.
 pub fn cover(alloc: Global, spec: &Spec, i: ConfId) -> Result<Cover, NoMemory>
     requires { i.0 < length spec.now.confs }
     ensures { IfOk result (λ cover. IsCover spec.now i cover) }

@@ -25,7 +25,7 @@ use std::alloc::Global;
 ///
 /// # Errors
 ///
-/// Out of memory.
+/// Returns an error if memory runs out.
 pub fn misses(alloc: Global, spec: &Spec, i: ConfId) -> Result<Vec<Option<Env>>, NoMemory>
     requires { i.0 < length spec.now.confs }
     ensures { IfOk result (λ found. AreMisses spec.now i found.items) }
