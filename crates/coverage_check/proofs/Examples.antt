@@ -41,7 +41,8 @@ other_rule = record { from = None; wants = []; up = 0; to = conf_id 1 }
 abbrev bounds : ℕ → List Bound
 bounds frames = bound 0 0 8 ∷ bound 0 1 frames ∷ bound 1 0 8 ∷ bound 1 1 8 ∷ []
 
--- A specification with one processor, one application, two configurations, and one factor of two values.
+-- The specification with one processor, one application, two configurations, and one factor of two values, given its
+-- other parts.
 abbrev made_with : ℕ → List Choice → ℕ → Policy → List Invariant → List Demand → Parts
 made_with capacity rules frames which invariants demands = record {
   procs = record { name = []; capacity = capacity } ∷ [];

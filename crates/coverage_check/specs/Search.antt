@@ -5,7 +5,7 @@ use Rattle.scram_types.specs.Searches.{first_below}
 use Rattle.scram_types.specs.Specification.{Parts}
 use Rattle.choice_table.specs.Numbering.{environments, is_number_in_scope, numbered}
 
--- The value `shown` if something is broken, or `None`.
+-- `Some shown` if `broken` is `true`, or `None`.
 abbrev pub shown_if : {A : Type 0} → Bool → A → Option A
 shown_if broken shown = if broken then Some shown else None
 
