@@ -27,8 +27,8 @@ not_by_an_older_mark = refl
 pub no_such_processor : has_committed marks 4 2 ≡ false
 no_such_processor = refl
 
--- The area before the frame is `ones`, and each slot is `twos`. The area after it is the slot if the application's
--- processor committed the frame, and the old area otherwise.
+-- The area before the frame is `ones`, and each slot is `twos`. The area after the frame is the slot if the
+-- application's processor committed the frame, the old area if it did not, and zeros if the application is off.
 pub slot_taken : area_from (has_committed marks 4) (twos ∷ twos ∷ []) 0 ones (Some (proc_id 0)) ≡ twos
 slot_taken = refl
 
