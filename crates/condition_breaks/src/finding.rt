@@ -18,7 +18,7 @@ use std::alloc::Global;
 ///
 /// # Errors
 ///
-/// Out of memory.
+/// Returns an error if memory runs out.
 pub fn breaks_of(alloc: Global, spec: &Spec, condition: u8) -> Result<Vec<Break>, NoMemory>
     ensures { IfOk result (λ found. found.items ≡ breaks spec.now condition) }
 {
