@@ -1,4 +1,4 @@
--- A property of each element of concatenated lists.
+-- Lemmas on a property of each element of concatenated lists.
 use Rattle.std.proofs.Common.{ℕ, zero, suc, ◌<◌, ◌≡◌, Bool, true, false, List, [], ◌∷◌, ◌++◌, take, arith, subst, refl}
 use Rattle.std.specs.Prelude.{Option, Some, None, option_map, if◌then◌else◌}
 use Rattle.std.specs.Option.{option_to_list}

@@ -1,4 +1,4 @@
--- The first elements of concatenated lists.
+-- Lemmas on the first elements of concatenated lists.
 use Rattle.std.proofs.Common.{ℕ, zero, suc, ◌<◌, ◌≡◌, ◌∙◌, Bool, true, false, List, [], ◌∷◌, ◌++◌, ap, arith, refl}
 use Rattle.std.specs.Prelude.{◌&&◌, ◌||◌, Option, Some, None, option_map, slice_get}
 use Rattle.std.specs.Option.{option_or, option_to_list}
@@ -29,7 +29,8 @@ mapped_below f answer zero = refl
 mapped_below f answer (suc n) =
     mapped_both f (first_below answer n) (answer n) ∙ ap (λ o. option_or o (option_map f (answer n))) (mapped_below f answer n)
 
--- the first of gathered lists is what is shown first
+-- If the first element of each list is shown by an answer, the first element of the concatenated lists is shown by
+-- the first answer that is present.
 pub gathered_shown : {A B : Type 0} (f : A → B) (items : ℕ → List A) (answer : ℕ → Option B) (n : ℕ)
     → ((k : ℕ) → k < n → option_map f (slice_get (items k) 0) ≡ answer k) → option_map f (slice_get (gathered_below items n) 0) ≡ first_below answer n
 gathered_shown f items answer n same =
@@ -51,7 +52,7 @@ shown_either : {A : Type 0} (a b : Bool) (x : A) → option_or (shown_if a x) (s
 shown_either true b x = refl
 shown_either false b x = refl
 
--- an element that is shown if any test holds
+-- A search that shows `x` at each number whose test holds finds `x` if and only if some test below `n` holds.
 pub any_shown : {A : Type 0} (test : ℕ → Bool) (x : A) (n : ℕ) → first_below (λ k. shown_if (test k) x) n ≡ shown_if (any_below test n) x
 any_shown test x zero = refl
 any_shown test x (suc n) = ap (λ o. option_or o (shown_if (test n) x)) (any_shown test x n) ∙ shown_either (any_below test n) (test n) x

@@ -1,8 +1,8 @@
--- Lists that are gathered number by number, and the first elements of a list.
+-- A lemma on lists that are concatenated number by number.
 use Rattle.std.proofs.Common.{ℕ, suc, ◌+◌, ◌≡◌, ◌∙◌, List, ◌++◌, ap, append_assoc, arith}
 use Rattle.condition_breaks.specs.Lists.{gathered_below}
 
--- a list gathered up to i, followed by the piece at i
+-- The lists of the numbers below `i`, followed by the list of `i`, are the lists of the numbers below `i + 1`.
 pub gathered_next : {A : Type 0} (items : ℕ → List A) (i : ℕ) (front before after piece : List A)
     → before ≡ front ++ gathered_below items i → after ≡ before ++ piece → piece ≡ items i → after ≡ front ++ gathered_below items (i + 1)
 gathered_next items i front before after piece first second is =

@@ -1,4 +1,5 @@
--- The interval that an invariant needs is the smallest that contains all ranges that the invariant has to contain.
+-- The interval that the place of an invariant shows is the smallest that contains all ranges that the invariant has
+-- to contain.
 use Rattle.std.proofs.Common.{ℕ, ℤ, suc, ◌≡◌, ◌∙◌, Bool, true, false, List, [], ◌∷◌, ap, arith, int_le, refl, subst, sym}
 use Rattle.std.specs.Prelude.{pos, ◌≤ℤ◌, Option, Some, None, option_map, slice_get, if◌then◌else◌}
 use Rattle.std.specs.Int.{int_max, int_min}
@@ -20,7 +21,7 @@ use Rattle.condition_breaks.specs.Laws.{IsLeastInterval, NeededIsLeast}
 use Rattle.condition_breaks.specs.Ranges.{all_ways, first_unheld, hull, hull_of, hull_on, interval, is_unheld, range_on}
 use Rattle.condition_breaks.proofs.EachItem.{each_cons, each_none, each_rest}
 
--- one interval within another
+-- Lemmas on an interval that lies within another.
 record Within (inner outer : Extremes) : Type 0 where
   low : outer.least ≤ℤ inner.least
   high : inner.greatest ≤ℤ outer.greatest
@@ -54,7 +55,7 @@ module _ (spec : Parts) (inv : Invariant) where
   speaks : Way → Bool
   speaks taken = has_source inv.from taken.from
 
-  -- one further range
+  -- Lemmas on an interval that is extended by one more range.
 
   more_grown : (b : Bool) (held : Extremes) (range : ℤ × ℤ) → Within held (if b then hull held range else held)
   more_grown true held range = record { low = min_first held.least range.0; high = max_first held.greatest range.1 }
@@ -70,7 +71,7 @@ module _ (spec : Parts) (inv : Invariant) where
       record { low = min_least held.least range.0 outer.least before.low here.low; high = max_most held.greatest range.1 outer.greatest before.high here.high }
   more_lies false held outer range asked before = before
 
-  -- all ranges
+  -- Lemmas on an interval that is extended by the ranges of all ways.
 
   grown : (ways : List Way) (held : Extremes) → Within held (hull_of spec inv held ways)
   grown [] held = within_self held
@@ -109,7 +110,7 @@ module _ (spec : Parts) (inv : Invariant) where
       (more_lies (has_source inv.from taken.from) held outer (range_on spec inv taken) (λ s. where_held (range_on spec inv taken) outer (each 0 taken refl s)) before)
       (each_rest (Held outer) taken ways each)
 
-  -- the first way whose range is not contained is one of the ways
+  -- The first way whose range is not contained is one of the ways, and its range is not contained.
   member_of : (b : Bool) (taken : Way) (ways : List Way) (found : Way) → is_unheld spec inv taken ≡ b → (if b then Some taken else first_unheld spec inv ways) ≡ Some found
       → (first_unheld spec inv ways ≡ Some found → (i : ℕ) × (slice_get ways i ≡ Some found) × (is_unheld spec inv found ≡ true))
       → (i : ℕ) × (slice_get (taken ∷ ways) i ≡ Some found) × (is_unheld spec inv found ≡ true)
@@ -134,7 +135,7 @@ module _ (spec : Parts) (inv : Invariant) where
             (inside.low, inside.high));
       }
 
--- the interval that the invariant of a place needs
+-- Lemmas on the interval that the place of an invariant shows.
 needed_in : Break → Extremes
 needed_in (broken.Unheld found) = found.needed
 needed_in other = interval (pos 0, pos 0)

@@ -1,4 +1,4 @@
--- The needs of an application that are off, application by application.
+-- An application has a need that is off if and only if some application that it needs is off.
 use Rattle.std.proofs.Common.{ℕ, ◌≡◌, Bool, true, false, not, length, refl, subst, sym}
 use Rattle.std.specs.Prelude.{◌&&◌, ◌==◌, Option, Some, None, slice_get}
 use Rattle.std.specs.Option.{option_map_or}
@@ -18,7 +18,7 @@ use Rattle.condition_breaks.specs.Form.{is_one_of, is_needed}
 use Rattle.condition_breaks.proofs.Firsts.{any_and}
 
 module _ (spec : Parts) (made : IsSpec spec) (c : ConfId) (a : ℕ) where
-  -- a need that is off
+  -- Lemmas on the needs of application `a` that are off.
   is_off : ℕ → Bool
   is_off b = not (is_on spec c b)
 

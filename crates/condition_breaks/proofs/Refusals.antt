@@ -22,7 +22,7 @@ use Rattle.coverage_check.proofs.Showing.{shown_where}
 use Rattle.condition_breaks.specs.Laws.{RefusalIsFirst, refusal_of_condition}
 use Rattle.condition_breaks.proofs.FirstShown.{first_is}
 
--- the refusal shown, if any, is of this condition
+-- Lemmas on the refusals of a condition, each of which names the condition.
 IsOf : ℕ → Option Shown → Type 0
 IsOf n o = (shown : Shown) → o ≡ Some shown → shown.condition ≡ n
 
@@ -94,7 +94,7 @@ module _ (spec : Parts) where
       of_option 13 (demand_refusal_of spec c k) (slice_get spec.demands k) (λ demand.
       of_mapped 13 _ (first_missed_env spec demand (conf_id c)) (λ v. refl))))
 
-  -- a refusal is that of its condition
+  -- The refusal of a specification is the refusal of the condition that it names.
   module _ (shown : Shown) where
     abbrev pub OwnRefusal : Type 0
     OwnRefusal = refusal_of_condition spec shown.condition ≡ Some shown

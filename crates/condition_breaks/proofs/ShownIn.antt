@@ -1,4 +1,4 @@
--- Each place that is found has an environment of its specification.
+-- The environment of each place in a list belongs to the specification.
 use Rattle.std.proofs.Common.{ℕ, ◌≡◌, ◌==◌, Bool, [], subst, sym, length}
 use Rattle.std.specs.Prelude.{Option, Some, None, ◌&&◌, slice_get}
 use Rattle.std.specs.Option.{option_map_or, option_to_list}
@@ -31,7 +31,7 @@ use Rattle.condition_breaks.specs.Shown.{HasEnvOf}
 use Rattle.condition_breaks.proofs.EachItem.{each_gathered, each_if, each_mapped, each_none, each_one, each_one_if, each_shown_if}
 
 module _ (spec : Parts) (made : IsSpec spec) where
-  -- the first environment that passes a test belongs to the specification
+  -- The first environment that passes a test belongs to the specification.
   passing_belongs : (test : Env → Bool) (v : Env) → first_passing_env spec test ≡ Some v → IsEnv spec v
   passing_belongs test v e =
       let n = found_below (passing_env_at spec test) (environments spec) v e in

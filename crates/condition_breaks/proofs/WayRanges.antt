@@ -1,4 +1,4 @@
--- The ranges that an invariant does not contain, and those that acceptance requires it to contain.
+-- An invariant does not contain a range on some way if and only if acceptance refuses it.
 use Rattle.std.proofs.Common.{ℕ, ℤ, zero, suc, ◌≡◌, ◌∙◌, Bool, true, false, not, List, [], ◌∷◌, ◌++◌, ap, arith, int_le, length, refl, sym}
 use mathlib.Core.Logic.{inl, inr}
 use Rattle.std.specs.Prelude.{pos, ◌&&◌, ◌||◌, ◌==◌, ◌≤ℤ◌, Option, Some, None, option_map, if◌then◌else◌}
@@ -61,7 +61,7 @@ neither : (a b : Bool) → (a || b) ≡ false → (a ≡ false) × (b ≡ false)
 neither false b e = (refl, e)
 neither true b e = true_false true refl e
 
--- the ranges of the acts seen while a mode is left are contained together, and so is that of the act that reaches it
+-- Lemmas on an interval, which contains the statuses 4, 1 and 2 if and only if it contains the range from 1 to 4.
 module _ (low high : ℤ) where
   holds : ℤ × ℤ → Bool
   holds range = holds_range low high range
@@ -91,7 +91,7 @@ module _ (low high : ℤ) where
   alike true = refl
   alike false = refl
 
-  -- the range seen in a mode, by whether the variable is the status
+  -- The range that is seen in a mode: the status if the variable is the status, or the range of the variable.
   seen : Bool → ℤ × ℤ → ℕ → ℤ × ℤ
   seen is_status range status = if is_status then (pos status, pos status) else range
 
@@ -113,7 +113,7 @@ module _ (low high : ℤ) where
       twice_held false = refl
 
 module _ (spec : Parts) (inv : Invariant) where
-  -- whether the range in a place is contained
+  -- Whether the interval of the invariant contains the range in a place.
   in_place : Option Place → Bool
   in_place place = holds_range inv.least inv.greatest (range_asked spec inv place)
 
@@ -129,7 +129,7 @@ module _ (spec : Parts) (inv : Invariant) where
       ap (λ (b : Bool). holds_during spec inv 3 place.mode.0 && b) (leaving_is (Some place))
       ∙ reaching_held inv.least inv.greatest (inv.variable == 0) (ends (mode_range (kind_of_app spec inv.app.0) place.mode.0 inv.variable))
 
-  -- the first way whose range is not contained, source by source
+  -- Lemmas on the first way of concatenated lists whose range is not contained.
 
   unheld_of_both : (xs ys : List Way) → first_unheld spec inv (xs ++ ys) ≡ option_or (first_unheld spec inv xs) (first_unheld spec inv ys)
   unheld_of_both [] ys = refl
@@ -141,7 +141,7 @@ module _ (spec : Parts) (inv : Invariant) where
   unheld_gathered ways (suc n) =
       unheld_of_both (gathered_below ways n) (ways n) ∙ ap (λ o. option_or o (first_unheld spec inv (ways n))) (unheld_gathered ways n)
 
-  -- whether the range on some way is not contained
+  -- Lemmas on the existence of a way in concatenated lists whose range is not contained.
 
   any_of_both : (xs ys : List Way) → list_any (is_unheld spec inv) (xs ++ ys) ≡ (list_any (is_unheld spec inv) xs || list_any (is_unheld spec inv) ys)
   any_of_both [] ys = refl
@@ -157,7 +157,7 @@ module _ (spec : Parts) (inv : Invariant) where
   any_one true taken = or_none (is_unheld spec inv taken)
   any_one false taken = refl
 
-  -- from source i
+  -- Lemmas on the ways from source `i`.
 
   AreFrom : ℕ → List Way → Type 0
   AreFrom i ways = Each (λ (taken : Way). taken.from ≡ conf_id i) ways
@@ -177,7 +177,7 @@ module _ (spec : Parts) (inv : Invariant) where
       shown_before (λ (one : Way). shown one.from) (is_unheld spec inv taken) taken (first_unheld spec inv ways) (list_any (is_unheld spec inv) ways) (shown (conf_id i))
       (ap shown (from 0 taken refl)) (shown_from shown i ways (each_rest (λ (one : Way). one.from ≡ conf_id i) taken ways from))
 
-  -- acceptance refuses exactly if the range on some way is not contained
+  -- The invariant breaks from source `i` if and only if the range on some way from `i` is not contained.
   module _ (i : ℕ) where
     speaks : Bool
     speaks = has_source inv.from (conf_id i)
@@ -248,7 +248,7 @@ module _ (spec : Parts) (inv : Invariant) where
     pub breaks_where : list_any (is_unheld spec inv) (ways_from spec i) ≡ breaks_from spec inv (conf_id i)
     breaks_where = any_from ∙ same_test (own || any_below another (length spec.confs)) (breaks_from spec inv (conf_id i)) broken_where found_where
 
-  -- the refusal for the first way whose range is not contained
+  -- The first way whose range is not contained has the source that the refusal shows.
   pub unheld_shown : {A : Type 0} (shown : ConfId → A)
       → option_map (λ (taken : Way). shown taken.from) (first_unheld spec inv (all_ways spec)) ≡ first_below (λ i. shown_if (breaks_from spec inv (conf_id i)) (shown (conf_id i))) (length spec.confs)
   unheld_shown shown =

@@ -23,8 +23,8 @@ use Rattle.condition_breaks.specs.Form.{first_twin, is_need_off}
 use Rattle.condition_breaks.specs.Lists.{gathered_below, one_if}
 use Rattle.condition_breaks.specs.Ranges.{all_ways, first_unheld, hull_of, interval, range_on}
 
--- The place of A1 at which application `a` is on in configuration `c` and application `b`, which it needs, is off, if
--- so.
+-- The place of A1 if application `a` is on in configuration `c` and application `b`, which `a` needs, is off, or the
+-- empty list.
 abbrev pub need_break : Parts → ℕ → ℕ → ℕ → List Break
 need_break spec c a b = one_if (is_need_off spec (conf_id c) a b) (broken.NeedOff (conf_id c) (app_id a) (app_id b))
 
@@ -40,12 +40,12 @@ need_breaks_in spec c = gathered_below (need_breaks_of spec c) (length spec.apps
 abbrev pub need_breaks : Parts → List Break
 need_breaks spec = gathered_below (need_breaks_in spec) (length spec.confs)
 
--- The place of A2, if there are too many environments in scope.
+-- The place of A2 if there are too many environments in scope, or the empty list.
 abbrev pub state_breaks : Parts → List Break
 state_breaks spec = one_if (has_too_many_states spec) broken.ManyStates
 
--- The place of A3 for configuration `c`, if it has no application on or is the same as an earlier configuration. The
--- first such configuration is shown.
+-- The place of A3 for configuration `c` if it has no application on or is the same as an earlier configuration, or
+-- the empty list. The place shows the first such earlier configuration.
 abbrev pub shape_break : Parts → ℕ → List Break
 shape_break spec c =
     if is_empty spec (conf_id c) then broken.NothingOn (conf_id c) ∷ []
@@ -55,7 +55,7 @@ shape_break spec c =
 abbrev pub shape_breaks : Parts → List Break
 shape_breaks spec = gathered_below (shape_break spec) (length spec.confs)
 
--- The place of A4 at which configuration `c` loads processor `p` beyond its capacity, if so.
+-- The place of A4 if configuration `c` loads processor `p` beyond its capacity, or the empty list.
 abbrev pub load_break : Parts → ℕ → ℕ → List Break
 load_break spec c p = one_if (is_overloaded spec (conf_id c) p) (broken.Overloaded (conf_id c) (proc_id p))
 
@@ -67,8 +67,8 @@ load_breaks_in spec c = gathered_below (load_break spec c) (length spec.procs)
 abbrev pub load_breaks : Parts → List Break
 load_breaks spec = gathered_below (load_breaks_in spec) (length spec.confs)
 
--- The place of A5, A6 or A7 for configuration `c`, if it does not meet the requirement. It has the first environment in
--- scope in which the requirement is not met.
+-- The place of A5, A6 or A7 for configuration `c` if it does not meet the requirement, or the empty list. The place
+-- has the first environment in scope in which the requirement is not met.
 abbrev pub unmet_break : Parts → Requirement → ℕ → List Break
 unmet_break spec asked c = option_to_list (option_map (λ (v : Env). broken.Unmet asked (conf_id c) v) (first_unmet_env spec asked (conf_id c)))
 
@@ -76,11 +76,12 @@ unmet_break spec asked c = option_to_list (option_map (λ (v : Env). broken.Unme
 abbrev pub unmet_breaks : Parts → Requirement → List Break
 unmet_breaks spec asked = gathered_below (unmet_break spec asked) (length spec.confs)
 
--- The place of A8, if the start configuration is left at once.
+-- The place of A8 if the start configuration is left at once, or the empty list.
 abbrev pub start_breaks : Parts → List Break
 start_breaks spec = one_if (leaves_start spec) broken.StartLeft
 
--- The place of A9 for a bound from `i` to `j`, if a bound is required and no sufficient one is given.
+-- The place of A9 for a bound from `i` to `j` if a bound is required and no sufficient one is given, or the empty
+-- list.
 abbrev pub bound_break : Parts → ℕ → ℕ → List Break
 bound_break spec i j = one_if (lacks_bound spec (conf_id i) j) (broken.BoundLacking (conf_id i) (conf_id j))
 
@@ -92,7 +93,7 @@ bound_breaks_from spec i = gathered_below (bound_break spec i) (length spec.conf
 abbrev pub bound_breaks : Parts → List Break
 bound_breaks spec = gathered_below (bound_breaks_from spec) (length spec.confs)
 
--- The place of A10, if the window is too short.
+-- The place of A10 if the window is too short, or the empty list.
 abbrev pub window_breaks : Parts → List Break
 window_breaks spec = one_if (has_short_window spec) broken.WindowShort
 
@@ -110,7 +111,7 @@ unheld_of spec k inv = option_map (unheld spec k inv) (first_unheld spec inv (al
 abbrev pub unheld_at : Parts → ℕ → Option Break
 unheld_at spec k = option_map_or (unheld_of spec k) (slice_get spec.invariants k) None
 
--- The place of A11 for invariant `k`, if it does not contain a range that it has to contain.
+-- The place of A11 for invariant `k` if it does not contain a range that it has to contain, or the empty list.
 abbrev pub invariant_break : Parts → ℕ → List Break
 invariant_break spec k = option_to_list (unheld_at spec k)
 
@@ -126,7 +127,7 @@ unentered_of spec k pre = shown_if (breaks_entering spec pre) (broken.Preconditi
 abbrev pub unentered_at : Parts → ℕ → Option Break
 unentered_at spec k = option_map_or (unentered_of spec k) (slice_get spec.preconditions k) None
 
--- The place of A12 for precondition `k`, if it can fail when its configuration is entered.
+-- The place of A12 for precondition `k` if it can fail when its configuration is entered, or the empty list.
 abbrev pub precondition_break : Parts → ℕ → List Break
 precondition_break spec k = option_to_list (unentered_at spec k)
 
@@ -134,14 +135,14 @@ precondition_break spec k = option_to_list (unentered_at spec k)
 abbrev pub precondition_breaks : Parts → List Break
 precondition_breaks spec = gathered_below (precondition_break spec) (length spec.preconditions)
 
--- The place of A13 for configuration `c` and demand `k`, if the table misses the demand. It has the first environment
--- in scope in which the demand is missed.
+-- The place of A13 for configuration `c` and demand `k` if the table misses the demand, or the empty list. The place
+-- has the first environment in scope in which the demand is missed.
 abbrev pub demand_break_of : Parts → ℕ → ℕ → Demand → List Break
 demand_break_of spec c k demand =
     option_to_list (option_map (λ (v : Env). broken.DemandMissed (conf_id c) k v) (first_missed_env spec demand (conf_id c)))
 
--- The place of A13 for configuration `c` and the demand of this number, if there is such a demand and the table misses
--- it.
+-- The place of A13 for configuration `c` and the demand of this number if there is such a demand and the table misses
+-- it, or the empty list.
 abbrev pub demand_break : Parts → ℕ → ℕ → List Break
 demand_break spec c k = option_map_or (demand_break_of spec c k) (slice_get spec.demands k) []
 
@@ -153,13 +154,13 @@ demand_breaks_in spec c = gathered_below (demand_break spec c) (length spec.dema
 abbrev pub demand_breaks : Parts → List Break
 demand_breaks spec = gathered_below (demand_breaks_in spec) (length spec.confs)
 
--- The place for configuration `c` and demand `k`, if any. `found` holds for each demand the first environment in which
--- it is missed.
+-- The place for configuration `c` and demand `k`, or `None` if the demand is not missed or does not exist. `found`
+-- has for each demand the first environment in which it is missed.
 abbrev pub missed_at : List (Option Env) → ℕ → ℕ → Option Break
 missed_at found c k =
     option_and_then (λ (first : Option Env). option_map (λ (v : Env). broken.DemandMissed (conf_id c) k v) first) (slice_get found k)
 
--- The places at which a condition does not hold, if its number is 9 to 13, or the empty list.
+-- The places at which the condition of this number does not hold if the number is 9 to 13, or the empty list.
 abbrev pub later_breaks : Parts → ℕ → List Break
 later_breaks spec condition =
     if condition == 9 then bound_breaks spec else
@@ -168,7 +169,7 @@ later_breaks spec condition =
     if condition == 12 then precondition_breaks spec else
     if condition == 13 then demand_breaks spec else []
 
--- The places at which a condition does not hold, if its number is 5 to 13, or the empty list.
+-- The places at which the condition of this number does not hold if the number is 5 to 13, or the empty list.
 abbrev pub choice_breaks : Parts → ℕ → List Break
 choice_breaks spec condition =
     if condition == 5 then unmet_breaks spec requirement.HasRule else

@@ -1,4 +1,4 @@
--- Theorems about the places at which conditions do not hold.
+-- Laws of the places at which conditions do not hold.
 use Rattle.std.specs.Prelude.{◌≡◌, ℕ, ℤ, ◌≤ℤ◌, true, ◌==◌, List, slice_get, Option, Some, None, option_map, if◌then◌else◌}
 use Rattle.std.specs.Option.{option_map_or}
 use Rattle.scram_types.specs.declared.specification.Invariant.{Invariant}
@@ -49,7 +49,7 @@ shown_of spec (broken.DemandMissed c k v) = shown_in 13 c.0 v (other.Demand k)
 abbrev pub first_shown : Parts → List Break → Option Shown
 first_shown spec found = option_map (shown_of spec) (slice_get found 0)
 
--- The refusal of a condition whose number is 9 to 13, or `None`.
+-- The refusal by the condition of this number if the number is 9 to 13, or `None`.
 abbrev pub later_refusal_by : Parts → ℕ → Option Shown
 later_refusal_by spec condition =
     if condition == 9 then bound_refusal spec else
@@ -58,7 +58,7 @@ later_refusal_by spec condition =
     if condition == 12 then precondition_refusal spec else
     if condition == 13 then demand_refusal spec else None
 
--- The refusal of a condition whose number is 5 to 13, or `None`.
+-- The refusal by the condition of this number if the number is 5 to 13, or `None`.
 abbrev pub choice_refusal_by : Parts → ℕ → Option Shown
 choice_refusal_by spec condition =
     if condition == 5 then requirement_refusal spec requirement.HasRule else
@@ -66,7 +66,7 @@ choice_refusal_by spec condition =
     if condition == 7 then requirement_refusal spec requirement.Stays else
     if condition == 8 then start_refusal spec else later_refusal_by spec condition
 
--- The refusal of a condition by its number, or `None` if the condition holds or the number is not 1 to 13.
+-- The refusal by the condition of this number, or `None` if the condition holds or the number is not 1 to 13.
 abbrev pub refusal_of_condition : Parts → ℕ → Option Shown
 refusal_of_condition spec condition =
     if condition == 1 then need_refusal spec else

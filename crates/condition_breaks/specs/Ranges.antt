@@ -42,8 +42,8 @@ all_ways spec = gathered_below (ways_from spec) (length spec.confs)
 abbrev pub interval : ℤ × ℤ → Extremes
 interval ends = record { least = ends.0; greatest = ends.1 }
 
--- The range of an invariant's variable in a place, over all acts in the place's mode. For the status the range is 1 to
--- 4. If the application is off, it is zero.
+-- The range of an invariant's variable in a place, over all acts in the place's mode. The status has the range from 1
+-- to 4. The range is zero if the application is off.
 abbrev pub range_asked : Parts → Invariant → Option Place → ℤ × ℤ
 range_asked spec inv None = (pos 0, pos 0)
 range_asked spec inv (Some place) = if inv.variable == 0 then (pos 1, pos 4) else during (kind_of_app spec inv.app.0) 1 place.mode.0 inv.variable
@@ -56,7 +56,7 @@ range_on spec inv taken = range_asked spec inv (place_of spec taken.to inv.app.0
 abbrev pub is_unheld : Parts → Invariant → Way → Bool
 is_unheld spec inv taken = has_source inv.from taken.from && not (holds_range inv.least inv.greatest (range_on spec inv taken))
 
--- The first way whose range an invariant has to contain and does not, or `None` if there is none.
+-- The first way whose range an invariant has to contain and does not contain, or `None` if there is no such way.
 abbrev pub first_unheld : Parts → Invariant → List Way → Option Way
 first_unheld spec inv [] = None
 first_unheld spec inv (taken ∷ ways) = if is_unheld spec inv taken then Some taken else first_unheld spec inv ways

@@ -29,7 +29,7 @@ pub(crate) fn add_demand_breaks(
     Ok(())
 }
 
-// Appends the places of A13 for configuration `c`. `found` holds for each demand the first environment in which it is
+// Appends the places of A13 for configuration `c`. `found` has for each demand the first environment in which it is
 // missed.
 fn add_demand_breaks_in(
     breaks: &mut Vec<Break>,

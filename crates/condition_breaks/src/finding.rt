@@ -13,12 +13,12 @@ use coverage_check::choosing::Requirement;
 use scram_types::{NoMemory, Spec};
 use std::alloc::Global;
 
-/// Returns the places at which the condition of this number does not hold, in order. The list is empty if the number is
-/// not 1 to 13.
+/// Returns the places at which the condition of this number does not hold, in order, or an empty list if the number
+/// is not 1 to 13.
 ///
 /// # Errors
 ///
-/// Out of memory.
+/// Returns an error if memory runs out.
 pub fn breaks_of(alloc: Global, spec: &Spec, condition: u8) -> Result<Vec<Break>, NoMemory>
     ensures { IfOk result (λ found. found.items ≡ breaks spec.now condition) }
 {

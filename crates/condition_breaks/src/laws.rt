@@ -1,33 +1,34 @@
-//! Theorems about the places at which conditions do not hold. Each function states one by its contract.
+//! Laws of the places at which conditions do not hold. Each function states a law by its contract.
 
 ghost use Rattle.condition_breaks.specs.Complete.{NoneIsLeftOut};
 ghost use Rattle.condition_breaks.specs.Laws.{EachIsBroken, FirstIsShown, NeededIsLeast, RefusalIsFirst};
 
-/// The refusal of each condition shows the condition's first place. There is no place if and only if the condition
-/// holds.
+/// States that the refusal of each condition shows the condition's first place, and that there is no place if and
+/// only if the condition holds.
 pub fn first_is_shown()
     ensures { FirstIsShown }
 {}
 
-/// The refusal of a specification that is not accepted shows the first place of the condition that it names.
+/// States that the refusal of a specification that is not accepted shows the first place of the condition that it
+/// names.
 pub fn refusal_is_first()
     ensures { RefusalIsFirst }
 {}
 
-/// At each place of a condition, the condition does not hold. The place exists in the specification, and its refusal is
-/// true.
+/// States that at each place of a condition, the condition does not hold: the place exists in the specification, and
+/// its refusal is true.
 pub fn each_is_broken()
     ensures { EachIsBroken }
 {}
 
-/// If a condition does not hold somewhere, the condition's list has a place for this. One place represents all
-/// configurations equal to one, all environments, or all sources of an invariant.
+/// States that if a condition does not hold somewhere, the condition's list has a place for this. One place
+/// represents all configurations equal to one, all environments, or all sources of an invariant.
 pub fn none_is_left_out()
     ensures { NoneIsLeftOut }
 {}
 
-/// The interval that the place of an invariant shows is the smallest that contains all ranges that the invariant has to
-/// contain.
+/// States that the interval that the place of an invariant shows is the smallest that contains all ranges that the
+/// invariant has to contain.
 pub fn needed_is_least()
     ensures { NeededIsLeast }
 {}

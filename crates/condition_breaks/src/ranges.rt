@@ -105,7 +105,8 @@ pub fn range_on(spec: &Spec, inv: &Invariant, way: &Way) -> Extremes
     range_asked(spec, inv, spec.place_of(way.to, inv.app))
 }
 
-// Returns the first way whose range an invariant has to contain and does not, or `None` if there is none.
+// Returns the first way whose range an invariant has to contain and does not contain, or `None` if there is no such
+// way.
 pub(crate) fn first_unheld(spec: &Spec, inv: &Invariant, ways: &[Way]) -> Option<Way>
     ensures { result ≡ first_unheld spec.now inv.now ways.now }
 {

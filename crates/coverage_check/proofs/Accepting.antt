@@ -58,12 +58,12 @@ implies : (a b : Bool) → (a ≡ true → b ≡ true) → (not a || b) ≡ true
 implies true b f = f refl
 implies false b f = refl
 
--- an existing item has no refusal
+-- If `f` is `None` for the item that is present, the result for an optional item is `None`.
 at_none : {A B : Type 0} (o : Option A) (f : A → Option B) → ((x : A) → o ≡ Some x → f x ≡ None) → option_map_or f o None ≡ None
 at_none None f each = refl
 at_none (Some x) f each = each x refl
 
--- the greatest bound
+-- Lemmas on the greatest bound.
 
 pub bounds_most : (bounds : List Bound) (k : ℕ) (bound : Bound) → slice_get bounds k ≡ Some bound → bound.frames ≤ greatest_bound bounds
 bounds_most [] k bound there = let none : k < 0 = slice_get_within [] k bound there in absurd (omega arith)
@@ -78,7 +78,7 @@ most_bounds (first ∷ bounds) window some each =
     omega arith
 
 module _ (spec : Parts) (made : IsSpec spec) where
-  -- from no refusal
+  -- If a specification has no refusal, each condition holds.
 
   shaped : shape_refusal spec ≡ None → (c : ConfId) → c.0 < length spec.confs → IsShaped spec c
   shaped e c known =
@@ -184,7 +184,7 @@ module _ (spec : Parts) (made : IsSpec spec) where
         demanded = demand_met demand;
       }
 
-  -- to no refusal
+  -- If each condition holds, a specification has no refusal.
 
   module _ (accepts : Accepts spec) where
     no_need : need_refusal spec ≡ None

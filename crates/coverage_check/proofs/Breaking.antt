@@ -1,4 +1,4 @@
--- Refusals show a place at which their condition is broken.
+-- A refusal shows a place at which its condition is broken.
 use Rattle.std.proofs.Common.{◌≡◌, ℕ, ◌<◌, Bool, true, false, refl, sym, length}
 use mathlib.Core.Logic.{inl, inr}
 use Rattle.std.specs.Prelude.{◌&&◌, Option, Some, None, option_map, slice_get}

@@ -1,4 +1,4 @@
--- Worked examples of the definitions: computed, and compared with the conditions.
+-- Examples of the definitions, computed and compared with the conditions.
 use Rattle.std.proofs.Common.{◌≡◌, refl, ℕ, List, [], ◌∷◌, pos}
 use Rattle.std.specs.Prelude.{Some, None, replicate}
 use Rattle.scram_types.specs.declared.specification.AppSpec.{AppSpec}
@@ -21,7 +21,7 @@ use Rattle.coverage_check.specs.Timing.{targets}
 abbrev mode : ℕ → ℕ → ModeSpec
 mode m load = record { mode = record { 0 = m }; load = load; halt = 1; prepare = 1; init = 1 }
 
--- a power monitor with two modes
+-- A power monitor with two modes.
 abbrev monitor : AppSpec
 monitor = record { name = []; kind = record { 0 = 2 }; needs = []; modes = mode 1 40 ∷ mode 2 20 ∷ []; rank = 0 }
 
@@ -31,7 +31,7 @@ placed m = record { name = []; places = Some (record { mode = record { 0 = m }; 
 abbrev pub bound : ℕ → ℕ → ℕ → Bound
 bound i j frames = record { from = conf_id i; to = conf_id j; frames = frames }
 
--- configuration 0 where the factor has its first value
+-- The rule that chooses configuration 0 if the factor has its first value.
 abbrev pub first_rule : Choice
 first_rule = record { from = None; wants = record { factor = record { 0 = 0 }; value = 0 } ∷ []; up = 0; to = conf_id 0 }
 
@@ -41,7 +41,8 @@ other_rule = record { from = None; wants = []; up = 0; to = conf_id 1 }
 abbrev bounds : ℕ → List Bound
 bounds frames = bound 0 0 8 ∷ bound 0 1 frames ∷ bound 1 0 8 ∷ bound 1 1 8 ∷ []
 
--- one processor, one application, two configurations, one factor of two values
+-- The specification with one processor, one application, two configurations, and one factor of two values, given its
+-- other parts.
 abbrev made_with : ℕ → List Choice → ℕ → Policy → List Invariant → List Demand → Parts
 made_with capacity rules frames which invariants demands = record {
   procs = record { name = []; capacity = capacity } ∷ [];
@@ -79,19 +80,20 @@ no_rule = refl
 too_heavy : first_refusal (made 30 rules 8 policy.Retarget []) ≡ Some (shown_at 4 0 (other.Proc (proc_id 0)))
 too_heavy = refl
 
--- a target that is kept may see one more change
+-- With the policy `Settle`, a reconfiguration may see one more change. Therefore its least bound is greater.
 settling : first_refusal (made 100 rules 8 policy.Settle []) ≡ Some (shown_at 9 0 (other.Least (conf_id 0) 12))
 settling = refl
 
 both_targets : targets (made 100 rules 8 policy.Retarget []) (conf_id 0) ≡ 3
 both_targets = refl
 
--- the status is 4 while a mode initialises
+-- The status is 4 while a mode initialises. Therefore an interval from 1 to 3 is too narrow.
 short_status : first_refusal (made 100 rules 8 policy.Retarget (record { from = Some (conf_id 1); app = app_id 0; variable = 0; least = pos 1; greatest = pos 3 } ∷ [])) ≡ Some (shown_at 11 1 (other.Item 0))
 unfolding during
 short_status = refl
 
--- the monitor in its second mode if the factor has its second value, and never the second from the second
+-- Three demands: that the monitor is on in mode 2 if the factor has its second value, that configuration 0 is chosen
+-- from configuration 1, and that the monitor is off if the processor is down.
 abbrev saving : Demand
 saving = record {
   name = [];

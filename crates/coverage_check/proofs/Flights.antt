@@ -1,4 +1,4 @@
--- The facts that make a mission.
+-- The facts that make a specification and a script a mission.
 use Rattle.std.proofs.Common.{◌≡◌, None}
 use Rattle.scram_types.specs.Scripts.{ScriptParts}
 use Rattle.scram_types.specs.Specification.{Parts}

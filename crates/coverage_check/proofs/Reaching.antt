@@ -40,7 +40,7 @@ use Rattle.coverage_check.specs.TargetSets.{AreTargets, HasCovers}
 use Rattle.coverage_check.proofs.Showing.{is_shown, none_shown, not_shown}
 
 module _ (spec : Parts) (made : IsSpec spec) where
-  -- an environment is that of its number
+  -- Each environment has a number below the number of environments, and is the environment of that number.
   pub number_inside : (v : Env) → IsEnv spec v → number_of spec v < environments spec
   number_inside v belongs = number_below spec made.factors made.factors_count v belongs
 
@@ -53,7 +53,7 @@ module _ (spec : Parts) (made : IsSpec spec) where
   pub belongs_numbered : (n : ℕ) → n < environments spec → IsEnv spec (numbered spec n)
   belongs_numbered n h = is_env spec made.factors made.factors_count n h
 
-  -- the test of possible targets finds them
+  -- Configuration `j` is a possible target of `i` if and only if the test of possible targets passes.
   pub target_test : (i j : ConfId) → IsTarget spec i j → is_target spec i j.0 ≡ true
   target_test i j target =
       let same = numbered_number target.seen target.belongs in
@@ -73,7 +73,7 @@ module _ (spec : Parts) (made : IsSpec spec) where
         chosen = same_conf (choose spec i (numbered spec found.0)) j (equal _ j.0 (and_right (is_number_in_scope spec found.0) _ found.2));
       }
 
-  -- the bits of all possible targets find them too
+  -- The bits of all possible targets are those of the configurations that are possible targets.
   pub are_targets : (i : ConfId) → i.0 < length spec.confs → AreTargets spec i (targets spec i)
   are_targets i known = record {
     only = λ j inside bit. target_tested i j (sym (has_bits (is_target spec i) (length spec.confs) j.0 inside) ∙ bit);
@@ -83,7 +83,7 @@ module _ (spec : Parts) (made : IsSpec spec) where
     few = bits_lt (is_target spec i) (length spec.confs);
   }
 
-  -- the findings of a cover on targets
+  -- The targets of a cover are the possible targets of its configuration.
   pub cover_targets : (i : ConfId) (cover : Cover) → IsCover spec i cover → (j : ℕ) → j < length spec.confs → has_bit cover.targets j ≡ is_target spec i j
   cover_targets i cover is j inside = same_test (has_bit cover.targets j) (is_target spec i j)
       (λ bit. target_test i (conf_id j) (is.only (conf_id j) bit))
@@ -100,7 +100,8 @@ module _ (spec : Parts) (made : IsSpec spec) where
   pub cover_members : (i : ConfId) (cover : Cover) → IsCover spec i cover → AreTargets spec i cover.targets
   cover_members i cover is = record { only = λ j inside bit. is.only j bit; all = is.all; few = is.few }
 
-  -- the smallest environment that passes a test is the first one
+  -- The environment in scope with the smallest number that passes a test is the first one that a search by number
+  -- finds.
 
   pub first_is_least : (test : Env → Bool) (o : Option Env) → IsLeastEnv spec test o → o ≡ first_passing_env spec test
   first_is_least test None none = sym (none_below (passing_env_at spec test) (environments spec) (λ n inside.
@@ -125,7 +126,7 @@ module _ (spec : Parts) (made : IsSpec spec) where
   cover_unmet requirement.CanRun c cover is = first_is_least (is_unmet spec requirement.CanRun c) cover.not_runnable is.not_runnable
   cover_unmet requirement.Stays c cover is = first_is_least (is_unmet spec requirement.Stays c) cover.unsettled is.unsettled
 
-  -- if no environment passes a test first, none in scope passes it
+  -- If a search finds no environment that passes a test, no environment in scope passes it.
   pub passes_nowhere : (test : Env → Bool) → first_passing_env spec test ≡ None → (v : Env) → IsEnv spec v → in_scope spec v ≡ true → test v ≡ false
   passes_nowhere test none v belongs scope =
       let same = numbered_number v belongs in
@@ -133,7 +134,7 @@ module _ (spec : Parts) (made : IsSpec spec) where
       (below_none (passing_env_at spec test) (environments spec) (number_of spec v) none (number_inside v belongs)) in
       ap test (sym same) ∙ and_false (is_number_in_scope spec (number_of spec v)) _ here (ap (in_scope spec) same ∙ scope)
 
-  -- the finding for a demand gives its refusal
+  -- The first environment found for a demand gives the refusal for the demand.
   pub miss_is : (c : ℕ) (found : List (Option Env)) → AreMisses spec (conf_id c) found → (k : ℕ) → k < length spec.demands → miss_shown found c k ≡ demand_refusal_at spec c k
   miss_is c found are k low =
       some_item spec.demands k low (λ demand there.
@@ -142,7 +143,7 @@ module _ (spec : Parts) (made : IsSpec spec) where
       ∙ ap (option_map (λ (v : Env). shown_in 13 c v (other.Demand k))) (first_is_least (misses spec demand (conf_id c)) least (are.least k demand least there at))
       ∙ sym (ap (λ (o : Option Demand). option_map_or (demand_refusal_of spec c k) o None) there)))
 
--- covers in their places
+-- Lemmas on the list of covers, which is filled one configuration at a time.
 
 pub covered : (spec : Parts) (covers : List Cover) (i x : ℕ) (d : Cover) → x ≡ i → HasCovers spec covers → i < length spec.confs → i < length covers → IsCover spec (conf_id i) (get_or covers x d)
 covered spec covers i x d same all known low = subst (λ (n : ℕ). IsCover spec (conf_id i) (get_or covers n d)) (sym same) (all i (get_or covers i d) known (slice_get-get_or covers i d low))

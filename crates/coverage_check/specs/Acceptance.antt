@@ -26,25 +26,25 @@ use Rattle.coverage_check.specs.Timing.{bound_refusal, further, greatest_bound, 
 use Rattle.coverage_check.specs.Holding.{breaks_entering, breaks_from, holds_entering, holds_leaving, holds_reaching, invariant_refusal, precondition_refusal}
 use Rattle.coverage_check.specs.Demands.{demand_refusal}
 
--- The first refusal by A1 to A4, or none.
+-- The first refusal by A1 to A4, or `None`.
 abbrev pub form_refusal : Parts → Option Shown
 form_refusal spec = option_or (need_refusal spec) (option_or (state_refusal spec) (option_or (shape_refusal spec) (load_refusal spec)))
 
--- The first refusal by A5 to A8, or none.
+-- The first refusal by A5 to A8, or `None`.
 abbrev pub choice_refusal : Parts → Option Shown
 choice_refusal spec =
     option_or (requirement_refusal spec requirement.HasRule) (option_or (requirement_refusal spec requirement.CanRun)
     (option_or (requirement_refusal spec requirement.Stays) (start_refusal spec)))
 
--- The first refusal by A9 and A10, or none.
+-- The first refusal by A9 and A10, or `None`.
 abbrev pub time_refusal : Parts → Option Shown
 time_refusal spec = option_or (bound_refusal spec) (window_refusal spec)
 
--- The first refusal by A11 and A12, or none.
+-- The first refusal by A11 and A12, or `None`.
 abbrev pub range_refusal : Parts → Option Shown
 range_refusal spec = option_or (invariant_refusal spec) (precondition_refusal spec)
 
--- The refusal by the first condition that a specification breaks, at its first place, or none if it breaks none.
+-- The refusal by the first condition that a specification breaks, at its first place, or `None` if it breaks none.
 abbrev pub first_refusal : Parts → Option Shown
 first_refusal spec =
     option_or (form_refusal spec) (option_or (choice_refusal spec)

@@ -34,22 +34,22 @@ target_shown spec requirement.HasRule c v = other.Nothing
 target_shown spec requirement.CanRun c v = other.Conf (choose spec c v)
 target_shown spec requirement.Stays c v = other.Conf (choose spec c v)
 
--- The first environment in scope in which configuration `c` does not meet a requirement, or none.
+-- The first environment in scope in which configuration `c` does not meet a requirement, or `None`.
 abbrev pub first_unmet_env : Parts → Requirement → ConfId → Option Env
 first_unmet_env spec asked c = first_passing_env spec (is_unmet spec asked c)
 
--- The first environment that a cover has for a requirement, or none.
+-- The first environment that a cover has for a requirement, or `None`.
 abbrev pub unmet_of_cover : Cover → Requirement → Option Env
 unmet_of_cover cover requirement.HasRule = cover.unfit
 unmet_of_cover cover requirement.CanRun = cover.not_runnable
 unmet_of_cover cover requirement.Stays = cover.unsettled
 
--- The refusal for the first environment in which configuration `c` does not meet a requirement, or none.
+-- The refusal for the first environment in which configuration `c` does not meet a requirement, or `None`.
 abbrev pub requirement_refusal_of : Parts → Requirement → ℕ → Option Shown
 requirement_refusal_of spec asked c =
     option_map (λ (v : Env). shown_in (number_of_requirement asked) c v (target_shown spec asked (conf_id c) v)) (first_unmet_env spec asked (conf_id c))
 
--- The refusal for the first configuration that does not meet a requirement, or none.
+-- The refusal for the first configuration that does not meet a requirement, or `None`.
 abbrev pub requirement_refusal : Parts → Requirement → Option Shown
 requirement_refusal spec asked = first_below (requirement_refusal_of spec asked) (length spec.confs)
 
@@ -57,7 +57,7 @@ requirement_refusal spec asked = first_below (requirement_refusal_of spec asked)
 abbrev pub leaves_start : Parts → Bool
 leaves_start spec = not ((choose spec spec.start (opening_env spec)).0 == spec.start.0)
 
--- A8: the refusal if the table leaves the start configuration in the opening environment, or none.
+-- A8: the refusal if the table leaves the start configuration in the opening environment, or `None`.
 abbrev pub start_refusal : Parts → Option Shown
 start_refusal spec =
     shown_if (leaves_start spec) (shown_in 8 spec.start.0 (opening_env spec) (other.Conf (choose spec spec.start (opening_env spec))))

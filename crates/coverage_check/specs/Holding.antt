@@ -59,15 +59,15 @@ holds_from spec inv i = holds_leaving spec inv (place_of spec i inv.app.0) && ho
 abbrev pub breaks_from : Parts → Invariant → ConfId → Bool
 breaks_from spec inv i = has_source inv.from i && not (holds_from spec inv i)
 
--- The refusal of invariant `k` for the first configuration from which it can break, or none.
+-- The refusal of invariant `k` for the first configuration from which it can break, or `None`.
 abbrev pub invariant_refusal_of : Parts → ℕ → Invariant → Option Shown
 invariant_refusal_of spec k inv = first_below (λ i. shown_if (breaks_from spec inv (conf_id i)) (shown_at 11 i (other.Item k))) (length spec.confs)
 
--- The refusal of the invariant of this index, or none, also if there is no such invariant.
+-- The refusal of the invariant of this index, or `None` if it cannot break or if there is no such invariant.
 abbrev pub invariant_refusal_at : Parts → ℕ → Option Shown
 invariant_refusal_at spec k = option_map_or (invariant_refusal_of spec k) (slice_get spec.invariants k) None
 
--- A11: the refusal of the first invariant that can break, or none.
+-- A11: the refusal of the first invariant that can break, or `None`.
 abbrev pub invariant_refusal : Parts → Option Shown
 invariant_refusal spec = first_below (invariant_refusal_at spec) (length spec.invariants)
 
@@ -81,14 +81,15 @@ holds_entering spec pre (Some place) = holds_range pre.least pre.greatest (after
 abbrev pub breaks_entering : Parts → Precondition → Bool
 breaks_entering spec pre = not (holds_entering spec pre (place_of spec pre.conf pre.app.0))
 
--- The refusal of precondition `k` if it may be broken, or none.
+-- The refusal of precondition `k` if it may be broken, or `None`.
 abbrev pub precondition_refusal_of : Parts → ℕ → Precondition → Option Shown
 precondition_refusal_of spec k pre = shown_if (breaks_entering spec pre) (shown_at 12 pre.conf.0 (other.Item k))
 
--- The refusal of the precondition of this index, or none, also if there is no such precondition.
+-- The refusal of the precondition of this index, or `None` if it cannot be broken or if there is no such
+-- precondition.
 abbrev pub precondition_refusal_at : Parts → ℕ → Option Shown
 precondition_refusal_at spec k = option_map_or (precondition_refusal_of spec k) (slice_get spec.preconditions k) None
 
--- A12: the refusal of the first precondition that may be broken, or none.
+-- A12: the refusal of the first precondition that may be broken, or `None`.
 abbrev pub precondition_refusal : Parts → Option Shown
 precondition_refusal spec = first_below (precondition_refusal_at spec) (length spec.preconditions)

@@ -43,7 +43,8 @@ slowest spec =
 abbrev pub least : Parts → ConfId → ConfId → ℕ
 least spec i j = 1 + halting_time spec i + further spec.policy spec.changes * slowest spec + preparing_time spec j + initialising_time spec j
 
--- Whether a reconfiguration may end where it began, since a further change is possible.
+-- Whether a reconfiguration may end in the configuration in which it began. It may do so if a further change is
+-- possible.
 abbrev pub can_return : Parts → Bool
 can_return spec = nat_lt 0 (further spec.policy spec.changes)
 
@@ -69,13 +70,13 @@ asked_bounds spec i = bits_below (is_bound_asked spec i) (length spec.confs)
 abbrev pub lacks_bound : Parts → ConfId → ℕ → Bool
 lacks_bound spec i j = is_bound_asked spec i j && not (is_bounded spec i (conf_id j))
 
--- The refusal for the first target of configuration `i` without a sufficient bound, or none.
+-- The refusal for the first target of configuration `i` without a sufficient bound, or `None`.
 abbrev pub bound_refusal_of : Parts → ℕ → Option Shown
 bound_refusal_of spec i =
     first_below (λ j. shown_if (lacks_bound spec (conf_id i) j) (shown_at 9 i (other.Least (conf_id j) (least spec (conf_id i) (conf_id j)))))
     (length spec.confs)
 
--- A9: the refusal for the first configuration from which a required bound is missing or too small, or none.
+-- A9: the refusal for the first configuration from which a required bound is missing or too small, or `None`.
 abbrev pub bound_refusal : Parts → Option Shown
 bound_refusal spec = first_below (bound_refusal_of spec) (length spec.confs)
 
@@ -88,6 +89,6 @@ greatest_bound (bound ∷ bounds) = max bound.frames (greatest_bound bounds)
 abbrev pub has_short_window : Parts → Bool
 has_short_window spec = nat_lt spec.window (greatest_bound spec.bounds + 1)
 
--- A10: the refusal if the window is not longer than the greatest bound, or none.
+-- A10: the refusal if the window is not longer than the greatest bound, or `None`.
 abbrev pub window_refusal : Parts → Option Shown
 window_refusal spec = shown_if (has_short_window spec) (shown_nowhere 10 (other.Count (greatest_bound spec.bounds)))

@@ -56,10 +56,11 @@ pub enum AcceptError {
 ///
 /// # Errors
 ///
-/// Returns the refusal by the first condition that does not hold, with its smallest configuration, then the environment
-/// with the smallest number, then the smallest other value. For invariants and preconditions, the first item is shown,
-/// with its smallest configuration. For demands, the smallest configuration comes first, then the first demand, then
-/// its first environment. Also fails if memory runs out. The specification is given back in both cases.
+/// Returns the refusal by the first condition that does not hold, at its smallest configuration, then at the
+/// environment with the smallest number, then at the smallest other value. For invariants and preconditions, the
+/// first item is shown, with its smallest configuration. For demands, the smallest configuration comes first, then
+/// the first demand, then its first environment. Returns `NoMemory` if memory runs out. Both errors give back the
+/// specification.
 #[tactic(auto, using(crate::proofs::Accepting::accepted))]
 pub fn accept(alloc: Global, spec: Spec) -> Result<Accepted, AcceptError>
     ensures accepted { IfOk result (λ accepted. accepted ≡ spec) }

@@ -32,7 +32,7 @@ pub fn least(spec: &Spec, i: ConfId, j: ConfId) -> u32
 ///
 /// # Errors
 ///
-/// Out of memory.
+/// Returns an error if memory runs out.
 pub fn asked_bounds(alloc: Global, spec: &Spec, i: ConfId) -> Result<u16, NoMemory>
     requires { i.0 < length spec.now.confs }
     ensures { IfOk result (λ asked. asked ≡ asked_bounds spec.now i) }

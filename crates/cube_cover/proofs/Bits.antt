@@ -35,7 +35,7 @@ has_each p low = rw (bit_at_ones 64 p low) refl
 pub has_shifted : (a k p : ℕ) → has_bit (a / 2 ^ k) p ≡ has_bit a (k + p)
 has_shifted a k p = ap (λ (n : ℕ). n % 2 == 1) (shr-shr a k p)
 
--- the digits of one place
+-- Lemmas on the bits of one place.
 
 wide : (x : ℕ) → x < 14 → 2 ^ (4 * x) ≤ 2 ^ 52
 wide x low = let last : 4 * x ≤ 52 = omega arith in pow-le-pow_right {n = 2} (omega arith) last

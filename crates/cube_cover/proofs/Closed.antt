@@ -1,4 +1,4 @@
--- Cubes with all digits and with none.
+-- Lemmas on cubes with all digits open, and on cubes with no digit open at some place.
 use Rattle.std.proofs.Common.{◌≡◌, ◌∙◌, ℕ, ◌+◌, ◌*◌, ◌-◌, ◌^◌, ◌<◌, ◌≤◌, ◌%◌, refl, ap, sym, arith, Bool, true, false, not, ◌&&◌, ◌||◌}
 use mathlib.Core.Logic.{inl, inr}
 use Rattle.std.specs.Prelude.{◌==◌, bit_and, if◌then◌else◌}
@@ -28,7 +28,7 @@ pub holds_none : (v : Env) → holds (record { bits = 0 }) v ≡ false
 unfolding holds
 holds_none v = all_false (allows (record { bits = 0 }) v) 14 0 (omega arith) (has_none (4 * 0 + digit_in v 0))
 
--- if a cube holds an environment, some digit is open at each place
+-- If a cube holds an environment, some digit is open at each place.
 pub open_at : (cube : Cube) (x : ℕ) (v : Env) → x < 14 → HasDigits v → holds cube v ≡ true → bit_and cube.bits (field_of x) ≡ 0 → true ≡ false
 unfolding holds
 open_at cube x v low digits held none =
@@ -37,7 +37,7 @@ open_at cube x v low digits held none =
     has_and cube.bits (field_of x) (4 * x + digit_in v x) ∙ and_true (allows cube v x) _ here (field_bits x x (digit_in v x) (digits.small x) ∙ equal_test x x refl) in
     sym both ∙ ap (λ (n : ℕ). has_bit n (4 * x + digit_in v x)) none ∙ has_none (4 * x + digit_in v x)
 
--- an environment's digits, one by one
+-- Lemmas on the digits of an environment.
 
 pub digit_factor : (v : Env) (x : ℕ) → x < 6 → digit_in v x ≡ factor_in v x
 unfolding digit_in
@@ -61,12 +61,13 @@ down_test false = refl
 digit_down : (v : Env) (p : ℕ) → (digit_in v (6 + p) == 1) ≡ not (is_up_in v p)
 digit_down v p = ap (λ (n : ℕ). n == 1) (digit_processor v p) ∙ down_test (is_up_in v p)
 
--- one digit at a place
+-- A cube with one open digit at place `x` allows an environment at `x` if and only if the environment has this digit
+-- there.
 
 pub one_digit : (v : Env) (x d : ℕ) → 4 * x + d < 64 → allows (record { bits = (1 * 2 ^ (4 * x + d)) % 2 ^ 64 }) v x ≡ (digit_in v x == d)
 one_digit v x d low = ap (λ (n : ℕ). has_bit n (4 * x + digit_in v x)) (one_shl (4 * x + d) 64 low) ∙ digit_bits x d (digit_in v x)
 
--- each processor of a set
+-- Lemmas on the sets of processors that have to be up or down.
 
 up_by_members : (set : ℕ) (v : Env) → set < 256 → all_below (λ p. not (has_bit set p) || is_up_in v p) 8 ≡ all_up set v
 up_by_members set v few = same_test _ _

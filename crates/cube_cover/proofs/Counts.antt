@@ -7,7 +7,8 @@ use Rattle.scram_types.specs.Bits.{count_below}
 use Rattle.cube_cover.specs.Cubes.{once}
 use Rattle.cube_cover.specs.Sizes.{sum_below}
 
--- a test of the quotient and a test of the remainder: row by row
+-- The number of `n` below `a * b` such that `n / b` passes one test and `n % b` another is the product of the numbers
+-- that pass each test. The proof goes through the quotients one by one.
 
 row_more : (f g h : ℕ → Bool) (d b k : ℕ) → count_below f (d * b) ≡ count_below g d * count_below h b
     → ((j : ℕ) → j < k → f (d * b + j) ≡ (g d && h j)) → count_below f (d * b + k) ≡ count_below g d * count_below h b + (if g d then count_below h k else 0)
@@ -42,7 +43,7 @@ pub count_never : (f : ℕ → Bool) (n : ℕ) → ((k : ℕ) → k < n → f k 
 count_never f zero none = refl
 count_never f (suc n) none = rw (count_never f n (λ k less. none k (omega arith)), none n (omega arith)) refl
 
--- sums
+-- Lemmas on sums.
 
 pub sum_same : (f g : ℕ → ℕ) (n : ℕ) → ((k : ℕ) → k < n → f k ≡ g k) → sum_below f n ≡ sum_below g n
 sum_same f g zero same = refl
@@ -64,7 +65,7 @@ pub sum_most : (f : ℕ → ℕ) (n : ℕ) → ((k : ℕ) → k < n → f k ≤ 
 sum_most f zero few = omega arith
 sum_most f (suc n) few = let before = sum_most f n (λ k less. few k (omega arith)) in let last = few n (omega arith) in omega arith
 
--- numbers parted by a number below m that each of them has
+-- If each number belongs to one part below `m`, the counts of all parts add up to the whole count.
 pub sum_parted : (test : ℕ → Bool) (part : ℕ → ℕ) (n m : ℕ) → ((k : ℕ) → k < n → part k < m)
     → sum_below (λ j. count_below (λ k. test k && (part k == j)) n) m ≡ count_below test n
 sum_parted test part zero m inside = sum_zero (λ j. 0) m (λ j less. refl)
@@ -84,7 +85,8 @@ sum_parted test part (suc n) m inside =
         count_same (λ j. t && (p == j)) (λ j. (p == j && t) || false) m (λ j small. same_part t (p == j))
         ∙ count_more (λ j. false) p m t less (λ e. refl) ∙ ap (λ (n : ℕ). n + once t) (count_none m) ∙ (omega arith)
 
--- one number is counted, or not
+-- The count of the numbers up to and including `n` is one more than the count below `n` if `n` passes the test, and
+-- the same otherwise.
 pub count_pass : (test : ℕ → Bool) (n m : ℕ) → m ≡ count_below test n → test n ≡ true → m + 1 ≡ count_below test (n + 1)
 count_pass test n m is passes = let next : n + 1 ≡ suc n = omega arith in rw (next, is, passes) refl
 

@@ -24,7 +24,7 @@ use Rattle.cube_cover.proofs.Closed.{digit_factor, digit_processor}
 use Rattle.cube_cover.proofs.Counts.{count_never, count_product, sum_both, sum_most, sum_once, sum_same, sum_zero}
 use Rattle.cube_cover.proofs.Holders.{held_before, held_by_none, held_once, held_taken}
 
--- the environments that are held, by factors and by processors
+-- Lemmas on the test of all places, split into the factors and the processors.
 
 all_parts : (test : ℕ → Bool) (a n : ℕ) → all_below test (a + n) ≡ (all_below test a && all_below (λ k. test (a + k)) n)
 all_parts test a zero = let e : a + 0 ≡ a = omega arith in rw (e) (keep (all_below test a))
@@ -64,7 +64,7 @@ open_list cube (a ∷ b ∷ c ∷ d ∷ []) six = absurd (omega arith)
 open_list cube (a ∷ b ∷ c ∷ d ∷ e ∷ []) six = absurd (omega arith)
 open_list cube (a ∷ b ∷ c ∷ d ∷ e ∷ f ∷ g ∷ more) six = absurd (omega arith)
 
--- a cube holds an environment if its factors' values and its processors are open
+-- A cube holds an environment if and only if the values of its factors and the digits of its processors are open.
 pub held_by_parts : (cube : Cube) (v : Env) → length v.factors ≡ 6 → holds cube v ≡ (are_open cube 0 v.factors && allows_up cube v.up)
 unfolding holds
 held_by_parts cube v six =
@@ -74,7 +74,7 @@ held_by_parts cube v six =
     ∙ ap (λ (b : Bool). are_open cube 0 v.factors && b)
     (all_same (λ k. allows cube v (6 + k)) (λ p. is_open_digit cube (6 + p) (digit_of_processor v.up p)) 8 (λ p low. ap (λ (d : ℕ). has_bit cube.bits (4 * (6 + p) + d)) (digit_processor v p)))
 
--- combinations of values
+-- Lemmas on combinations of values.
 
 from_first : (n : ℕ) → 0 + n ≡ n
 from_first n = omega arith
@@ -108,7 +108,8 @@ module _ (spec : Parts) (made : IsSpec spec) (cube : Cube) where
       let few = made.factors_count in
       length-append (values_of spec.factors n) zeros ∙ rw (values_length spec.factors n, length-replicate {A = ℕ} (6 - length spec.factors) 0) (omega arith)
 
-  -- a number's environment, by its set of processors and its combination of values
+  -- The environment with number `n` is in scope and held by the cube if and only if its set of processors is allowed
+  -- and its combination of values is open.
   held_number : (n : ℕ) → are_open cube (length spec.factors) zeros ≡ true → passes_at spec (holds cube) n
       ≡ (is_down_held spec cube (n / combinations spec.factors) && are_open cube 0 (values_of spec.factors (n % combinations spec.factors)))
   held_number n shut =
@@ -143,7 +144,8 @@ module _ (spec : Parts) (made : IsSpec spec) (cube : Cube) where
       turn true false u = refl
       turn false a u = refl
 
-  -- the number of environments in scope that the cube holds
+  -- The number of environments in scope that the cube holds is the number of sets of processors times the number of
+  -- combinations of values, or 0 if digit 0 is not open at some place past the last factor.
   pub size_counted : (sets ways : ℕ) → are_open cube (length spec.factors) zeros ≡ true → sets ≡ count_below (is_down_held spec cube) (2 ^ length spec.procs)
       → ways ≡ open_ways cube 0 spec.factors → sets * ways ≡ count_where spec (holds cube)
   size_counted sets ways shut sets_are ways_are =
@@ -154,9 +156,9 @@ module _ (spec : Parts) (made : IsSpec spec) (cube : Cube) where
   pub size_none : are_open cube (length spec.factors) zeros ≡ false → 0 ≡ count_where spec (holds cube)
   size_none shut = sym (count_never (passes_at spec (holds cube)) (environments spec) (λ n less. none_number n shut))
 
--- cubes that hold no environment twice
+-- Lemmas on cubes that hold no environment twice.
 
--- the number of cubes that hold environment number n, or 0 if it is not in scope
+-- The number of cubes that hold environment number `n`, or 0 if that environment is not in scope.
 pub held_at : Parts → List Cube → ℕ → ℕ
 held_at spec cubes n = if is_number_in_scope spec n then holders cubes (numbered spec n) else 0
 
@@ -170,11 +172,11 @@ module _ (spec : Parts) (made : IsSpec spec) (cubes : List Cube) (disjoint : Are
       (λ scope. let most = disjoint (numbered spec n) (known n less scope) in let part = held_before cubes k (numbered spec n) in rw (scope) (omega arith))
       (λ out. rw (out) (omega arith))
 
-  -- no more environments are counted than there are
+  -- The first `k` cubes hold at most as many environments in scope as the specification has environments.
   pub held_most : (k : ℕ) → sum_below (held_at spec (take k cubes)) (environments spec) ≤ environments spec
   held_most k = sum_most (held_at spec (take k cubes)) (environments spec) (λ n less. held_few k n less)
 
-  -- each that is held is counted once
+  -- Each environment in scope that some cube holds is counted once.
   pub held_all : sum_below (held_at spec cubes) (environments spec) ≡ count_where spec (is_in cubes)
   unfolding held_at holders
   held_all =
@@ -205,7 +207,7 @@ held_next spec cubes k d low =
     part true n h = refl
     part false n h = refl
 
--- the loops that count
+-- Lemmas on the loops that count.
 
 pub ways_step : (cube : Cube) (factors : List Factor) (x product ways total : ℕ) → x < length factors → ways ≡ count_below (is_open_digit cube x) (value_count factors x)
     → product * open_ways cube x (drop x factors) ≡ total → product * ways * open_ways cube (x + 1) (drop (x + 1) factors) ≡ total

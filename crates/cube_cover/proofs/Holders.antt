@@ -27,7 +27,7 @@ held_before [] (suc k) v = omega arith
 held_before (cube ∷ cubes) zero v = omega arith
 held_before (cube ∷ cubes) (suc k) v = let before = held_before cubes k v in omega arith
 
--- an environment is held if some cube holds it
+-- An environment is in a list of cubes if and only if the number of cubes that hold it is greater than 0.
 pub held_in : (cubes : List Cube) (v : Env) → is_in cubes v ≡ nat_lt 0 (holders cubes v)
 unfolding holders is_in
 held_in [] v = refl
@@ -37,7 +37,8 @@ held_in (cube ∷ cubes) v = first (holds cube v) (is_in cubes v) (holders cubes
     first true t n e = sym (below_test 0 (once true + n) (omega arith))
     first false t n e = let same : n ≡ once false + n = omega arith in e ∙ ap (nat_lt 0) same
 
--- if no environment is held twice, the number of cubes that hold it is 1 or 0, as it is held or not
+-- If no environment is held twice, the number of cubes that hold an environment is 1 if the environment is held, and
+-- 0 otherwise.
 pub held_once : (cubes : List Cube) (v : Env) → holders cubes v ≤ 1 → holders cubes v ≡ once (is_in cubes v)
 held_once cubes v most = count (holders cubes v) most ∙ ap once (sym (held_in cubes v))
   where
@@ -46,26 +47,27 @@ held_once cubes v most = count (holders cubes v) most ∙ ap once (sym (held_in 
     count (suc zero) most = refl
     count (suc (suc n)) most = absurd (omega arith)
 
--- sums of tests
+-- Lemmas on sums of tests.
 
 pub add_none : (n : ℕ) (b : Bool) → b ≡ false → n ≡ n + once b
 add_none n true e = absurd (cc)
 add_none n false e = omega arith
 
--- the parts that are cut off at the first places, and at the next place
+-- The part that is cut off at the next place, added to the parts that were cut off before, gives the part outside of
+-- all these places.
 pub cut_more : (n : ℕ) (c s t : Bool) → (n + once (c && not s)) + once ((c && s) && not t) ≡ n + once (c && not (s && t))
 cut_more n true true t = omega arith
 cut_more n true false t = omega arith
 cut_more n false s t = omega arith
 
--- a part of a list's holders, and of the next cube
+-- If a part has the holders of a list, the part with the next cube has the holders of the longer list.
 pub part_more : (n : ℕ) (h p : Bool) → (if p then n else 0) + once (h && p) ≡ (if p then n + once h else 0)
 part_more n true true = refl
 part_more n true false = refl
 part_more n false true = refl
 part_more n false false = refl
 
--- the environments that are held in a split
+-- Lemmas on the environments that the two lists of a split hold.
 
 kept_whole : (b : Bool) → b ≡ (b && true)
 kept_whole true = refl

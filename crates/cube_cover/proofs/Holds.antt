@@ -27,7 +27,7 @@ and_between true false true = refl
 and_between true false false = refl
 and_between false b c = refl
 
--- a test that is both of two others
+-- A cube of the bits that two cubes share holds an environment if and only if both cubes hold it.
 all_both : (f g h : ℕ → Bool) (n : ℕ) → ((y : ℕ) → h y ≡ (f y && g y)) → all_below h n ≡ (all_below f n && all_below g n)
 all_both f g h zero same = refl
 all_both f g h (suc n) same = rw (all_both f g h n same, same n) (paired (all_below f n) (all_below g n) (f n) (g n))
@@ -42,7 +42,8 @@ pub both_holds : (one other : Cube) (v : Env) → holds (record { bits = bit_and
 unfolding holds
 both_holds one other v = all_both (allows one v) (allows other v) (allows (record { bits = bit_and one.bits other.bits }) v) 14 (λ y. has_and one.bits other.bits (4 * y + digit_in v y))
 
--- a test that is narrowed at one number
+-- If a test of numbers is narrowed at one number `x` by a condition, all numbers pass it if and only if they pass the
+-- first test and the condition holds.
 pub narrowed : (f g : ℕ → Bool) (b : Bool) (x n : ℕ) → x < n → ((y : ℕ) → y < n → y ≢ x → g y ≡ f y) → g x ≡ (f x && b) → all_below g n ≡ (all_below f n && b)
 narrowed f g b x zero low same here = absurd (omega arith)
 narrowed f g b x (suc n) low same here = elim (same_or_not x n) [

@@ -22,7 +22,7 @@ use Rattle.cube_cover.specs.Leasts.{belongs, least_digit, least_env}
 use Rattle.cube_cover.proofs.Closed.{digit_factor, digit_processor}
 use Rattle.cube_cover.proofs.Scopes.{has_digits, is_digit_there}
 
--- sums that grow with their summands
+-- Lemmas on sums that grow with their summands.
 
 more_or_same : (a b : Bool) (m : ℕ) → (a ≡ true → b ≡ true) → (if a then m else 0) ≤ (if b then m else 0)
 more_or_same true b m h = rw (h refl) (omega arith)
@@ -53,7 +53,7 @@ digits_grow (f ∷ fs) (a ∷ as_) (b ∷ bs) same h =
     let product = mul-le a (combinations fs) b (combinations fs) first (omega arith) in
     omega (arith, product, rest)
 
--- the smallest digit that is open
+-- Lemmas on the smallest open digit of a place.
 
 IsLeastDigit : Cube → ℕ → ℕ → Type 0
 IsLeastDigit cube x d = (least_digit cube x ≤ d) × (has_bit cube.bits (4 * x + least_digit cube x) ≡ true)
@@ -167,7 +167,7 @@ module _ (spec : Parts) (made : IsSpec spec) (cube : Cube) where
     ];
   }
 
-  -- compared with an environment that the cube holds
+  -- The environment of smallest digits has a number that is at most that of each environment that the cube holds.
 
   module _ (v : Env) (known : IsEnv spec v) (held : holds cube v ≡ true) where
     digits : HasDigits v
@@ -270,7 +270,8 @@ module _ (spec : Parts) (made : IsSpec spec) (cube : Cube) where
           ap (λ (y : ℕ). has_bit cube.bits (4 * y + digit_in (least_env spec cube) y)) (sym split) ∙ processor_held (x - 6) (omega arith)
     ])
 
-  -- so it is found if and only if there is one
+  -- If the environment of smallest digits belongs to the specification, is held and is in scope, it is the first that
+  -- the cube holds. Otherwise the cube holds no environment in scope.
 
   pub found : (env : Env) → env ≡ least_env spec cube → belongs spec env ≡ true → holds cube env ≡ true → in_scope spec env ≡ true → IsLeast spec (λ v. holds cube v) env
   found env is belonging held scope =
@@ -296,7 +297,7 @@ module _ (spec : Parts) (made : IsSpec spec) (cube : Cube) where
   pub missed_scope : (env : Env) → env ≡ least_env spec cube → in_scope spec env ≡ false → (v : Env) → IsEnv spec v → in_scope spec v ≡ true → holds cube v ≡ false
   missed_scope env is fails v known scope = missed (in_scope spec) env v is fails (λ t. least_in_scope v known t scope)
 
-  -- a cube in whose environments too many processors are down holds none in scope
+  -- A cube in whose environments more processors are down than the scope allows holds no environment in scope.
 
   pub out_of_scope : spec.halts < count_below (λ p. not (may_be_up cube p)) (length spec.procs) → (v : Env) → IsInScope spec v → holds cube v ≡ false
   out_of_scope many v scope = by_bool (holds cube v)

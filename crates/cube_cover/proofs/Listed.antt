@@ -14,7 +14,8 @@ length_last : {A : Type 0} (xs : List A) (x : A) → length (xs ++ x ∷ []) ≡
 length_last [] x = refl
 length_last (y ∷ ys) x = let before = length_last ys x in omega (arith, before)
 
--- a fact on each item by its index, after an item is added
+-- If a fact holds for each item of a list by its index, and for an added item, it holds for each item of the longer
+-- list.
 pub each_more : {A : Type 0} (Fact : ℕ → A → Type 0) (before after : List A) (n : ℕ) (x : A) → after ≡ before ++ x ∷ [] → length before ≡ n
     → ((k : ℕ) (y : A) → slice_get before k ≡ Some y → Fact k y) → Fact n x → (k : ℕ) (y : A) → slice_get after k ≡ Some y → Fact k y
 each_more {A} Fact before after n x is count each last k y there =

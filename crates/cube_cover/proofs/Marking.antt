@@ -28,7 +28,7 @@ pub marks_one : (regions : List Region) (region : Region) (passes : ℕ → Bool
 unfolding is_marked
 marks_one regions region passes v = list_any-append (is_held passes v) regions (region ∷ []) ∙ ap (λ (b : Bool). list_any (is_held passes v) regions || b) (or-false (is_held passes v region))
 
--- a cube is added with its target
+-- Lemmas on the addition of cubes with a common target.
 
 spread : (m t h p : Bool) → ((m || (t && p)) || (p && h)) ≡ (m || ((t || h) && p))
 spread true t h p = refl
@@ -50,7 +50,7 @@ assigned_more before mid after cubes k d target low so_far is passes v =
     ∙ spread (is_marked before passes v) (is_in (take k cubes) v) (holds (get_or cubes k d) v) (passes target.0)
     ∙ ap (λ (b : Bool). is_marked before passes v || (b && passes target.0)) (sym (taken_more cubes k d v low))
 
--- the cubes of the selected regions
+-- Lemmas on the cubes of the selected regions.
 
 pub picked_none : (passes : ℕ → Bool) (cubes : List Cube) → cubes ≡ [] → HoldsMarked [] passes cubes
 picked_none passes cubes e v = ap (λ (xs : List Cube). is_in xs v) e ∙ in_none v ∙ sym (marks_none passes v)
@@ -61,7 +61,7 @@ picked_more regions k d passes mid after low so_far more v =
     more v ∙ ap (λ (b : Bool). b || is_held passes v (get_or regions k d)) (so_far v)
     ∙ sym (ap (λ (rs : List Region). is_marked rs passes v) (take_more regions k d low) ∙ marks_one (take k regions) (get_or regions k d) passes v)
 
--- the environments that a rule takes
+-- Lemmas on the environments that a rule takes from the cubes.
 
 both_parts : (o f r p : Bool) → ((o && (f && p)) || ((o && not f) && r)) ≡ (o && (if f then p else r))
 both_parts true true r true = refl
@@ -107,7 +107,7 @@ module _ (spec : Parts) (c : ConfId) (rules : List Choice) (k : ℕ) (d : Choice
       ∙ ap (λ (b : Bool). is_in open_before v && b) (sym (ruled_next passes v) ∙ ap (λ (rs : List Choice). is_ruled rs c passes v) (sym next_rule)))
       ∙ before v scope
 
--- one rule
+-- Lemmas on one rule that fits configuration `c` or not.
 
 and_none : (a b : Bool) → b ≡ false → (a && b) ≡ false
 and_none true b e = e

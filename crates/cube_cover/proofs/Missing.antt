@@ -25,7 +25,7 @@ use Rattle.cube_cover.proofs.Marking.{marks_one}
 use Rattle.cube_cover.proofs.Targets.{choose_inside}
 use Rattle.cube_cover.proofs.Tests.{swap_and}
 
--- one region
+-- Lemmas on one region.
 
 pub in_set : (met a h b : Bool) → met ≡ a → a ≡ true → ((not met && h) && b) ≡ false
 in_set met a h b is e = rw (is, e) refl
@@ -37,14 +37,15 @@ not_both false h b e = refl
 pub both_outside : (met a h b : Bool) → met ≡ a → a ≡ false → (h && b) ≡ ((not met && h) && b)
 both_outside met a h b is e = rw (is, e) refl
 
--- two parts of a list and the next item
+-- `(t && h) || (c && h)` equals `(t || c) && h`.
 either_part : (t c h : Bool) → ((t && h) || (c && h)) ≡ ((t || c) && h)
 either_part true c true = refl
 either_part true true false = refl
 either_part true false false = refl
 either_part false c h = refl
 
--- the next region
+-- An environment is marked by the first `k + 1` regions if and only if it is marked by the first `k` regions or held
+-- by the next one.
 pub marked_more : (regions : List Region) (by : Cube) (passes : ℕ → Bool) (k : ℕ) (d : Region) (v : Env) → k < length regions
     → ((is_marked (take k regions) passes v && holds by v) || (is_held passes v (get_or regions k d) && holds by v)) ≡ (is_marked (take (k + 1) regions) passes v && holds by v)
 marked_more regions by passes k d v low =
@@ -52,7 +53,8 @@ marked_more regions by passes k d v low =
     ∙ ap (λ (b : Bool). b && holds by v)
     (sym (ap (λ (rs : List Region). is_marked rs passes v) (take_more regions k d low) ∙ marks_one (take k regions) (get_or regions k d) passes v))
 
--- all regions of a configuration of which the demand asks something
+-- If a demand applies to configuration `i`, the table misses it in exactly those environments of the demand's cube
+-- that are in a region of `i` whose target does not meet the demand.
 pub missed : (spec : Parts) (made : IsSpec spec) (i : ConfId) (demand : Demand) (regions : List Region) (by : Cube) (met : ℕ) → i.0 < length spec.confs
     → AreAll spec i regions → Agree spec (holds by) (applies_in demand) → met ≡ bits_below (λ c. is_met spec demand (conf_id c)) 12 → applies_from demand i ≡ true
     → Agree spec (λ v. is_marked regions (is_outside met) v && holds by v) (misses spec demand i)
@@ -70,7 +72,7 @@ missed spec made i demand regions by met known all speaks is asks v scope =
         ap (λ (n : ℕ). has_bit n (choose spec i v).0) is ∙ has_bits (λ c. is_met spec demand (conf_id c)) 12 (choose spec i v).0 low
         ∙ ap (is_met spec demand) (same_conf (conf_id (choose spec i v).0) (choose spec i v) refl)
 
--- the next demand
+-- An item of a list with an added item is an item of the list or the added item.
 
 in_pushed : {A : Type 0} (xs : List A) (x : A) (k : ℕ) (y : A) → slice_get (xs ++ x ∷ []) k ≡ Some y → (slice_get xs k ≡ Some y) ⊎ ((k ≡ length xs) × (x ≡ y))
 in_pushed [] x zero y h = inr (refl, same_some x y h)
@@ -78,7 +80,7 @@ in_pushed {A} [] x (suc k) y h = let past = slice_get_within {A = A} [] k y h in
 in_pushed (z ∷ xs) x zero y h = inl h
 in_pushed (z ∷ xs) x (suc k) y h = elim (in_pushed xs x k y h) [ inl before ↦ inl before | inr last ↦ inr (ap suc last.0, last.1) ]
 
--- the environments that are found for the first demands
+-- The environments found for the first demands are the first ones in which the table misses them.
 abbrev pub AreFound : Parts → ConfId → List (Option Env) → Type 0
 AreFound spec i found = (k : ℕ) (demand : Demand) (env : Option Env) → slice_get spec.demands k ≡ Some demand → slice_get found k ≡ Some env → IsLeastEnv spec (misses spec demand i) env
 

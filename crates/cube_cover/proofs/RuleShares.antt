@@ -25,7 +25,7 @@ use Rattle.cube_cover.proofs.Counts.{sum_parted}
 use Rattle.cube_cover.proofs.Holders.{held_in}
 use Rattle.cube_cover.proofs.Unions.{least_same}
 
--- the first rule that fits
+-- Lemmas on the first rule that fits.
 
 pub ruled_below : (rules : List Choice) (c : ConfId) (v : Env) → first_rule rules c v < suc (length rules)
 ruled_below [] c v = omega arith
@@ -35,7 +35,7 @@ ruled_below (rule ∷ rules) c v = pick (rule_fits c v rule) (ruled_below rules 
     pick true h = omega arith
     pick false h = omega arith
 
--- if no rule before rule k fits, rule k is the first if it fits, and else no rule up to it fits
+-- If no rule before rule `k` fits, rule `k` is the first that fits if it fits. Otherwise no rule up to `k` fits.
 pub first_fit : (rules : List Choice) (c : ConfId) (v : Env) (k : ℕ) (d : Choice) → k < length rules → k ≤ first_rule rules c v
     → (rule_fits c v (get_or rules k d) ≡ true → first_rule rules c v ≡ k) × (rule_fits c v (get_or rules k d) ≡ false → k < first_rule rules c v)
 first_fit [] c v k d low before = absurd (omega arith)
@@ -79,18 +79,19 @@ last_rule rules c v k past low = let most = ruled_below rules c v in same_test _
     (λ up. equal_test (first_rule rules c v) k (let least = at_most k _ up in omega arith))
     (λ here. let same = equal (first_rule rules c v) k here in at_most_test k _ (omega arith))
 
--- the shares of a configuration add up
+-- The shares of a configuration add up to the number of environments in scope.
 pub shares_sum : SharesAddUp
 shares_sum spec c = sum_parted (is_number_in_scope spec) (λ n. first_rule spec.rules c (numbered spec n)) (environments spec) (suc (length spec.rules))
     (λ n less. ruled_below spec.rules c (numbered spec n))
 
--- the test may be replaced by an equal one
+-- Two tests that agree on all environments in scope have the same count.
 pub count_where_same : (spec : Parts) → IsSpec spec → (s t : Env → Bool) → ((v : Env) → IsInScope spec v → s v ≡ t v) → count_where spec s ≡ count_where spec t
 count_where_same spec made s t same = count_same (passes_at spec s) (passes_at spec t) (environments spec) (λ n less. by_bool (is_number_in_scope spec n)
     (λ scope. rw (scope) (same (numbered spec n) (record { belongs = is_env spec made.factors made.factors_count n less; scope = scope })))
     (λ out. rw (out) refl))
 
--- the environment with the smallest number is the first
+-- The environment in scope with the smallest number that passes the test is the first one that a search by number
+-- finds.
 
 told_if : {A : Type 0} (b : Bool) (x : A) → b ≡ true → (if b then Some x else None) ≡ Some x
 told_if b x e = rw e refl
@@ -129,7 +130,7 @@ module _ (spec : Parts) (made : IsSpec spec) (test : Env → Bool) where
       let here : found_at (number_of spec v) ≡ Some v = told_if _ (numbered spec (number_of spec v)) passes ∙ ap Some same in
       sym (first_found found_at (environments spec) (number_of spec v) v before here inside)
 
--- the test of a share may be replaced by an equal one
+-- A share of one test is a share of another test that agrees with it on all environments in scope.
 pub share_same : (spec : Parts) → IsSpec spec → (s t : Env → Bool) (share : Share) → Agree spec s t → IsShare spec s share → IsShare spec t share
 share_same spec made s t share same is = record {
   count = is.count ∙ count_where_same spec made s t same;
@@ -145,17 +146,17 @@ module _ (spec : Parts) (made : IsSpec spec) (c : ConfId) (k : ℕ) (cubes : Lis
   held_from v scope = held_in cubes v ∙ ap (nat_lt 0) (held v scope) ∙ positive (nat_le k (first_rule spec.rules c v))
 
   module _ (d : Choice) (low : k < length spec.rules) (share : Share) where
-    -- the environments that a rule takes of the cubes are its share
+    -- The environments that rule `k` takes from the remaining cubes are its share.
     pub rule_share : IsShare spec (λ v. is_in cubes v && rule_fits c v (get_or spec.rules k d)) share → IsShare spec (is_ruled_by spec c k) share
     rule_share is = share_same spec made (λ v. is_in cubes v && rule_fits c v (get_or spec.rules k d)) (is_ruled_by spec c k) share
         (λ v scope. ap (λ (b : Bool). b && rule_fits c v (get_or spec.rules k d)) (held_from v scope) ∙ fits_first spec.rules c v k d low) is
 
-    -- and the rest is the environments that no rule up to it fits
+    -- The cubes that remain after rule `k` hold the environments that no rule up to `k` fits.
     pub rule_rest : (rest : List Cube) → HoldsRest spec c (get_or spec.rules k d) cubes rest → (v : Env) → IsInScope spec v → holders rest v ≡ once (nat_le (k + 1) (first_rule spec.rules c v))
     rule_rest rest is v scope =
         is v scope ∙ ap (λ (n : ℕ). if rule_fits c v (get_or spec.rules k d) then 0 else n) (held v scope) ∙ rest_first spec.rules c v k d low
 
-  -- the rest after the last rule is the environments that no rule fits
+  -- The share of the cubes that remain after the last rule is the share of the environments that no rule fits.
   pub last_share : (share : Share) → length spec.rules ≤ k → k ≤ length spec.rules → IsShare spec (is_in cubes) share → IsShare spec (is_ruled_by spec c k) share
   last_share share past low is = share_same spec made (is_in cubes) (is_ruled_by spec c k) share
       (λ v scope. held_from v scope ∙ last_rule spec.rules c v k past low) is

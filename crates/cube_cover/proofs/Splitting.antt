@@ -15,7 +15,7 @@ use Rattle.cube_cover.proofs.Scopes.{has_digits}
 pub digits_in_scope : (spec : Parts) → IsSpec spec → (v : Env) → IsInScope spec v → HasDigits v
 digits_in_scope spec made v scope = has_digits spec made v scope.belongs
 
--- if no digit is left at a place, nothing is held
+-- If no digit is open at a place, a cube holds no environment.
 pub shut : (cube : Cube) (v : Env) (is_open : Bool) → is_open ≡ false → (holds cube v ≡ true → is_open ≡ true) → holds cube v ≡ false
 shut cube v is_open e h = by_bool (holds cube v) (λ t. let clash : true ≡ false = sym (h t) ∙ e in absurd (cc)) (λ f. f)
 
@@ -35,7 +35,8 @@ module _ (spec : Parts) (cube by rest next : Cube) (x : ℕ) where
       ∙ cut_more (holders old v) (holds cube v) (all_below (allows by v) x) (allows by v x)
       ∙ ap (λ (n : ℕ). holders old v + once (holds cube v && not (all_below (allows by v) n))) (plus_one x)
 
--- the next cube, of which the part that passes a test is added
+-- If a list holds the parts of the first `k` cubes that pass a test, and the part of the next cube is added, the list
+-- holds the parts of the first `k + 1` cubes.
 pub parts_more : (spec : Parts) (cubes : List Cube) (k : ℕ) (d : Cube) (part : Env → Bool) (old new : List Cube) → k < length cubes
     → ((v : Env) → IsInScope spec v → holders old v ≡ (if part v then holders (take k cubes) v else 0)) → Gain spec old new (λ v. holds (get_or cubes k d) v && part v)
     → (v : Env) → IsInScope spec v → holders new v ≡ (if part v then holders (take (k + 1) cubes) v else 0)
@@ -43,7 +44,7 @@ parts_more spec cubes k d part old new low before gain v scope =
     gain v scope ∙ ap (λ (n : ℕ). n + once (holds (get_or cubes k d) v && part v)) (before v scope)
     ∙ part_more (holders (take k cubes) v) (holds (get_or cubes k d) v) (part v) ∙ ap (λ (n : ℕ). if part v then n else 0) (sym (held_taken cubes k d v low))
 
--- the environments outside of a cube, by the test of not being held
+-- Lemmas on the environments outside of a cube, which are those that the cube does not hold.
 pub outside_test : (n : ℕ) (b : Bool) → (if not b then n else 0) ≡ (if b then 0 else n)
 outside_test n true = refl
 outside_test n false = refl
@@ -62,7 +63,7 @@ none_split spec by inside outside e f = record {
     either_zero true n e = e
     either_zero false n e = refl
 
--- a cube that does not meet the other stays whole
+-- A cube that shares no environment with another cube lies outside of it as a whole.
 
 pub apart_beyond : (cube by : Cube) (v : Env) → (holds cube v && holds by v) ≡ false → holds cube v ≡ (holds cube v && not (holds by v))
 apart_beyond cube by v e = part (holds cube v) (holds by v) e

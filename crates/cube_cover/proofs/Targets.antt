@@ -28,7 +28,7 @@ use Rattle.cube_cover.specs.Regions.{AreAll, AreRegions, HoldsMarked, MarksMore,
 use Rattle.cube_cover.proofs.Holders.{split_beyond}
 use Rattle.cube_cover.proofs.Unions.{least_either, least_same}
 
--- the chosen configuration exists
+-- The configuration that the table chooses exists.
 
 pick_inside : (n : ℕ) (first : Bool) (x y : ConfId) → x.0 < n → y.0 < n → (if first then x else y).0 < n
 pick_inside n true x y a b = a
@@ -43,7 +43,8 @@ target_inside n (rule ∷ rules) c v inside known =
 pub choose_inside : (spec : Parts) → IsSpec spec → (c : ConfId) (v : Env) → c.0 < length spec.confs → (choose spec c v).0 < length spec.confs
 choose_inside spec made c v known = target_inside (length spec.confs) spec.rules c v (λ k rule there. (made.rules k rule there).to) known
 
--- a test of the target, rule by rule
+-- The first rule that fits, or configuration `c` itself if no rule fits, passes the test of the targets if and only
+-- if the chosen target does.
 
 ruled_or_own : (rules : List Choice) (c : ConfId) (passes : ℕ → Bool) (v : Env) → (is_ruled rules c passes v || (not (list_any (rule_fits c v) rules) && passes c.0)) ≡ passes (target_among rules c v).0
 unfolding is_ruled
@@ -61,7 +62,7 @@ ruled_alone rules c passes v fails =
     drop_own false true p e = sym e
     drop_own false false p e = refl
 
--- all regions of configuration i
+-- Lemmas on all regions of configuration `i`.
 
 pub all_chosen : (spec : Parts) (i : ConfId) (cubes unruled : List Cube) (ruled all : List Region) → Agree spec (is_in cubes) (λ v. true)
     → AreRegions spec i cubes ruled unruled → MarksMore ruled all unruled i → AreAll spec i all
@@ -75,7 +76,7 @@ pub unfit_rest : (spec : Parts) (i : ConfId) (cubes unruled : List Cube) (ruled 
     → AreRegions spec i cubes ruled unruled → Agree spec (is_in unruled) (λ v. not (has_rule spec i v))
 unfit_rest spec i cubes unruled ruled whole found v scope = found.rest v scope ∙ ap (λ (b : Bool). b && not (has_rule spec i v)) (whole v scope)
 
--- one target
+-- Lemmas on one target `t`.
 
 module _ (spec : Parts) (i : ConfId) (t : ℕ) where
   pub chosen_cubes : (regions : List Region) (cubes : List Cube) → AreAll spec i regions → HoldsMarked regions (λ j. j == t) cubes → Agree spec (is_in cubes) (is_chosen_at spec i t)
@@ -108,7 +109,7 @@ module _ (spec : Parts) (i : ConfId) (t : ℕ) where
       picked v ∙ found.targets (λ j. not (j == t)) v scope ∙ ap (λ (b : Bool). b && is_ruled spec.rules (conf_id t) (λ j. not (j == t)) v) (at v scope)
       ∙ ap (λ (b : Bool). is_chosen_at spec i t v && b) (ruled_alone spec.rules (conf_id t) (λ j. not (j == t)) v (ap not (equal_test t t refl)))
 
--- all targets
+-- Lemmas on all targets.
 
 any_equal : (f : ℕ → Bool) (x n : ℕ) → any_below (λ t. (x == t) && f t) n ≡ (any_below (λ t. x == t) n && f x)
 any_equal f x zero = refl
@@ -150,7 +151,7 @@ least_more spec at t before found after so_far here is =
     least_same spec (λ v. any_below (λ k. at k v) t || at t v) _ after (λ v scope. ap (any_below (λ k. at k v)) (plus_one t))
     (subst (IsLeastEnv spec (λ v. any_below (λ k. at k v) t || at t v)) (sym is) (least_either spec (λ v. any_below (λ k. at k v) t) (at t) before found so_far here))
 
--- the set of targets
+-- Lemmas on the set of targets, built up target by target.
 
 pub record HasTargetsBelow (spec : Parts) (i : ConfId) (t set : ℕ) : Type 0 where
   pub few : set < 2 ^ t

@@ -1,4 +1,4 @@
--- Tests joined.
+-- Laws of the joined tests `&&` and `||`.
 use Rattle.std.proofs.Common.{◌≡◌, refl, sym, Bool, true, false, not, ◌&&◌, ◌||◌}
 
 pub or_none : (a b : Bool) → b ≡ false → a ≡ (a || b)

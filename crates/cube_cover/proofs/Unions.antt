@@ -14,7 +14,7 @@ use Rattle.cube_cover.specs.declared.cubes.Cube.{Cube}
 use Rattle.cube_cover.specs.Covers.{IsLeast, IsLeastEnv, earlier_env}
 use Rattle.cube_cover.specs.Cubes.{Agree, holds, is_in}
 
--- the smallest of two
+-- The smaller of two first environments is the first that passes either test.
 
 either_false : (a b : Bool) → a ≡ false → b ≡ false → (a || b) ≡ false
 either_false true b e f = e
@@ -58,7 +58,7 @@ least_either spec s t (Some f) (Some g) a b = by_bool (nat_le (number_of spec f)
       least = λ v known scope test. cases_of (s v) (t v) test (λ e. let after = a.least v known scope e in omega arith) (λ e. b.least v known scope e);
     }
 
--- a test may be stated otherwise
+-- Two tests that agree on all environments in scope have the same first environment.
 
 pub least_same : (spec : Parts) (s t : Env → Bool) (o : Option Env) → Agree spec s t → IsLeastEnv spec s o → IsLeastEnv spec t o
 least_same spec s t None agree a = λ v known scope. sym (agree v (record { belongs = known; scope = scope })) ∙ a v known scope
@@ -69,7 +69,7 @@ least_same spec s t (Some f) agree a = record {
   least = λ v known scope test. a.least v known scope (agree v (record { belongs = known; scope = scope }) ∙ test);
 }
 
--- the next cube
+-- Lemmas on a list of cubes with one more cube.
 
 pub in_none : (v : Env) → is_in [] v ≡ false
 unfolding is_in

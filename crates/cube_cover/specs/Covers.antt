@@ -16,13 +16,14 @@ pub record IsLeast (spec : Parts) (test : Env → Bool) (found : Env) : Type 0 w
   pub passes : test found ≡ true
   pub least : (v : Env) → IsEnv spec v → in_scope spec v ≡ true → test v ≡ true → number_of spec found ≤ number_of spec v
 
--- The optional environment is the one in scope with the smallest number that passes the test, or none if no environment
--- in scope passes.
+-- The optional environment is the one in scope with the smallest number that passes the test, or `None` if no
+-- environment in scope passes.
 abbrev pub IsLeastEnv : Parts → (Env → Bool) → Option Env → Type 0
 IsLeastEnv spec test (Some found) = IsLeast spec test found
 IsLeastEnv spec test None = (v : Env) → IsEnv spec v → in_scope spec v ≡ true → test v ≡ false
 
--- The environment with the smaller number of two optional environments, or the one that is present, or none.
+-- The environment with the smaller number of two optional environments, the only one that is present, or `None` if
+-- both are absent.
 abbrev pub earlier_env : Parts → Option Env → Option Env → Option Env
 earlier_env spec None None = None
 earlier_env spec (Some v) None = Some v

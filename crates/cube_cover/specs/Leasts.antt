@@ -13,7 +13,8 @@ unfoldable pub least_digit : Cube → ℕ → ℕ
 least_digit cube x =
     if has_bit cube.bits (4 * x + 0) then 0 else (if has_bit cube.bits (4 * x + 1) then 1 else (if has_bit cube.bits (4 * x + 2) then 2 else 3))
 
--- The environment with the smallest open digits of a cube. Processors past the last one are not up.
+-- The environment that has the smallest open digit of a cube at each place. Processors whose number is not below the
+-- number of processors are not up.
 abbrev pub least_env : Parts → Cube → Env
 least_env spec cube = record {
   up = bits_below (may_be_up cube) (length spec.procs);

@@ -30,14 +30,14 @@ pub record AreRegions (spec : Parts) (c : ConfId) (cubes : List Cube) (ruled : L
   pub targets : (passes : ℕ → Bool) → Agree spec (is_marked ruled passes) (λ v. is_in cubes v && is_ruled spec.rules c passes v)
   pub rest : Agree spec (is_in unruled) (λ v. is_in cubes v && not (has_rule spec c v))
 
--- The second list of regions marks the environments that the first list marks. If the target passes the test, it also
--- marks the environments in the cubes.
+-- The second list of regions marks the environments that the first list marks. If the target passes the test, the
+-- second list also marks the environments in the cubes.
 abbrev pub MarksMore : List Region → List Region → List Cube → ConfId → Type 0
 MarksMore before after cubes target =
     (passes : ℕ → Bool) (v : Env) → is_marked after passes v ≡ (is_marked before passes v || (is_in cubes v && passes target.0))
 
 -- In scope, the second list of regions marks the environments that the first list marks. If the rule's target passes
--- the test, it also marks the environments in the cubes that the rule fits.
+-- the test, the second list also marks the environments in the cubes that the rule fits.
 abbrev pub Rule : Parts → ConfId → Choice → List Cube → List Region → List Region → Type 0
 Rule spec c rule cubes before after = (passes : ℕ → Bool) →
     Agree spec (is_marked after passes) (λ v. is_marked before passes v || (is_in cubes v && (rule_fits c v rule && passes rule.to.0)))
@@ -46,8 +46,8 @@ Rule spec c rule cubes before after = (passes : ℕ → Bool) →
 abbrev pub HoldsMarked : List Region → (ℕ → Bool) → List Cube → Type 0
 HoldsMarked regions passes cubes = (v : Env) → is_in cubes v ≡ is_marked regions passes v
 
--- The second list of cubes holds the environments that the first list holds, and, if a further cube is selected, the
--- environments in that cube.
+-- The second list of cubes holds the environments that the first list holds. If the further cube is selected, the
+-- second list also holds the environments in that cube.
 abbrev pub HoldsMore : List Cube → List Cube → Cube → Bool → Type 0
 HoldsMore before after cube wanted = (v : Env) → is_in after v ≡ (is_in before v || (wanted && holds cube v))
 

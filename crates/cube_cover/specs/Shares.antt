@@ -18,12 +18,12 @@ abbrev pub first_rule : List Choice → ConfId → Env → ℕ
 first_rule [] c v = 0
 first_rule (rule ∷ rules) c v = if rule_fits c v rule then 0 else suc (first_rule rules c v)
 
--- Whether rule `k` is the first that fits configuration `c` in an environment. If `k` is the number of rules, the value
--- says whether no rule fits.
+-- Whether rule `k` is the first that fits configuration `c` in an environment. If `k` is the number of rules: whether
+-- no rule fits.
 abbrev pub is_ruled_by : Parts → ConfId → ℕ → Env → Bool
 is_ruled_by spec c k v = first_rule spec.rules c v == k
 
--- The environment in scope with the smallest number that passes a test, or none if no environment in scope passes.
+-- The environment in scope with the smallest number that passes a test, or `None` if no environment in scope passes.
 abbrev pub first_where : Parts → (Env → Bool) → Option Env
 first_where spec test = first_below (λ n. if passes_at spec test n then Some (numbered spec n) else None) (environments spec)
 

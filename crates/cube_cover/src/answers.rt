@@ -7,10 +7,12 @@ use scram_types::Env;
 pub struct Cover {
     /// The set of possible targets: bit `j` is set if configuration `j` is chosen in some environment in scope.
     pub targets: u16,
-    /// The first environment in scope, by number, in which no rule fits, or `None`.
+    /// The first environment in scope, by number, in which no rule fits, or `None` if there is no such environment.
     pub unfit: Option<Env>,
-    /// The first environment in scope, by number, in which the target cannot run, or `None`.
+    /// The first environment in scope, by number, in which the target cannot run, or `None` if there is no such
+    /// environment.
     pub not_runnable: Option<Env>,
-    /// The first environment in scope, by number, in which the table chooses another target from the target, or `None`.
+    /// The first environment in scope, by number, in which the table chooses another target from the target, or
+    /// `None` if there is no such environment.
     pub unsettled: Option<Env>,
 }

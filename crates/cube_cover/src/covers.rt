@@ -30,7 +30,7 @@ pub(crate) struct Finding {
 ///
 /// # Errors
 ///
-/// Out of memory.
+/// Returns an error if memory runs out.
 pub fn cover(alloc: Global, spec: &Spec, i: ConfId) -> Result<Cover, NoMemory>
     requires { i.0 < length spec.now.confs }
     ensures { IfOk result (λ cover. IsCover spec.now i cover) }
@@ -104,8 +104,8 @@ fn find(
     })
 }
 
-// Returns the first environment of the cubes, by number, in which another target is chosen from `t`, or `None` if there
-// is none. If `t` is `i`, the choice of `i` from itself counts as settled.
+// Returns the first environment of the cubes, by number, in which another target is chosen from `t`, or `None` if
+// there is no such environment. If `t` is `i`, no environment counts, since the choice of `i` from itself is settled.
 fn find_unsettled(
     alloc: Global,
     spec: &Spec,

@@ -14,9 +14,9 @@ ghost use Rattle.cube_cover.specs.Cubes.{HasDigits, allows, digit_in, holds, is_
 use scram_types::bits::has_bit;
 use scram_types::{Choice, ConfId, Demand, Env, Place, Spec, Want};
 
-/// A set of environments, given by a set of digits for each place. Bit `4 * x + d` says whether digit `d` is open at
-/// place `x`. Places 0 to 5 are the factors, whose digits are their values. Place `6 + p` is processor `p`, with digit
-/// 0 if the processor is up and 1 if it is down.
+/// A set of environments, given by a set of digits for each place. Bit `4 * x + d` is set if digit `d` is open at
+/// place `x`. Places 0 to 5 are the factors, whose digits are their values. Place `6 + p` is processor `p`, with
+/// digit 0 if the processor is up and 1 if it is down.
 #[derive(Clone, Copy, Debug, PartialEq, Eq)]
 pub(crate) struct Cube {
     pub(crate) bits: u64,
@@ -67,7 +67,7 @@ pub(crate) fn rule_cube(rule: &Choice) -> Cube
     with_up(with_wants(rule.wants.items()), rule.up)
 }
 
-// Returns the cube of the environments that a demand speaks of.
+// Returns the cube of the environments to which a demand applies.
 pub(crate) fn demand_cube(demand: &Demand) -> Cube
     ensures { (v : Env) → HasDigits v → holds result v ≡ applies_in demand.now v }
 {

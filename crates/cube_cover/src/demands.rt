@@ -20,12 +20,12 @@ use scram_types::{ConfId, Demand, Env, NoMemory, Spec};
 use std::alloc::Global;
 
 /// Returns for each demand, in order, the first environment in scope, by number, in which the table misses the demand
-/// from configuration `i`, or `None` if there is none. A demand is missed if it speaks of the environment and asks
-/// something of a choice from `i`, and the chosen configuration does not meet it.
+/// from configuration `i`, or `None` if there is no such environment. A demand is missed if it applies to the
+/// environment and to `i`, and the chosen configuration does not meet it.
 ///
 /// # Errors
 ///
-/// Out of memory.
+/// Returns an error if memory runs out.
 pub fn misses(alloc: Global, spec: &Spec, i: ConfId) -> Result<Vec<Option<Env>>, NoMemory>
     requires { i.0 < length spec.now.confs }
     ensures { IfOk result (λ found. AreMisses spec.now i found.items) }
@@ -52,7 +52,7 @@ fn chosen_regions(alloc: Global, spec: &Spec, i: ConfId) -> Result<Vec<Region>, 
 }
 
 // Returns the first environment, by number, in which the table misses a demand from configuration `i`, or `None` if
-// there is none. `regions` are the regions of `i`.
+// there is no such environment. `regions` are the regions of `i`.
 fn least_miss(spec: &Spec, i: ConfId, demand: &Demand, regions: &[Region]) -> Option<Env>
     requires known { IsSpec spec.now }
     requires inside { i.0 < length spec.now.confs }
@@ -79,7 +79,7 @@ fn met_by(spec: &Spec, demand: &Demand) -> u16
 }
 
 // Returns the first environment of the cube `by`, by number, whose target is not in the set `met`, or `None` if there
-// is none.
+// is no such environment.
 fn least_outside(spec: &Spec, regions: &[Region], met: u16, by: Cube) -> Option<Env>
     requires { IsSpec spec.now }
     ensures { IsLeastEnv spec.now (λ v. is_marked regions.now (is_outside met) v && holds by v) result }

@@ -2,8 +2,8 @@
 
 ghost use Rattle.cube_cover.specs.Shares.{SharesAddUp};
 
-/// States that the shares of a configuration count each environment in scope once. A share belongs to each rule, and
-/// the last share to the environments that no rule fits.
+/// States that the shares of a configuration count each environment in scope once. Each rule has a share, and the
+/// last share has the environments that no rule fits.
 pub fn shares_add_up()
     ensures { SharesAddUp }
 {}

@@ -58,8 +58,8 @@ pub(crate) fn least_env(spec: &Spec, cube: Cube) -> Option<Env>
     }
 }
 
-// Returns the environment with the smallest open digit of a cube at each place. Processors past the last one are not
-// up.
+// Returns the environment with the smallest open digit of a cube at each place. Processors whose number is not below
+// the number of processors are not up.
 fn make_least(spec: &Spec, cube: Cube) -> Env
     ensures { result ≡ least_env spec.now cube }
 {

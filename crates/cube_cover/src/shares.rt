@@ -35,7 +35,7 @@ struct Taken {
 ///
 /// # Errors
 ///
-/// Out of memory.
+/// Returns an error if memory runs out.
 pub fn shares_of(alloc: Global, spec: &Spec, c: ConfId) -> Result<Vec<Share>, NoMemory>
     ensures { IfOk result (λ shares. AreShares spec.now c shares.items) }
 {

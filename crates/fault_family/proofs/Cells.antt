@@ -4,7 +4,7 @@ use Rattle.std.specs.Prelude.{Some, flat_map, slice_get, option_map}
 use Rattle.std.proofs.lemmas.Option.{same_Some, slice_get-map}
 use Rattle.scram_types.proofs.Items.{first_part}
 
--- an element of the second of two joined lists
+-- Element `k` of the second of two joined lists comes after all elements of the first.
 pub second_part : {A : Type 0} (xs ys : List A) (k : ℕ) → slice_get (xs ++ ys) (length xs + k) ≡ slice_get ys k
 second_part [] ys k = let none : 0 + k ≡ k = omega arith in ap (slice_get ys) none
 second_part (x ∷ xs) ys k = let next : suc (length xs) + k ≡ suc (length xs + k) = omega arith in rw next (second_part xs ys k)
@@ -14,7 +14,7 @@ length_mapped f [] = refl
 length_mapped f (x ∷ xs) = ap suc (length_mapped f xs)
 
 module _ {A B C : Type 0} (made : A → B → C) (bs : List B) where
-  -- each element of a row is made of an element of the first list and one of the second
+  -- Each element of a row is made from an element of the first list and an element of the second.
   pub rows : List A → List C
   rows [] = []
   rows (x ∷ xs) = map (made x) bs ++ rows xs
@@ -33,7 +33,7 @@ module _ {A B C : Type 0} (made : A → B → C) (bs : List B) where
       let both = length-append (map (made x) bs) (rows xs) in
       omega (arith, rest, row, both)
 
-  -- the element of row i and column k
+  -- The element at column `k` of row `i` is made from element `i` of the first list and element `k` of the second.
   pub cell : (xs : List A) (i k : ℕ) (x : A) (b : B) → slice_get xs i ≡ Some x → slice_get bs k ≡ Some b → slice_get (rows xs) (i * length bs + k) ≡ Some (made x b)
   unfolding rows
   cell [] i k x b there column = absurd cc

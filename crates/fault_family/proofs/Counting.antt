@@ -15,7 +15,7 @@ use Rattle.fault_script.specs.Environments.{env_at}
 use Rattle.fault_script.proofs.Assuming.{upto_grows}
 use Rattle.fault_family.specs.Scripts.{is_within}
 
--- the greatest bound is at most any upper bound
+-- The greatest bound is at most any number that no bound exceeds.
 pub greatest_within : (bounds : List Bound) (most : ℕ) → Each (λ (bound : Bound). bound.frames ≤ most) bounds → greatest_bound bounds ≤ most
 greatest_within [] most each = omega arith
 greatest_within (bound ∷ bounds) most each =
@@ -23,12 +23,13 @@ greatest_within (bound ∷ bounds) most each =
     let rest = greatest_within bounds most (λ i b there. each (suc i) b there) in
     omega (arith, first, rest)
 
--- the environment of a frame after the first one against that of the frame before
+-- A frame after the first is a change frame if and only if its environment differs from that of the previous frame.
 pub change_after_first : (spec : Parts) (script : ScriptParts) (f : ℕ) → f ≢ 0 → is_change_frame spec script f ≡ not (is_same_env (env_at spec script (f - 1)) (env_at spec script f))
 change_after_first spec script zero some = absurd (some refl)
 change_after_first spec script (suc f) some = let back : suc f - 1 ≡ f = omega arith in rw back refl
 
--- a further frame is counted if it changes the environment
+-- The count of change frames up to a frame is one more than that of the previous frame if the frame is a change
+-- frame, and the same otherwise.
 pub counted : (spec : Parts) (script : ScriptParts) (f : ℕ) → is_change_frame spec script f ≡ true → changes_upto spec script (f - 1) + 1 ≡ changes_upto spec script f
 counted spec script zero is = absurd cc
 counted spec script (suc f) is = let back : suc f - 1 ≡ f = omega arith in rw (back, is) refl
@@ -37,13 +38,13 @@ pub uncounted : (spec : Parts) (script : ScriptParts) (f : ℕ) → is_change_fr
 uncounted spec script zero is = refl
 uncounted spec script (suc f) is = let none : changes_upto spec script f + 0 ≡ changes_upto spec script f = omega arith in let back : suc f - 1 ≡ f = omega arith in rw (back, is) (sym none)
 
--- if one of two tests holds, something is shown
+-- A violation is shown if and only if one of two tests holds.
 pub shown_by : (a b : Bool) (x y : Outside) → (a || b) ≡ is_some (if a then Some x else (if b then Some y else None))
 shown_by true b x y = refl
 shown_by false true x y = refl
 shown_by false false x y = refl
 
--- no earlier frame has a greater count
+-- The count of change frames up to a frame is at least that of any earlier frame.
 pub upto_before : (spec : Parts) (script : ScriptParts) (e f : ℕ) → e ≤ f → changes_upto spec script e ≤ changes_upto spec script f
 upto_before spec script e zero before = let none : e ≡ 0 = omega (arith, before) in rw none (omega arith)
 upto_before spec script e (suc f) before = elim (at_or_below e f before) [
@@ -51,7 +52,7 @@ upto_before spec script e (suc f) before = elim (at_or_below e f before) [
   | inr last ↦ rw last (omega arith)
 ]
 
--- the whole script
+-- Lemmas on the whole script.
 
 outside_none : (o : Option Outside) → is_some o ≡ false → o ≡ None
 outside_none None e = refl

@@ -27,7 +27,7 @@ use Rattle.fault_family.proofs.Joined.{stands_in_part, stands_listed, stands_map
 use Rattle.fault_family.proofs.Members.{GoesOn, goes_on}
 use Rattle.fault_family.proofs.MemberScripts.{rest_later}
 
--- order of lists that are joined
+-- Lemmas on the order of joined lists.
 
 later_cons : {A : Type 0} (R : A → A → Type 0) (x : A) (xs : List A) → ((y : A) → Contains xs y → R x y) → EachLater R xs → EachLater R (x ∷ xs)
 later_cons R x xs first each zero zero y z less p q = absurd (omega (arith, less))
@@ -69,7 +69,7 @@ later_listed R value (suc n) rises =
     let at = stands_listed value n x first in
     subst (λ z. R z y) at.2 (subst (R (value at.0)) (stands_one (value n) y last) (rises at.0 n at.1)))
 
--- kinds of fault in one frame
+-- Lemmas on the order of the kinds of fault in one frame.
 
 after_first : (a b c d : ℕ) → a < c → comes_after a b c d ≡ true
 after_first a b c d less = or_left (nat_lt a c) (a == c && nat_lt b d) (grind (arith, nat_tests, less))
@@ -80,7 +80,7 @@ after_second a b d less =
     let below : nat_lt b d ≡ true = grind (arith, nat_tests, less) in
     or_right (nat_lt a a) (a == a && nat_lt b d) (rw (same, below) refl)
 
--- In each frame a fault of one kind comes before one of another kind.
+-- In each frame, a fault of the first kind comes before a fault of the second kind.
 KindBefore : FaultKind → FaultKind → Type 0
 KindBefore k l = (f : ℕ) → precedes (record { frame = f; kind = k }) (record { frame = f; kind = l }) ≡ true
 
@@ -208,7 +208,7 @@ module _ (spec : Parts) (accepts : Accepts spec) (some : 1 ≤ spec.window) wher
   comes_first_behind [] faults others first = first
   comes_first_behind (fault ∷ before) faults others first = further fault (before ++ faults) (before ++ others) (comes_first_behind before faults others first)
 
-  -- two scripts that continue with different faults
+  -- Lemmas on two scripts that continue with different faults.
   apart_first : (more : ℕ) (before : List Fault) (c d : Fault) (a b : List Fault) → precedes c d ≡ true → GoesOn spec more (before ++ c ∷ []) a → GoesOn spec more (before ++ d ∷ []) b → ComesFirst a b
   apart_first more before c d a b first on other =
       subst (λ (l : List Fault). ComesFirst l b) (sym (append_assoc before (c ∷ []) on.rest) ∙ on.parts)
@@ -234,7 +234,7 @@ module _ (spec : Parts) (accepts : Accepts spec) (some : 1 ≤ spec.window) wher
       apart_first more before c d a b first (goes_on spec more (before ++ c ∷ []) a on.1) (goes_on spec more (before ++ d ∷ []) b other.1))
       (candidates spec before) (candidates_ordered before)
 
--- no fault comes before itself
+-- No fault comes before itself.
 not_before_itself : (fault : Fault) → precedes fault fault ≡ true → ⊥
 not_before_itself fault before = absurd (grind (arith, nat_tests, before))
 

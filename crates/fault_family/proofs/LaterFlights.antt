@@ -93,7 +93,7 @@ module _ (spec : Parts) (d : ℕ) (script : ScriptParts) (accepts : Accepts spec
       none_yet : (x : ℕ) → factor_at script x 0 ≡ 0
       none_yet x = nothing_at_first spec d script x 0 script.changes 0 (λ i change there. let least = (fits.changes i change there).least in omega (arith, least))
 
-  -- up to frame d
+  -- Lemmas on the frames up to frame `d`.
 
   -- The start configuration is stable, and nothing has been left.
   record IsQuiet (state : State) : Type 0 where
@@ -123,7 +123,7 @@ module _ (spec : Parts) (d : ℕ) (script : ScriptParts) (accepts : Accepts spec
         arrived = rw decided refl;
       }
 
-  -- from frame d on
+  -- Lemmas on the frames from frame `d` on.
 
   -- A state `d` frames later has the same mode, and agrees on whether the target has come to run.
   record IsLater (state later : State) : Type 0 where
@@ -148,7 +148,7 @@ module _ (spec : Parts) (d : ℕ) (script : ScriptParts) (accepts : Accepts spec
       ∙ ap (λ (settled : Bool). decision spec (d + n) (mode_later d state.mode) settled state.arrived (env_at spec script n)) (settled_before n)
       ∙ decision_later spec d state.mode n (is_settled spec state.mode (n - 1)) state.arrived (env_at spec script n)
 
-  -- The row of frame d + n has the mode and the acts of the row of frame n.
+  -- The row of frame `d + n` has the mode and the acts of the row of frame `n`.
   record IsRowLater (n : ℕ) : Type 0 where
     mode : (row_at spec (later_by d script) (d + n)).mode ≡ mode_later d (row_at spec script n).mode
     acts : (row_at spec (later_by d script) (d + n)).acts ≡ (row_at spec script n).acts
@@ -181,7 +181,7 @@ module _ (spec : Parts) (d : ℕ) (script : ScriptParts) (accepts : Accepts spec
             ∙ ap (λ (c : ConfId). is_settled spec (row_at spec script n).mode n && runs spec (row_at spec script n).acts c) (target_later spec d (row_at spec script n).mode);
       })
 
--- rows in which nothing is left
+-- Lemmas on rows that all run one configuration.
 
 run_by_place : (place : Option Place) → is_run_by place (act_after (λ p. true) (task_for Run place)) ≡ true
 run_by_place None = refl
@@ -205,7 +205,7 @@ pub quiet_reading : (spec : Parts) (c : ConfId) (f : ℕ) (rows : List Row) → 
 quiet_reading spec c f [] run = refl
 quiet_reading spec c f (row ∷ rows) run = rw (run 0 row refl) (quiet_reading spec c (suc f) rows (λ i r there. run (suc i) r there))
 
--- reading rows later
+-- Lemmas on rows that are read `d` frames later.
 
 module _ (spec : Parts) (d : ℕ) where
   unfoldable pub reading_later : Reading → Reading
@@ -277,7 +277,7 @@ module _ (spec : Parts) (d : ℕ) where
       ∙ ap (λ (n : ℕ). reading_after spec (reading_later (read_row spec r f row.acts)) n later) next
       ∙ reading_after_later (read_row spec r f row.acts) (suc f) later rows (ap rest_acts same)
 
--- lists of rows
+-- Lemmas on lists of rows.
 
 pub listed_parts : {A : Type 0} (value : ℕ → A) (d n : ℕ) → listed_below value (d + n) ≡ listed_below value d ++ listed_below (λ k. value (d + k)) n
 listed_parts value d zero = let none : d + 0 ≡ d = omega arith in ap (listed_below value) none ∙ sym (append-nil (listed_below value d))

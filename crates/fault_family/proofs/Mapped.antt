@@ -1,4 +1,4 @@
--- Tests of the elements of a list that were changed one by one.
+-- Tests of the elements of a mapped list.
 use Rattle.std.proofs.Common.{◌≡◌, Bool, List, [], ◌∷◌, map, refl}
 use Rattle.std.specs.List.{list_all, list_any}
 

@@ -26,7 +26,7 @@ use Rattle.fault_family.specs.Laws.{Follow, IsKind, IsNear, IsNextFault, Members
 use Rattle.fault_family.specs.Scripts.{change_fault_in, change_of_fault, frames_of_faults, halt_fault_in, halt_of_fault, last_fault_frame, restart_fault_in, restart_of_fault, script_of_faults}
 use Rattle.fault_family.proofs.Counting.{greatest_within}
 
--- facts about the values that a function gives for a list's elements
+-- Lemmas on the values that a function gives for a list's elements.
 
 each_more : {B : Type 0} (P : B → Type 0) (o : Option B) (ys : List B) → ((b : B) → o ≡ Some b → P b) → Each P ys → Each P (cons_option o ys)
 each_more P None ys first each = each
@@ -76,12 +76,12 @@ module _ {A B : Type 0} (h : A → Option B) where
 next_later : {A : Type 0} (R : A → A → Type 0) (xs : List A) → EachLater R xs → EachNext R xs
 next_later R xs each i x y p q = each i (i + 1) x y (omega arith) p q
 
--- one fault after another
+-- Lemmas on faults in order.
 
 abbrev Later : Fault → Fault → Type 0
 Later fault next = may_come_after next fault ≡ true
 
--- The facts about the faults of a script that are known so far.
+-- The facts about the faults of a script, proved fault by fault.
 record Keeps (spec : Parts) (faults : List Fault) : Type 0 where
   kinds : Each (λ (fault : Fault). IsKind spec fault.kind) faults
   later : EachLater Later faults
@@ -99,7 +99,7 @@ last_end before fault =
 frame_end : (before : List Fault) (fault : Fault) → last_fault_frame (before ++ fault ∷ []) ≡ fault.frame
 frame_end before fault = ap (λ (o : Option Fault). option_map_or (λ (f : Fault). f.frame) o 0) (last_end before fault)
 
--- The distance of a fault from the last one.
+-- The frame of a fault is at least 1, is not before frame `last`, and is at most 1001 frames after it.
 record IsBehind (last frame : ℕ) : Type 0 where
   after : last ≤ frame
   near : frame ≤ last + 1001
@@ -174,7 +174,7 @@ module _ (spec : Parts) (is : IsSpec spec) where
     halted = each_none (λ (f : Fault). (restart : RestartAt) → restart_of_fault f ≡ Some restart → HaltsWellBefore [] restart.proc.0 restart.frame);
   }
 
--- two faults of a class
+-- Lemmas on two faults of one class.
 
 in_order : (f g r x y v w : ℕ) → (comes_after f r g r || (f == g && r == r && comes_after x v y w)) ≡ true → (x == y && f == g) ≡ false → Before f x g y
 in_order f g r x y v w later differ = elim (or_cases (comes_after f r g r) (f == g && r == r && comes_after x v y w) later) [
@@ -211,7 +211,7 @@ changes_in_order f g (kind.Change x v) (kind.Restart r) a b p q later = absurd c
 changes_in_order f g (kind.Halt r s) l a b p q later = absurd cc
 changes_in_order f g (kind.Restart r) l a b p q later = absurd cc
 
--- Two halts, or two restarts, of different processors in order.
+-- The halt or restart of processor `p` in frame `f` comes before that of another processor `q` in frame `g`.
 record AreApart (f p g q : ℕ) : Type 0 where
   order : Before f p g q
   other : p ≡ q → ⊥
@@ -240,7 +240,7 @@ restarts_apart f g (kind.Restart x) (kind.Halt r s) a b p q later = absurd cc
 restarts_apart f g (kind.Change r s) l a b p q later = absurd cc
 restarts_apart f g (kind.Halt r s) l a b p q later = absurd cc
 
--- The frames of a script in which a fault may be.
+-- A fault may come in this frame of a script with `frames` frames.
 record LiesIn (frames frame : ℕ) : Type 0 where
   first : 1 ≤ frame
   last : frame < frames

@@ -23,7 +23,7 @@ use Rattle.fault_family.specs.Scripts.{is_within, script_of_faults}
 use Rattle.fault_family.proofs.Joined.{in_part_stands, listed_stands, mapped_stands, stands_in_part, stands_left, stands_listed, stands_mapped, stands_one, stands_part, stands_right, stands_where}
 
 module _ (spec : Parts) where
-  -- kinds of fault
+  -- Lemmas on kinds of fault.
 
   values_by : (found : Option Factor) (value : ℕ) → value < option_map_or (λ (factor : Factor). length factor.values) found 0 → (factor : Factor) × (found ≡ Some factor) × (value < length factor.values)
   values_by None value below = absurd (omega (arith, below))
@@ -90,7 +90,7 @@ module _ (spec : Parts) where
       stands_right (flat_map (factor_changes spec) (numbers_below (length spec.factors)) ++ flat_map (proc_halts spec) (numbers_below (length spec.procs))) (restarts_of spec) (Restart proc)
       (listed_stands (λ p. Restart (proc_id p)) (length spec.procs) proc.0 is)
 
-  -- frames
+  -- Lemmas on frames.
 
   gap_is : (gap : ℕ) → Contains (gaps spec) gap → (gap ≤ greatest_bound spec.bounds + 1) ⊎ (gap ≡ spec.window + 1)
   gap_is gap stands = elim (stands_part (numbers_below (greatest_bound spec.bounds + 2)) ((spec.window + 1) ∷ []) gap stands) [
@@ -126,7 +126,8 @@ module _ (spec : Parts) where
   near_is (Some last) frame (inr far) =
       subst (Contains (map (λ gap. last.frame + gap) (gaps spec))) (sym far) (mapped_stands (λ gap. last.frame + gap) (gaps spec) (spec.window + 1) far_gap_stands)
 
-  -- candidates
+  -- A fault is a candidate if and only if its kind is one of the specification's and its frame is one of the allowed
+  -- frames.
 
   is_candidate : (before : List Fault) (fault : Fault) → Contains (candidates spec before) fault → IsKind spec fault.kind × IsNear spec (last_of before) fault.frame
   is_candidate before fault stands =
@@ -139,7 +140,7 @@ module _ (spec : Parts) where
       in_part_stands (faults_in spec) (frames_after spec before) fault.frame fault (near_is (last_of before) fault.frame near)
       (mapped_stands (λ (kind : FaultKind). record { frame = fault.frame; kind = kind }) (kinds_of spec) fault.kind (kind_is fault.kind kind))
 
-  -- the scripts that begin with some faults
+  -- Lemmas on the scripts that begin with given faults.
 
   none_is : (o : Option Outside) → is_none o ≡ true → o ≡ None
   none_is None e = refl
@@ -151,7 +152,8 @@ module _ (spec : Parts) where
   is_within_is : (faults : List Fault) → IsWithin spec (script_of_faults spec faults) → is_within spec (script_of_faults spec faults) ≡ true
   is_within_is faults within = rw ((leaves_nowhere spec (script_of_faults spec faults)).nowhere within) refl
 
-  -- A script continues from these faults with a number of further ones.
+  -- `faults` continues `before` with `more` further faults, each of which may follow the preceding ones. The script
+  -- of `faults` keeps the failure assumption.
   pub record GoesOn (more : ℕ) (before faults : List Fault) : Type 0 where
     pub rest : List Fault
     pub parts : before ++ rest ≡ faults

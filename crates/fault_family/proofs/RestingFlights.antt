@@ -35,7 +35,7 @@ use Rattle.fault_family.specs.Shifts.{mode_later, report_later}
 use Rattle.fault_family.proofs.LaterFlights.{acts_of, close_later, decision_later, each_listed, ended_later, leave_later, listed_parts, map_listed, phase_later, quiet_ended, quiet_reading, reading_after_later, reading_later, settled_later, target_later}
 use Rattle.fault_family.proofs.Moving.{Shows, shows_before, shows_later, shows_resting}
 
--- a phase in which a configuration is to run
+-- Lemmas on phases in which a configuration is to run.
 
 conf_of : Phase → ConfId
 conf_of (Running c) = c
@@ -94,7 +94,7 @@ module _ (spec : Parts) (b d : ℕ) (c : ConfId) (script : ScriptParts) (rest : 
   later : ScriptParts
   later = later_from b d script
 
-  -- before frame b
+  -- Before frame `b`, the flights of both scripts have the same states and rows.
 
   module _ (f : ℕ) (shows : Shows spec b d script f f) where
     same_committing : ◌≡◌ {A = ℕ → Bool} (λ p. commits spec (later_from b d script) p f) (λ p. commits spec script p f)
@@ -115,7 +115,7 @@ module _ (spec : Parts) (b d : ℕ) (c : ConfId) (script : ScriptParts) (rest : 
       ∙ ap (λ v. row_of spec f v (λ p. commits spec (later_from b d script) p f) (state_after spec script f)) shows.env
       ∙ ap (λ committing. row_of spec f (env_at spec script f) committing (state_after spec script f)) (same_committing f shows)
 
-  -- at rest
+  -- Lemmas on the frames of the rest.
 
   -- A state leads to the same decision as a state whose mode is stable in `c`.
   IsResting : State → Type 0
@@ -174,7 +174,7 @@ module _ (spec : Parts) (b d : ℕ) (c : ConfId) (script : ScriptParts) (rest : 
       ∙ ap (λ phase. runs spec (acts_in spec phase (λ p. commits spec script p (b - 1))) c) (sym rest.phase)
       ∙ rest.runs
 
-  -- from frame b on
+  -- Lemmas on the frames from frame `b` on.
 
   record IsLater (state after : State) : Type 0 where
     mode : after.mode ≡ mode_later d state.mode
@@ -194,7 +194,7 @@ module _ (spec : Parts) (b d : ℕ) (c : ConfId) (script : ScriptParts) (rest : 
             ∙ ap (acts_in spec (phase_at spec (row_at spec script f).mode f)) (fun_ext shows.committing);
       }
 
-  -- the first of these frames, of both flights, begins at rest
+  -- In both flights, the first of these frames begins at rest. Therefore the rows of these two frames are alike.
   row_first : IsRowLater b
   unfolding IsResting
   row_first =
@@ -223,7 +223,7 @@ module _ (spec : Parts) (b d : ℕ) (c : ConfId) (script : ScriptParts) (rest : 
       ∙ ap (λ (past : Bool). decision spec (d + f) (mode_later d state.mode) past state.arrived (env_at spec script f)) settled
       ∙ decision_later spec d state.mode f (is_settled spec state.mode (f - 1)) state.arrived (env_at spec script f))
 
-  -- after a frame whose rows are alike
+  -- If the rows of a frame are alike, the states after it are alike, and so are the rows of the next frame.
   state_next : (f : ℕ) → IsRowLater f → IsLater (state_after spec script (suc f)) (state_after spec (later_from b d script) (suc (d + f)))
   state_next f row = record {
     mode = row.mode;
@@ -247,7 +247,7 @@ module _ (spec : Parts) (b d : ℕ) (c : ConfId) (script : ScriptParts) (rest : 
       let here : b + (f - b) ≡ f = omega (arith, after) in
       subst IsRowLater here (row_on (f - b))
 
-  -- the reconfigurations
+  -- Lemmas on the reconfigurations of both flights.
 
   count : ℕ
   count = script.frames - b

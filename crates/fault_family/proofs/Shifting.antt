@@ -85,7 +85,7 @@ module _ (spec : Parts) (d : ℕ) (script : ScriptParts) where
       ap (λ up. env_of up (factors_at (later_by d script) (d + f))) (fun_ext (λ p. up_later p f))
       ∙ ap (env_of (λ p. is_up script p f)) (factors_later f)
 
-  -- before the first frame that the script has
+  -- Lemmas on the frames up to frame `d`, before anything of the later script has come.
 
   nothing_yet : (x f : ℕ) (changes : List Change) (value : ℕ) → Each (λ (change : Change). f < d + change.frame) changes
       → value_after (map (λ (change : Change). record { frame = d + change.frame; factor = change.factor; value = change.value }) changes) x f value ≡ value
@@ -129,7 +129,7 @@ module _ (spec : Parts) (d : ℕ) (script : ScriptParts) where
         ap (λ up. env_of up (factors_at (later_by d script) f)) (fun_ext (λ p. up_before p f (omega (arith, early))))
         ∙ ap (env_of (λ p. is_up script p 0)) (factors_before f early)
 
-    -- the failure assumption
+    -- Lemmas on the failure assumption.
 
     change_later : (f : ℕ) → is_change_frame spec (later_by d script) (d + suc f) ≡ is_change_frame spec script (suc f)
     change_later f =

@@ -12,8 +12,8 @@ use Rattle.fault_family.specs.NextFaults.{candidates}
 use Rattle.fault_family.specs.Faults.{may_come_after}
 use Rattle.fault_family.specs.Scripts.{is_within, script_of_faults}
 
--- Whether a fault of this kind in a frame makes a difference to a script. A change does if the factor had another value
--- in the previous frame. A halt always does. A restart does if the processor has halted at least two frames before.
+-- Whether a fault of this kind in a frame makes a difference to a script. A change does if the factor has another
+-- value in the previous frame. A halt always does. A restart does if the processor halts at least two frames earlier.
 abbrev pub differs_in : ScriptParts → ℕ → FaultKind → Bool
 differs_in script frame (Change factor value) = not (factor_at script factor.0 (frame - 1) == value)
 differs_in script frame (Halt proc step) = true

@@ -1,4 +1,4 @@
--- The theorems about the family of fault scripts: its members and their order.
+-- The laws of the family of fault scripts: its members and their order.
 use Rattle.std.specs.Prelude.{◌≡◌, ◌⊎◌, ℕ, ◌+◌, ◌<◌, ◌≤◌, true, List, [], ◌∷◌, ◌++◌, length, slice_get, Option, Some, None, ⊤}
 use Rattle.scram_types.specs.declared.specification.Factor.{Factor}
 use Rattle.scram_types.specs.Specification.{IsSpec, Parts}
@@ -33,8 +33,8 @@ IsKind spec (Change factor value) = IsChangeKind spec factor.0 value
 IsKind spec (Halt proc step) = IsHaltKind spec proc.0 step
 IsKind spec (Restart proc) = proc.0 < length spec.procs
 
--- A fault may come in this frame. The first fault comes in frame 1. A further fault comes at most one frame more than
--- the greatest bound after the previous fault, or exactly one frame more than the window after it.
+-- A fault may come in this frame. The first fault comes in frame 1. The number of frames from the previous fault to a
+-- further fault is at most the greatest bound plus one, or equals the window plus one.
 abbrev pub IsNear : Parts → Option Fault → ℕ → Type 0
 IsNear spec None frame = frame ≡ 1
 IsNear spec (Some last) frame =
@@ -82,7 +82,7 @@ pub data ComesFirst : List Fault → List Fault → Type 0 where
   here : (fault next : Fault) (faults others : List Fault) → precedes fault next ≡ true → ComesFirst (fault ∷ faults) (next ∷ others)
   further : (fault : Fault) (faults others : List Fault) → ComesFirst faults others → ComesFirst (fault ∷ faults) (fault ∷ others)
 
--- The lists of faults are in order, so no list occurs twice.
+-- The lists of faults are in order. Therefore no list occurs twice.
 pub record AreInOrder (all : List (List Fault)) : Type 0 where
   pub ordered : EachLater ComesFirst all
   pub once : EachLater (λ (faults others : List Fault). faults ≡ others → ⊥) all

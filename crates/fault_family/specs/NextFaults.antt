@@ -39,8 +39,8 @@ kinds_of spec =
     ++ flat_map (proc_halts spec) (numbers_below (length spec.procs))
     ++ restarts_of spec
 
--- The numbers of frames by which a fault may come after the previous one. They are the numbers from 0 to one more than
--- the greatest bound, and one more than the window.
+-- The numbers of frames by which a fault may come after the previous one: the numbers from 0 to the greatest bound
+-- plus one, and the window plus one.
 abbrev pub gaps : Parts → List ℕ
 gaps spec = numbers_below (greatest_bound spec.bounds + 2) ++ (spec.window + 1) ∷ []
 

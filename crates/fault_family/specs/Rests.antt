@@ -31,8 +31,9 @@ later_from b d script = record {
   restarts = map (λ (restart : RestartAt). record { proc = restart.proc; frame = later_frame b d restart.frame }) script.restarts;
 }
 
--- A flight is at rest in configuration `c` at the start of frame `b`. In the previous frame the phase is to run `c`,
--- the row runs `c` and is read as running `c`, the table chooses `c` again, and no processor halts.
+-- A flight is at rest in configuration `c` at the start of frame `b`. In the previous frame, the kernel's phase is
+-- `Running c`, the row runs `c`, the rows up to it are read as running `c`, the table chooses `c` again, and no
+-- processor halts.
 pub record IsAtRest (spec : Parts) (script : ScriptParts) (b : ℕ) (c : ConfId) : Type 0 where
   pub first : 1 ≤ b
   pub inside : b ≤ script.frames
@@ -42,7 +43,7 @@ pub record IsAtRest (spec : Parts) (script : ScriptParts) (b : ℕ) (c : ConfId)
   pub chosen : choose spec c (env_at spec script (b - 1)) ≡ c
   pub quiet : Each (λ (halt : HaltAt). halt.frame ≢ b - 1) script.halts
 
--- The second flight has the reconfigurations of the first flight. Some are unchanged, and all that follow come `d`
+-- The second flight has the reconfigurations of the first flight: some are unchanged, and all later ones come `d`
 -- frames later.
 pub record GoOnLater (d : ℕ) (one other : List Report) : Type 0 where
   pub before : List Report

@@ -1,4 +1,4 @@
--- The halts that the scripts of the family represent, which come after any step.
+-- Each halt, after any step, is represented by a halt before all stores or after the mark.
 use Rattle.std.specs.Prelude.{◌≡◌, ℕ, ◌+◌, nat_le, map, if◌then◌else◌}
 use Rattle.scram_types.specs.declared.scripts.HaltAt.{HaltAt}
 use Rattle.scram_types.specs.Scripts.{ScriptParts}

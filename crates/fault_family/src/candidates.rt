@@ -195,7 +195,7 @@ fn gap(spec: &Spec, i: u32) -> u32
 pub fn may_follow(spec: &Spec, before: &[Fault], fault: &Fault) -> bool
     ensures { result ≡ may_follow spec.now before.now fault.now }
 {
-    // Using a field of the specification shows that the specification keeps its invariant.
+    // The use of a field of the specification proves that the specification keeps its invariant.
     let _ = &spec.procs;
     may_come_after_all(before, fault) && differs_in(before, fault)
 }

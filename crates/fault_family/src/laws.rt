@@ -1,4 +1,4 @@
-//! The theorems about the family of fault scripts. Each function states a theorem by its contract.
+//! The laws of the family of fault scripts. Each function states a law by its contract.
 
 ghost use Rattle.fault_family.specs.Laws.{FamiliesAreOrdered, FamiliesHaveMembers, MembersFit};
 ghost use Rattle.fault_family.specs.Rests.{RestsMayBeLonger};
@@ -11,8 +11,8 @@ pub fn families_have_members()
     ensures { FamiliesHaveMembers }
 {}
 
-/// States that the members of the family of an accepted specification are in order: by their first fault, then by their
-/// second, then by their third. So no member occurs twice.
+/// States that the members of the family of an accepted specification are in order: by their first fault, then by
+/// their second, then by their third. Therefore no member occurs twice.
 pub fn families_are_ordered()
     ensures { FamiliesAreOrdered }
 {}
@@ -22,8 +22,8 @@ pub fn members_fit()
     ensures { MembersFit }
 {}
 
-/// States that the rows and reconfigurations of a flight depend only on whether each halt comes before its processor's
-/// mark or after it. So the two steps in the family represent all other steps.
+/// States that the rows and reconfigurations of a flight depend only on whether each halt comes before its
+/// processor's mark or after it. Therefore the two steps in the family represent all other steps.
 pub fn listed_steps_stand()
     ensures { ListedStepsStand }
 {}

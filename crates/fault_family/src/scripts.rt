@@ -94,7 +94,7 @@ pub fn greatest(spec: &Spec) -> u32
     ensures value { result ≡ greatest_bound spec.now.bounds }
     ensures few { result ≤ 1000 }
 {
-    // Using a field of the specification shows that the specification keeps its invariant.
+    // The use of a field of the specification proves that the specification keeps its invariant.
     let _ = &spec.bounds;
     greatest_bound(spec)
 }

@@ -1,4 +1,4 @@
--- Two lists of texts, joined by commas.
+-- Lemmas on two lists of texts that are joined by commas.
 use Rattle.std.proofs.Common.{◌≡◌, ℕ, Bool, true, List, [], ◌∷◌, ◌++◌, refl, sym, ap, append_assoc, append-nil, ◌∙◌}
 use Rattle.std.specs.Prelude.{◌||◌, codes, if◌then◌else◌}
 use Rattle.trace_text.specs.Names.{further_joined, joined}
@@ -9,7 +9,8 @@ further_both [] ys = refl
 further_both (x ∷ xs) ys =
     ap (λ (tail : List ℕ). codes "," ++ x ++ tail) (further_both xs ys) ∙ sym (append_assoc (codes "," ++ x) (further_joined xs) (further_joined ys))
 
--- the join of two lists, one after the other, with a dash if both are empty
+-- The joined text of two concatenated lists is the joined text of the first, then that of the second, or a dash if
+-- both lists are empty.
 pub joined_both : (xs ys : List (List ℕ)) →
     joined (xs ++ ys) ≡ (comma_joined xs ++ comma_joined_after (is_any xs) ys) ++ (if is_any xs || is_any ys then [] else codes "-")
 joined_both [] [] = refl
@@ -18,12 +19,13 @@ joined_both (x ∷ xs) ys =
     ap (λ (tail : List ℕ). x ++ tail) (further_both xs ys) ∙ sym (append_assoc x (further_joined xs) (further_joined ys))
     ∙ sym (append-nil ((x ++ further_joined xs) ++ further_joined ys))
 
--- one of two lists is not empty
+-- Two concatenated lists are not empty if and only if one of the lists is not empty.
 pub any_both : (xs ys : List (List ℕ)) → is_any (xs ++ ys) ≡ (is_any xs || is_any ys)
 any_both [] ys = refl
 any_both (x ∷ xs) ys = refl
 
--- both lists were added to a line, and one of them is not empty
+-- If the texts of both lists have been appended to a line and one of the lists is not empty, the line has been
+-- extended by the joined text of the concatenated lists.
 pub both_added : (line values all : List ℕ) (some any : Bool) (xs ys : List (List ℕ)) → values ≡ line ++ comma_joined xs → some ≡ is_any xs
     → all ≡ values ++ comma_joined_after some ys → any ≡ (some || is_any ys) → any ≡ true → all ≡ line ++ joined (xs ++ ys)
 both_added line values all some any xs ys first is_some second is_any_of given =

@@ -15,8 +15,9 @@ abbrev pub is_under_way : KMode → Bool
 is_under_way (Stable c) = false
 is_under_way (Moving from halting to since) = true
 
--- The row in which the reconfiguration that begins in row `begin` is decided. It is row `begin` if a reconfiguration is
--- under way in that row. Otherwise something was lost in row `begin`, and the deciding row is the next row.
+-- The row in which the reconfiguration that begins in row `begin` is decided. This is row `begin` if a
+-- reconfiguration is under way in that row. Otherwise something was lost in row `begin`, and the deciding row is the
+-- next row.
 abbrev pub decided_in : List Row → ℕ → ℕ
 decided_in rows begin = if option_map_or (λ (row : Row). is_under_way row.mode) (slice_get rows begin) false then begin else begin + 1
 
@@ -32,16 +33,16 @@ difference_or_dash spec None after = codes "-"
 difference_or_dash spec (Some before) None = codes "-"
 difference_or_dash spec (Some before) (Some after) = difference_text spec before after
 
--- The row in which the reconfiguration `earlier` is decided. It is none if there is no such reconfiguration, if it is
+-- The row in which the reconfiguration `earlier` is decided, or `None` if there is no such reconfiguration, if it is
 -- unfinished, or if it did not end in the row preceding `begin`.
 abbrev pub put_off_in : List Row → Option Report → ℕ → Option ℕ
 put_off_in rows None begin = None
 put_off_in rows (Some earlier) begin =
     if is_some earlier.to && (earlier.end + 1 == begin) then Some (decided_in rows earlier.begin) else None
 
--- The cause of a reconfiguration: the change in the row in which it is decided. If nothing changed there, a change may
--- have been put off during the preceding reconfiguration `earlier`. Then the cause is the change since `earlier` was
--- decided, or `-` if there is no such change.
+-- The cause of a reconfiguration: the change in the row in which it is decided. If nothing changed there, a change
+-- may have been put off during the preceding reconfiguration `earlier`. In that case the cause is the change since
+-- `earlier` was decided, or `-` if there is no such change.
 abbrev pub cause_text : Parts → List Row → Option Report → ℕ → List ℕ
 cause_text spec rows earlier begin =
     if differ spec (env_before spec rows (decided_in rows begin)) (env_in rows (decided_in rows begin))

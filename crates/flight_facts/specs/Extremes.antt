@@ -20,7 +20,7 @@ abbrev pub widened : ℤ → Option Extremes → Extremes
 widened number None = record { least = number; greatest = number }
 widened number (Some so_far) = record { least = int_min number so_far.least; greatest = int_max number so_far.greatest }
 
--- The minimum and the maximum of a quantity over all rows, or none if there are no rows.
+-- The minimum and the maximum of a quantity over all rows, or `None` if there are no rows.
 abbrev pub extremes_of : Quantity → List Row → Option Extremes
 extremes_of quantity [] = None
 extremes_of quantity (row ∷ rows) = Some (widened (quantity_of quantity row.world) (extremes_of quantity rows))

@@ -6,7 +6,7 @@ use Rattle.flight_facts.specs.declared.acts.ActWord.{ActWord}
 use Rattle.flight_facts.specs.declared.acts.ActWord.TheVariants.{Ran, Halting, Preparing, Initialising, Held, Off, Lost}
 use Rattle.flight_facts.specs.declared.gaps.Gap.{Gap}
 
--- Whether a first word says that an application neither ran nor was off.
+-- Whether a first word means that an application neither ran nor was off.
 abbrev pub is_missing : ActWord → Bool
 is_missing Ran = false
 is_missing Halting = true
@@ -21,7 +21,7 @@ abbrev pub missing_rows : ℕ → List Row → ℕ
 missing_rows a [] = 0
 missing_rows a (row ∷ rows) = if is_missing (act_word (act_of row a)) then missing_rows a rows + 1 else 0
 
--- The gap of a number of rows that begins with row `k`, or none if the number is 0.
+-- The gap of a number of rows that begins with row `k`, or `None` if the number is 0.
 abbrev pub gap_of : ℕ → ℕ → Option Gap
 gap_of k zero = None
 gap_of k (suc n) = Some (record { frames = suc n; at = k })
@@ -32,8 +32,8 @@ longer None later = later
 longer (Some gap) None = Some gap
 longer (Some gap) (Some later) = if nat_lt gap.frames later.frames then Some later else Some gap
 
--- The longest gap of application `a`, or none. Of several longest gaps it is the first. `k` is the number of the first
--- row.
+-- The longest gap of application `a`, or `None` if there is no gap. Of several longest gaps it is the first. `k` is
+-- the number of the first row.
 abbrev pub longest_gap : ℕ → ℕ → List Row → Option Gap
 longest_gap a k [] = None
 longest_gap a k (row ∷ rows) = longer (gap_of k (missing_rows a (row ∷ rows))) (longest_gap a (k + 1) rows)

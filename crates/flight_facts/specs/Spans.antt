@@ -34,7 +34,7 @@ same_doing act other =
 abbrev pub same_bit : ℕ → ℕ → ℕ → Bool
 same_bit p set other = if has_bit set p then has_bit other p else (if has_bit other p then false else true)
 
--- The stable configuration of a mode, or none if a reconfiguration is under way.
+-- The stable configuration of a mode, or `None` if a reconfiguration is under way.
 abbrev pub stable_conf : KMode → Option ConfId
 stable_conf (Stable c) = Some c
 stable_conf (Moving from halting to since) = None
@@ -65,13 +65,13 @@ abbrev pub is_new : Lane → Option Row → Row → Bool
 is_new lane None row = true
 is_new lane (Some before) row = if are_alike lane before row then false else true
 
--- The row preceding row `k`, or none if there is no such row.
+-- The row preceding row `k`, or `None` if there is no such row.
 abbrev pub row_before : List Row → ℕ → Option Row
 row_before rows zero = None
 row_before rows (suc k) = slice_get rows k
 
--- The number of rows of the span that begins with row `k`: row `k` and the consecutive rows after it that look like it.
--- It is none if row `k` looks like the preceding row or does not exist.
+-- The number of rows of the span that begins with row `k`: row `k` and the consecutive rows after it that look like
+-- it. `None` if row `k` looks like the preceding row or does not exist.
 abbrev pub span_at : Lane → List Row → ℕ → Option ℕ
 span_at lane rows k =
     option_and_then (λ (row : Row). if is_new lane (row_before rows k) row then Some (alike_rows lane row (drop (k + 1) rows) + 1) else None) (slice_get rows k)

@@ -10,7 +10,7 @@ use scram_types::lookups::{env_before, env_in};
 use scram_types::{Env, KMode, Report, Row, Spec};
 use trace_text::lines::Line;
 
-/// Returns the row in which the reconfiguration that begins in row `begin` is decided. It is row `begin` if a
+/// Returns the row in which the reconfiguration that begins in row `begin` is decided. This is row `begin` if a
 /// reconfiguration is under way in that row. Otherwise something was lost in row `begin`, and the deciding row is the
 /// next row, which may not exist.
 pub fn decided_in(rows: &[Row], begin: u32) -> usize

@@ -74,8 +74,8 @@ fn add_values(line: &mut Line, spec: &Spec, before: &[u8; 6], after: &[u8; 6]) -
     any
 }
 
-// Appends the processors whose states differ, after the factors. `values` says whether a factor differs. Returns
-// whether anything differs.
+// Appends the processors whose states differ, after the factors. `values` is `true` if a factor differs. Returns
+// whether a factor or a processor differs.
 fn add_procs(line: &mut Line, spec: &Spec, values: bool, before: u8, after: u8) -> bool
     requires { length line.old + 144 ≤ MAX_LINE_BYTES }
     ensures text { line.new ≡ line.old ++ comma_joined_after values (procs_changed spec.now.procs before after) }
@@ -109,8 +109,8 @@ fn add_value(line: &mut Line, is_further: bool, factor: &Factor, value: u8)
     line.text(factor.value_name(value).as_bytes());
 }
 
-// Appends a processor whose state differs. `is_further` says whether a part precedes it, so that a comma comes first.
-// The lowest bit of `later` is 1 if the processor is up.
+// Appends a processor whose state differs. If `is_further` is `true`, a part precedes it and a comma comes first. The
+// lowest bit of `later` is 1 if the processor is up.
 fn add_proc(line: &mut Line, is_further: bool, proc: &Proc, later: u8)
     requires { length line.old + 18 ≤ MAX_LINE_BYTES }
     ensures text { line.new ≡ line.old ++ (if is_further then codes "," else []) ++ proc_change proc.now later }

@@ -1,5 +1,5 @@
--- A drawn row, computed: after frame 4 processor 0 has committed that frame, in bank 1, and processor 1 committed frame
--- 2 last.
+-- A drawn row, computed. After frame 4, processor 0 has committed that frame, in bank 1, and processor 1 has
+-- committed frame 2 last.
 use Rattle.std.proofs.Common.{◌≡◌, ℕ, refl, true, false, List, [], ◌∷◌}
 use Rattle.std.specs.Prelude.{ℤ, pos, Some, None}
 use Rattle.scram_types.specs.Lookups.{proc_id}
@@ -27,7 +27,8 @@ not_by_an_older_mark = refl
 pub no_such_processor : has_committed marks 4 2 ≡ false
 no_such_processor = refl
 
--- the application whose area before the frame is ones
+-- The area before the frame is `ones`, and each slot is `twos`. The area after the frame is the slot if the
+-- application's processor committed the frame, the old area if it did not, and zeros if the application is off.
 pub slot_taken : area_from (has_committed marks 4) (twos ∷ twos ∷ []) 0 ones (Some (proc_id 0)) ≡ twos
 slot_taken = refl
 

@@ -1,4 +1,4 @@
--- Prefixes of the list of all rows.
+-- Lemmas on prefixes of the list of all rows.
 use Rattle.std.proofs.Common.{◌≡◌, ◌∙◌, ℕ, zero, suc, ◌≤◌, refl, subst, sym, arith, List, [], ◌∷◌, ◌⊎◌}
 use mathlib.Core.Logic.{inl, inr}
 use Rattle.std.specs.Prelude.{ℤ, take}

@@ -20,7 +20,7 @@ use Rattle.frame_model.specs.Storage.{kernel_image}
 use Rattle.scram_kernel.specs.Marks.{AreImages, AreMarks}
 use Rattle.scram_kernel.proofs.Commits.{committed_told}
 
--- the slot holds the law's area if a processor commits the frame and was to host the application
+-- If a processor commits a frame and hosts an application in it, its slot holds the area that the law gives.
 slot_made : (spec : Parts) (script : ScriptParts) (f a : ℕ) (proc : ProcId) → commits spec script proc.0 f ≡ true → (task_given spec script f a).proc ≡ Some proc
     → slot_after spec script proc.0 (suc f) a ≡ law_of spec (env_at spec script f) (state_after spec script f) (task_given spec script f a) a
 slot_made spec script f a proc commits_it hosts = let itself : (proc.0 == proc.0) ≡ true = grind (arith, nat_tests) in rw (commits_it, hosts, itself) refl

@@ -33,7 +33,7 @@ pub(crate) fn image_next(
     ensures { result ≡ image_next spec.now row.now keepers env }
 {
     let phase = phase_at(spec, &row.mode, row.frame);
-    // A decision does not read the areas.
+    // The areas are not read by a decision.
     let sys = Sys {
         frame: row.frame + 1,
         mode: row.mode,

@@ -8,10 +8,10 @@ use frame_model::{Reading, Sys, close, read_row, tasks_of};
 use scram_types::{Area, Flown, Image, List, NoMemory, Report, Row, Script, Spec};
 use std::alloc::Global;
 
-/// The kernel of a flight, given by a specification and a script, after a number of frames. It calls no application. It
-/// takes the acts of a frame from the marks and the images of the processors after the frame. It takes the environment
-/// of the next frame from the script, along which it walks. It keeps the image of the running frame, the areas before
-/// that frame, and the rows and the reconfigurations of the frames that have ended.
+/// The kernel of a flight, given by a specification and a script, after a number of frames. The kernel calls no
+/// application. It takes the acts of a frame from the marks and the images of the processors after the frame. It
+/// takes the environment of the next frame from the script, along which it walks. It keeps the image of the running
+/// frame, the areas before that frame, and the rows and the reconfigurations of the frames that have ended.
 #[derive(Drop)]
 pub struct Kernel<'a> {
     spec: &'a Spec,
@@ -44,8 +44,8 @@ impl<'a> Kernel<'a> {
     ghost use Rattle.scram_kernel.specs.Kernels.{kernel_after, rows_below};
     ghost use Rattle.scram_kernel.specs.Marks.{AreImages, AreMarks};
 
-    /// Returns the kernel before the first frame, with capacity for all rows and reports of the script. The only error
-    /// is out of memory.
+    /// Returns the kernel before the first frame, with capacity for all rows and reports of the script. The only
+    /// error is that memory runs out.
     pub fn new(alloc: Global, spec: &'a Spec, script: &'a Script) -> Result<Kernel<'a>, NoMemory>
         requires { Fits spec.now script.now }
         ensures { IfOk result (λ kernel. kernel ≡ kernel_after spec.now script.now 0) }
@@ -93,9 +93,9 @@ impl<'a> Kernel<'a> {
         &self.rows
     }
 
-    /// Ends the running frame, given the processors' marks and images after it. Appends the frame's row, continues the
-    /// reading of reconfigurations, and walks on to the next frame. Returns the kernel image of the next frame, also
-    /// after the last frame. The precondition is that not all frames have ended.
+    /// Ends the running frame, given the processors' marks and images after it. Appends the frame's row, continues
+    /// the reading of reconfigurations, and walks on to the next frame. Returns the kernel image of the next frame,
+    /// even after the last frame. Not all frames may have ended before the call.
     pub fn tick(&mut self, marks: &[u64; 8], images: &[Image; 8]) -> KernelImage
         requires frames { self.old.past < self.old.script.frames }
         requires marks { AreMarks self.old.spec self.old.script (self.old.past + 1) marks.now }

@@ -1,4 +1,4 @@
--- The number of reconfigurations that have begun.
+-- The number of reconfigurations that have begun in the first frames.
 use Rattle.std.proofs.Common.{◌≡◌, ◌∙◌, ℕ, zero, suc, ◌+◌, ◌-◌, ◌<◌, ◌≤◌, ap, sym, subst, refl, inl, inr, arith, Bool, true, false, List, [], ◌∷◌, ◌++◌, length, append_assoc}
 use Rattle.std.specs.Prelude.{Option, Some, None, filter, map, slice_get, take, if◌then◌else◌}
 use Rattle.std.proofs.Math.Seq.{take-append_seam}
@@ -22,7 +22,7 @@ use Rattle.frame_model.proofs.ReadLaws.{row_by_row}
 use Rattle.telemetry_tap.specs.Laws.{SummariesGoOn}
 use Rattle.telemetry_tap.specs.Summaries.{summary_begun, begun_with, first_rows}
 
--- the first m of n
+-- Lemmas on the first `m` of `n` rows.
 record Front {A : Type 0} (value : ℕ → A) (m n : ℕ) : Type 0 where
   pub back : List A
   pub is : listed_below value n ≡ listed_below value m ++ back
@@ -51,7 +51,7 @@ first_next mission m le =
 first_long : (mission : MissionParts) (m : ℕ) → m ≤ mission.script.frames → length (first_rows mission m) ≡ m
 first_long mission m le = ap length (first_listed mission m le) ∙ length_listed (row_at mission.spec mission.script) m
 
--- what a row adds
+-- Lemmas on the reconfigurations that a row adds.
 steady_adds : (c : ConfId) (f n : ℕ) (b : Bool) → 0 + length (as_list (close (if b then Steady c else Leaving c f) n)) ≡ 0 + (if b then 0 else 1)
 steady_adds c f n true = refl
 steady_adds c f n false = refl
@@ -78,7 +78,8 @@ one_more spec rows row =
     let e = adds spec (reading_of spec rows) (length rows) (length (rows ++ row ∷ [])) (length rows) row.acts in
     omega (arith, parts, a, b, d, e)
 
--- the number of reconfigurations that begin in the first m frames is that of the first m rows
+-- The number of reconfigurations that begin in the first `m` frames is the number of reconfigurations read from the
+-- first `m` rows. It is at most `m`.
 pub begun_as_read : BeginningsAreRead → (mission : MissionParts) (m : ℕ) → m ≤ mission.script.frames → summary_begun mission m ≡ length (reports mission.spec (first_rows mission m))
 begun_as_read law mission m le =
     let rows = listed_below (row_at mission.spec mission.script) m in
@@ -120,7 +121,8 @@ begun_few law mission (suc m) le =
 pub none_begun : BeginningsAreRead → (mission : MissionParts) → 0 ≡ summary_begun mission 0
 none_begun law mission = let few = begun_few law mission 0 (omega arith) in omega (arith, few)
 
--- from one summary to a later one
+-- From one summary to a later one, the number of reconfigurations that have begun does not fall, and rises by at most
+-- 1 with each frame.
 goes_on : BeginningsAreRead → (mission : MissionParts) (m k : ℕ) → m + k ≤ mission.script.frames
     → (summary_begun mission m ≤ summary_begun mission (m + k)) × (summary_begun mission (m + k) ≤ summary_begun mission m + k)
 goes_on law mission m zero le = let e : m + 0 ≡ m = omega arith in rw e (omega arith, omega arith)
@@ -145,7 +147,7 @@ reading_next mission m le =
     ∙ (row_by_row mission.spec (first_rows mission m) (row_at mission.spec mission.script m)).0
     ∙ ap (λ n. read_row mission.spec (reading_of mission.spec (first_rows mission m)) n (row_at mission.spec mission.script m).acts) (first_long mission m (omega arith))
 
--- a row of the mission, by its number
+-- Row `m` of the mission is the row of frame `m`.
 pub within : (mission : MissionParts) (m : ℕ) (row : Row) → slice_get (rows_of mission.spec mission.script) m ≡ Some row → m < mission.script.frames
 within mission m row there =
     let long = length_listed (row_at mission.spec mission.script) mission.script.frames in

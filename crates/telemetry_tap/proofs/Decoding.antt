@@ -1,4 +1,4 @@
--- A word and its summary.
+-- Decoding a word and encoding a summary are inverse.
 use Rattle.std.proofs.Common.{◌≡◌, ℕ, ◌+◌, ◌*◌, ◌/◌, ◌%◌, ◌<◌, arith}
 use Rattle.std.specs.Prelude.{◌^◌}
 use Rattle.telemetry_tap.specs.Laws.{SummariesComeBack}

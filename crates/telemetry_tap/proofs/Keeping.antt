@@ -1,4 +1,4 @@
--- The steps keep the rule.
+-- The steps keep the rule of the tap's table.
 use Rattle.std.proofs.Common.{◌≡◌, ◌≢◌, ◌∙◌, ◌⊎◌, ℕ, zero, suc, ◌<◌, ap, sym, refl, subst, inl, inr, arith, true, false, List, [], ◌∷◌, length}
 use Rattle.std.specs.Prelude.{Option, Some, IfSome, slice_index, slice_set}
 use Rattle.std.proofs.lemmas.Grind.{common_steps}
@@ -28,7 +28,7 @@ no_both : (v : TapView) → v.writes ≡ true → v.writes ≡ false → true �
 no_both v pens other = sym pens ∙ other
 
 module _ (mission : MissionParts) (slots id : ℕ) (me : TapSeat) (empty : me.1 ≡ []) where
-  -- the writer's store
+  -- The writer's store keeps the rule.
   module _ (writes : me.0.writes ≡ true) where
     publish_each : (s : State (Unit {0}) TapView) (r : IsTapState mission s) → get_elem? s.views id ≡ some me.0
         → (j : ℕ) (u : TapView) → ((j ≡ id) × (row_later me.0 ≡ u)) ⊎ ((j ≢ id) × (get_elem? s.views j ≡ some u)) → IsTapView mission (suc r.m) r.writer j u
@@ -71,7 +71,7 @@ module _ (mission : MissionParts) (slots id : ℕ) (me : TapSeat) (empty : me.1 
           (refl, empty),
         )
 
-  -- a reader's load
+  -- A reader's load keeps the rule.
   module _ (planned : me.0.mission ≡ Some mission) (only_reads : me.0.writes ≡ false) where
     read_each : (s : State (Unit {0}) TapView) (r : IsTapState mission s) → get_elem? s.views id ≡ some me.0
         → (j : ℕ) (u : TapView) → ((j ≡ id) × (view_loaded me.0 r.m ≡ u)) ⊎ ((j ≢ id) × (get_elem? s.views j ≡ some u)) → IsTapView mission r.m r.writer j u
@@ -111,7 +111,7 @@ module _ (mission : MissionParts) (slots id : ℕ) (me : TapSeat) (empty : me.1 
           ),
         )
 
--- the split of the writer's seat
+-- The split of the writer's seat keeps the rule.
 module _ (mission : MissionParts) (id : ℕ) (v : TapView) (writes : v.writes ≡ true) where
   note_each : (s : State (Unit {0}) TapView) (r : IsTapState mission s) → get_elem? s.views id ≡ some v
       → (j : ℕ) (u : TapView) → (get_elem? s.views j ≡ some u) ⊎ (reader_view v ≡ u) → IsTapView mission r.m r.writer j u
@@ -137,7 +137,7 @@ module _ (mission : MissionParts) (id : ℕ) (v : TapView) (writes : v.writes �
         each = λ j u there. note_each s r here j u (at_snoc s.views (reader_view v) u j (rw same at there));
       }
 
--- the opening
+-- The opening meets the rule.
 first_each : (mission : MissionParts) (j : ℕ) (u : TapView) → get_elem? (writer_view mission ∷ []) j ≡ some u → IsTapView mission 0 0 j u
 first_each mission zero u there =
     let one : writer_view mission ≡ u = cc in

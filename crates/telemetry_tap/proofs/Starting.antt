@@ -1,4 +1,4 @@
--- The first writer.
+-- Lemmas on the writer that an opening creates.
 use Rattle.std.proofs.Common.{◌≡◌, ◌∙◌, ap, sym, []}
 use Rattle.frame_model.specs.declared.readings.Reading.TheVariants.{Steady}
 use Rattle.frame_model.specs.Laws.{BeginningsAreRead}

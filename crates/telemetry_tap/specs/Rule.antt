@@ -48,7 +48,7 @@ view_loaded v m = record { mission = v.mission; writes = v.writes; seen = m; loa
 abbrev pub reader_view : TapView → TapView
 reader_view v = record { mission = v.mission; writes = false; seen = v.seen; loads = 0 }
 
--- A store by the writer publishes one more row.
+-- After a store by the writer, the view of its seat has one more published row, and the seat has no slots.
 abbrev pub publishes_row : Step (Unit {0}) → TapSeat → ℕ → TapSeat → Type 0
 publishes_row s me n after = (after.0 ≡ row_later me.0) × (after.1 ≡ [])
 

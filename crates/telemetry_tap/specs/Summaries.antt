@@ -20,11 +20,12 @@ abbrev pub running_number : Option ConfId → ℕ
 running_number None = NONE_RUNNING
 running_number (Some conf) = conf.0
 
--- The configuration that a summary names by this number, or none if the number is `NONE_RUNNING`.
+-- The configuration that has this number in a summary, or `None` if the number is `NONE_RUNNING`.
 abbrev pub running_conf : ℕ → Option ConfId
 running_conf number = if number == NONE_RUNNING then None else Some (conf_id number)
 
--- The number of the configuration that the last of the first `m` rows runs, or `NONE_RUNNING` if there is none.
+-- The number of the configuration that the last of the first `m` rows runs, or `NONE_RUNNING` if that row runs none
+-- or `m` is 0.
 abbrev pub summary_running : MissionParts → ℕ → ℕ
 summary_running mission zero = NONE_RUNNING
 summary_running mission (suc k) = running_number (running mission.spec (row_at mission.spec mission.script k).acts)
@@ -46,8 +47,7 @@ summary_after mission m = record { frames = m; running = summary_running mission
 abbrev pub first_rows : MissionParts → ℕ → List Row
 first_rows mission m = take m (rows_of mission.spec mission.script)
 
--- The number of reconfigurations that begin with a row, which is 0 or 1. `Reading` is what the preceding rows have
--- told.
+-- The number of reconfigurations that begin with a row, which is 0 or 1. The reading is that of the preceding rows.
 abbrev pub begun_with : Parts → Reading → List Act → ℕ
 begun_with spec (Steady c) acts = if runs spec acts c then 0 else 1
 begun_with spec (Leaving c begin) acts = 0

@@ -1,24 +1,25 @@
-//! Laws about the definitions in this crate's contracts. Each function's contract is a law.
+//! Laws of the definitions in this crate's contracts. Each function states a law by its contract.
 
 ghost use Rattle.telemetry_tap.specs.Laws.{SummariesComeBack, SummariesGoOn, SummariesTellRows};
 
 use frame_model::laws::beginnings_are_read;
 
-/// The summary after `m` frames is the summary of the first `m` rows.
+/// States that the summary after `m` frames is the summary of the first `m` rows.
 pub fn summaries_tell_rows()
     ensures { SummariesTellRows }
 {
     beginnings_are_read();
 }
 
-/// The number of reconfigurations that have begun never falls, and rises by at most 1 with each frame.
+/// States that the number of reconfigurations that have begun never falls, and rises by at most 1 with each frame.
 pub fn summaries_go_on()
     ensures { SummariesGoOn }
 {
     beginnings_are_read();
 }
 
-/// A summary that fits its word is decoded from that word, and a word of 48 bits is encoded again from its summary.
+/// States that a summary that fits its word is decoded from that word, and that a word of 48 bits is encoded again
+/// from its summary.
 pub fn summaries_come_back()
     ensures { SummariesComeBack }
 {}

@@ -20,7 +20,7 @@ impl<'a> Tap<'a> {
     ///
     /// # Errors
     ///
-    /// The only error is out of memory.
+    /// Returns an error if memory runs out.
     pub fn open(
         alloc: Global,
         mission: &'a Mission,

@@ -7,8 +7,8 @@ use crate::summaries::NONE_RUNNING;
 use frame_model::{Reading, runs};
 use scram_types::{Act, ConfId, Row, Spec};
 
-/// Returns the number of reconfigurations that begin with a row, which is 0 or 1. `reading` is what the preceding rows
-/// have told.
+/// Returns the number of reconfigurations that begin with a row, which is 0 or 1. `reading` is the reading of the
+/// preceding rows.
 pub(crate) fn begun_with(spec: &Spec, reading: Reading, acts: &[Act; 8]) -> u32
     ensures same { result ≡ begun_with spec.now reading acts.now }
     ensures few { result ≤ 1 }

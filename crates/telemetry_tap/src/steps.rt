@@ -23,7 +23,7 @@ impl<'a> Tap<'a> {
         self.mission
     }
 
-    /// Publishes the summary after the next row of the mission. It does not allocate and does not block.
+    /// Publishes the summary after the next row of the mission. This method does not allocate and does not block.
     pub fn publish(&self, writer: &mut Writer, row: &Row)
         requires writer { IsWriterOf self.now writer.old }
         requires row { slice_get (rows_of (tap_mission self.now).spec (tap_mission self.now).script) (rows_published writer.old) ≡ Some row.now }
@@ -50,7 +50,7 @@ impl<'a> Tap<'a> {
     }
 
     /// Loads the word and returns its summary, which has at least as many rows as the last one that this reader has
-    /// seen. It does not allocate and does not block.
+    /// seen. This method does not allocate and does not block.
     pub fn read(&self, reader: &mut Reader) -> Summary
         requires reader { IsReaderOf self.now reader.old }
         ensures reader { IsReaderOf self.now reader.new }
@@ -65,8 +65,8 @@ impl<'a> Tap<'a> {
         summary_decode(word)
     }
 
-    /// Returns a new reader, which has seen all rows that the writer has published. It does not allocate and does not
-    /// block.
+    /// Returns a new reader, which has seen all rows that the writer has published. This method does not allocate and
+    /// does not block.
     pub fn note(&self, writer: &mut Writer) -> Reader
         requires writer { IsWriterOf self.now writer.old }
         ensures writer { IsWriterOf self.now writer.new }

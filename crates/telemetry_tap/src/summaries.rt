@@ -14,7 +14,7 @@ pub const NONE_RUNNING: u8 = 255;
 pub struct Summary {
     /// The number of frames that have ended, 0 to 20,000.
     pub frames: u32,
-    /// The number of the configuration that the last row runs, or `NONE_RUNNING` if there is none.
+    /// The number of the configuration that the last row runs, or `NONE_RUNNING` if it runs none or there is no row.
     pub running: u8,
     /// The set of processors that are up in the last row, or in frame 0 if there is no row. Bit `p` is for processor
     /// `p`.
@@ -24,7 +24,7 @@ pub struct Summary {
 }
 
 impl Summary {
-    /// Returns the configuration that the last row runs, or `None` if there is none.
+    /// Returns the configuration that the last row runs, or `None` if it runs none or there is no row.
     pub fn running_conf(&self) -> Option<ConfId>
         ensures { result ≡ running_conf self.now.running }
     {

@@ -19,7 +19,7 @@ pub struct Tap<'a> {
 }
 
 /// The only writer of a tap. For the next summary it keeps the number of rows published so far, the number of
-/// reconfigurations begun in them, and what the rows have told.
+/// reconfigurations begun in them, and their reading.
 #[derive(Drop)]
 pub struct Writer {
     pub(crate) published: u32,

@@ -1,4 +1,5 @@
--- A fact about each item of a list by its index, after the last item is removed and after an item is appended.
+-- Lemmas on a fact about each item of a list by its index, after the last item is removed and after an item is
+-- appended.
 use Rattle.std.proofs.Common.{◌≡◌, ◌∙◌, ℕ, zero, suc, ap, sym, subst, refl, arith, List, [], ◌∷◌, ◌++◌, length}
 use Rattle.std.specs.Prelude.{All, Option, Some, option_to_list, slice_get}
 use Rattle.std.proofs.lemmas.List.Elements.{All-append, All-pop}
@@ -15,7 +16,7 @@ use Rattle.word_deck.specs.Crews.{IsCrewOf}
 use Rattle.word_deck.specs.Flights.{AreCrewsOf, AreLanded, AreOpen, numbers_in}
 use Rattle.word_deck.specs.Landing.{IsLanded}
 
--- each item has this fact at its index
+-- Each item has the fact at its index.
 abbrev pub EachAt : {A : Type 0} → (ℕ → A → Type 0) → List A → Type 0
 EachAt {A} Fact xs = (i : ℕ) (x : A) → slice_get xs i ≡ Some x → Fact i x
 
@@ -47,7 +48,7 @@ last_same (a ∷ xs) (b ∷ ys) x y e =
     let tail : xs ++ x ∷ [] ≡ ys ++ y ∷ [] = cc in
     let rest = last_same xs ys x y tail in (ap (λ z. z ∷ xs) head ∙ ap (λ zs. b ∷ zs) rest.0, rest.1)
 
--- the numbers of crews, after one is appended, after one has its turn, and after the last one is removed
+-- Lemmas on the numbers of crews after one is appended, after one has its turn, and after the last one is removed.
 
 module _ {X : Type 0} {Y : X → Type 0} where
   pub numbers_more : (own all : List (Crew X Y)) (crew : Crew X Y) (p : ℕ) → all ≡ own ++ crew ∷ [] → proc_of crew.seat ≡ p → numbers_in all ≡ numbers_in own ++ p ∷ []
@@ -63,7 +64,7 @@ module _ {X : Type 0} {Y : X → Type 0} where
       let long : length xs ≡ length (numbers ++ p ∷ []) = sym (length-map xs (λ (c : Crew X Y). proc_of c.seat)) ∙ ap length are in
       omega (arith, long, none, length-append numbers (p ∷ []))
 
--- crews that fly in the caller's turns
+-- Lemmas on the crews that fly in the caller's turns.
 
 module _ {X : Type 0} {Y : X → Type 0} (words : WordTable) where
   pub crews_none : (own : List (Crew X Y)) → length own ≡ 0 → AreCrewsOf words own
@@ -78,7 +79,7 @@ module _ {X : Type 0} {Y : X → Type 0} (words : WordTable) where
   crews_less xs ys o crew all is are =
       let both = All-pop (λ (c : Crew X Y). IsCrewOf words c) xs ys (Some crew) (popped xs ys o crew all is) are in (both.0, both.1)
 
--- seats of processors that have not started, after the last one is removed
+-- Lemmas on the seats of processors that have not started or have landed, after one is removed or appended.
 pub open_front : (words : WordTable) (xs ys : List Seat) (o : Option Seat) (seat : Seat) → xs ≡ ys ++ option_to_list o → o ≡ Some seat → AreOpen words xs → AreOpen words ys
 open_front words xs ys o seat all is are = front_at (λ p s. IsSeatOf words s × (proc_of s ≡ p) × (seat_place s ≡ At 0 0)) xs ys seat (popped xs ys o seat all is) are
 

@@ -1,4 +1,4 @@
--- The marks and images that the kernel has noted, and its place between turns.
+-- Lemmas on the marks and images that the kernel has noted, and on its place between turns.
 use Rattle.std.proofs.Common.{◌≡◌, ◌≢◌, ◌∙◌, ◌⊎◌, ℕ, suc, ◌+◌, ◌<◌, ℤ, ap, sym, refl, inl, inr, arith, true, false, List, [], length}
 use Rattle.std.specs.Prelude.{nat_lt, slice_index_or, slice_set}
 use Rattle.std.proofs.lemmas.Bool.Decides.{nat_tests}
@@ -20,7 +20,7 @@ use Rattle.word_table.specs.Tables.{kernel_frame, kernel_steps}
 use Rattle.word_deck.specs.Kernels.{AreNoted, IsKernelBetween, IsKernelDone, frames_noted}
 use Rattle.word_deck.specs.declared.kernels.Noted.{Noted}
 
--- the next processor is noted
+-- If the first `n` processors are noted and processor `n` is noted next, the first `n + 1` processors are noted.
 
 at_last : (n p : ℕ) → p < n + 1 → (p ≡ n) ⊎ (p < n)
 at_last n p low = grind arith
@@ -40,7 +40,7 @@ noted_more mission k n noted mark image is low eight_marks eight_images same_mar
   images = set_more (λ p. image_after mission.spec mission.script p (suc k)) noted.images [] n image is.images (rw eight_images low) same_image;
 }
 
--- if the next processor may not be noted, its image is unchanged
+-- If the image at index `n` is replaced, the first `n` processors stay noted.
 pub noted_still : (mission : MissionParts) (k n : ℕ) (noted : Noted) (image : List ℤ) → AreNoted mission k n noted → AreNoted mission k n (record { marks = noted.marks; images = slice_set noted.images n image })
 noted_still mission k n noted image is = record {
   marks = is.marks;
@@ -54,7 +54,7 @@ noted_on mission k f n noted mark image same is low eight_marks eight_images of_
     let at : f + 1 ≡ suc k = omega (arith, same) in
     noted_more mission k n noted mark image is low eight_marks eight_images (of_mark ∙ ap (mark_after mission.spec mission.script n) at) (of_image ∙ ap (image_after mission.spec mission.script n) at)
 
--- the place of the kernel
+-- Lemmas on the number of frames in which the kernel has noted all processors.
 
 pub below : (procs : ℕ) (kseat : KSeat) → kernel_steps kseat < procs → frames_noted procs kseat ≡ kernel_frame kseat
 below procs kseat low = let e : nat_lt (kernel_steps kseat) procs ≡ true = grind (arith, nat_tests) in rw e refl
@@ -73,7 +73,7 @@ done_log procs frames kseat between (inl none) =
     below procs kseat less ∙ omega (arith, within, none)
 done_log procs frames kseat between (inr last) = all procs kseat last.1 ∙ last.0
 
--- the values that are given to the log and to the words
+-- Lemmas on the values that are given to the log and to the words.
 
 pub images_for : (kernel : KernelParts) (mission : MissionParts) (noted : Noted) → kernel ≡ kernel_after mission.spec mission.script kernel.past → AreNoted mission kernel.past (length mission.spec.procs) noted
     → AreImages kernel.spec kernel.script (kernel.past + 1) noted.images

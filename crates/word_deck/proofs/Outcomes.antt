@@ -1,4 +1,4 @@
--- The result of a flight: the trace, and the places of the seats.
+-- The result of a flight is the trace, and its seats are at their last places.
 use Rattle.std.proofs.Common.{◌≡◌, ◌∙◌, ◌<◌, ◌≤◌, ap, arith, sym, subst, List, length}
 use Rattle.std.specs.Prelude.{Some}
 use Rattle.std.proofs.lemmas.Option.{slice_get_within}
@@ -20,7 +20,7 @@ use Rattle.word_table.specs.Keeping.{IsFlown}
 use Rattle.word_table.specs.Tables.{AreOpening, AreSeatsOf, IsKernelSeatOf, IsSeatOf, mission_in, proc_of}
 use Rattle.word_deck.specs.Flights.{AreAtTable, AreLanded, AreOpen, IsAtTable}
 
--- the trace
+-- Lemmas on the trace.
 
 pub few_told : (spec : Parts) (script : ScriptParts) (rows : List Row) (told : List Report) → rows ≡ rows_of spec script → told ≡ reports_of spec script → length told ≤ length rows
 few_told spec script rows told r t = rw (r, t) (few_reports spec (rows_of spec script))
@@ -29,7 +29,7 @@ pub all_hold : (spec : Parts) (script : ScriptParts) (rows : List Row) (told : L
     → rows ≡ rows_of spec script → told ≡ reports_of spec script → HoldsAll spec rows told
 all_hold spec script rows told assured facts is r t = rw (r, t) (assured spec script facts is)
 
--- a table whose words are the same
+-- A kernel's seat stays a seat of the table if the flight has the same words.
 
 pub kernel_kept : (old new : WordTable) (kseat : KSeat) (mission : MissionParts) → new.table ≡ old.table → IsAtTable old kseat → mission_in old ≡ mission → IsSpec mission.spec → IsMission mission → IsKernelSeatOf new kseat
 kernel_kept old new kseat mission same at of facts is =
@@ -40,7 +40,7 @@ kernel_kept old new kseat mission same at of facts is =
       mission = at.1 ∙ ap (λ (k : MissionParts). Some k) key;
     }
 
--- the seats
+-- Lemmas on the seats of the processors.
 
 pub at_table : (words : WordTable) (seats : List Seat) → AreSeatsOf words seats → AreOpening seats → AreAtTable words seats
 at_table words seats are opening = λ p seat there. let is = are.each p seat there in (is.0.table, is.0.mission, is.1, opening p seat there)

@@ -1,4 +1,4 @@
--- The change of a processor's place by a turn.
+-- Lemmas on the change of a processor's place by a turn.
 use Rattle.std.proofs.Common.{◌≡◌, ◌∙◌, ◌↔◌, ℕ, ◌<◌, ◌≤◌, sym, refl, subst, arith, Bool, true, false, not}
 use Rattle.std.specs.Prelude.{Option, Some, None, is_some, if◌then◌else◌}
 use Rattle.std.proofs.lemmas.Bool.Decides.{nat_tests}
@@ -16,7 +16,7 @@ use Rattle.word_deck.specs.Crews.{comes_back, is_done, place_after, place_flown,
 use Rattle.word_deck.specs.declared.turns.Turn.{Turn}
 use Rattle.word_deck.specs.declared.turns.Turn.TheVariants.{Worked, NotYet, Finished}
 
--- the processors that are done
+-- A processor is done if and only if the test `is_done` passes.
 
 late : (h : ℕ) (o : Option ℕ) → not (comes_back h o) ≡ true → (r : ℕ) → o ≡ Some r → r ≤ h
 late h None e r s = cc
@@ -34,7 +34,7 @@ pub by_done : (m : Flight) (p : ℕ) (place : Place) → IsDone m p place → is
 by_done m p (At f n) e = grind (arith, nat_tests)
 by_done m p (Halted h) e = early h (m.restart p) e
 
--- a processor that is not done waits
+-- A processor between two turns that is not done waits for a release.
 
 comes : (h : ℕ) (o : Option ℕ) → not (comes_back h o) ≡ false → h < restart_or h o
 comes h None e = cc
@@ -44,7 +44,7 @@ pub waits : (m : Flight) (p : ℕ) (place : Place) → is_done m p place ≡ fal
 waits m p (At f n) e s l = (s, let ne : f ≡ m.frames → ⊥ = (λ same. grind (arith, nat_tests)) in let le = l.0 in grind (arith, ne, le))
 waits m p (Halted h) e s l = comes h (m.restart p) e
 
--- a processor that has halted and waits has its spare rack
+-- A processor that has halted and waits for its restart has its spare rack.
 
 has_restart : {R : Type 0} (h : ℕ) (o : Option ℕ) (spare : Option R) → h < restart_or h o → ((r : ℕ) → o ≡ Some r → h < r → is_some spare ≡ true) → is_some spare ≡ true
 has_restart h None spare l s = absurd (omega (arith, l))
@@ -58,14 +58,15 @@ none_later : {R : Type 0} (h : ℕ) (o : Option ℕ) (spare : Option R) → h < 
 none_later h None spare l r e more = cc
 none_later h (Some q) spare l r e more = let same : q ≡ r = cc in absurd (omega (arith, same, more))
 
--- the spare rack after a start, which a processor that had halted no longer needs
+-- After a start, the processor has a spare rack for each later restart. A processor that had halted no longer needs
+-- one.
 pub spare_begun : {X : Type 0} {Y : X → Type 0} (m : Flight) (p q : ℕ) (place : Place) (unit : HeldUnit X Y) (spare : Option (Rack X Y)) → Waits m p place → IsUnitAt q place unit → HasSpare m p (frame_of place) spare
     → HasSpare m p (frame_awaited m p place) (spare_started unit spare)
 spare_begun m p q (At f n) (Up live) spare w is s = s
 spare_begun m p q (At f n) (Down halted) spare w is s = let down = is.down in cc
 spare_begun m p q (Halted h) unit spare w is s = none_later h (m.restart p) (spare_started unit spare) w
 
--- the processor at a seat that has moved
+-- Lemmas on the unit of a processor whose seat has moved.
 pub started_there : {X : Type 0} {Y : X → Type 0} (p q : ℕ) (before after : Place) (was flyer : Flyer X Y) (f n : ℕ) → flyer ≡ flyer_started was → q ≡ p → after ≡ At f n → IsUnitAt p before was.unit
     → (is_halted before ≡ true → is_some was.spare ≡ true) → IsUnitAt q after flyer.unit
 started_there {X = X} {Y = Y} p q before after was flyer f n made same at is some =
@@ -76,7 +77,7 @@ pub halted_there : {X : Type 0} {Y : X → Type 0} (p q : ℕ) (before after : P
 halted_there {X = X} {Y = Y} p q before after was flyer f made same frame at flies is =
     rw (same, at) (subst (λ (x : Flyer X Y). IsUnitAt p (Halted f) x.unit) (sym made) (rw frame (unit_stopped p before was.unit is flies)))
 
--- a frame that is flown
+-- Lemmas on the result of a turn in which a frame is flown.
 
 pub begins : (f : ℕ) (o : Option ℕ) → steps_of (after_frame f o) ≡ 0
 begins f None = refl

@@ -1,4 +1,4 @@
--- The next step of a processor within a frame.
+-- Lemmas on the next step of a processor within a frame.
 use Rattle.std.proofs.Common.{◌≡◌, ◌∙◌, ℕ, zero, suc, ℤ, pos, List, length, ◌+◌, ◌<◌, ◌≤◌, ap, sym, refl, arith, true, false}
 use Rattle.std.specs.Prelude.{option_map, Option, Some, None, map, slice_index_or}
 use Rattle.std.proofs.lemmas.Bool.Decides.{nat_tests}
@@ -20,7 +20,7 @@ use Rattle.fail_stop.proofs.OpeningLists.{encoded_at}
 use Rattle.word_table.specs.Actors.{step_at}
 use Rattle.word_deck.specs.Frames.{HaltsLate}
 
--- the plan of a step that the halt does not take
+-- Lemmas on a step before which the processor does not halt.
 no_halt : (m : Flight) (n : ℕ) (o : Option ℕ) → ((s : ℕ) → o ≡ Some s → (n ≡ m.procs + 1 + s → ⊥)) → halts_at m n o ≡ false
 no_halt m n None late = refl
 no_halt m n (Some s) late = let l = late s refl in grind (arith, nat_tests)
@@ -28,7 +28,7 @@ no_halt m n (Some s) late = let l = late s refl in grind (arith, nat_tests)
 planned : (m : Flight) (p f n : ℕ) → halts_at m n (m.halt p f) ≡ false → plan m p f n ≡ plan_step m p n
 planned m p f n e = rw e refl
 
--- a place after a step
+-- Lemmas on the next step at each place of a frame.
 step_is : (m : Flight) (p f n : ℕ) (place : Place) (e : Option Event) → place ≡ At f n → 0 < n → plan m p f n ≡ e → step_at m p place ≡ e
 step_is m p f zero place e here some next = absurd (omega (arith, some))
 step_is m p f (suc n) place e here some next = rw here next
@@ -69,14 +69,14 @@ halts m p f s place here some =
     step_is m p f (m.procs + 1 + s) place _ here (omega arith)
     (let is : halts_at m (m.procs + 1 + s) (m.halt p f) ≡ true = ap (halts_at m (m.procs + 1 + s)) some ∙ halted_at m s in rw is refl)
 
--- a halt of a script
+-- The step of a halt of the script is at most the number of words plus one.
 pub halt_in_width : (spec : Parts) (script : ScriptParts) (p f : ℕ) (halt : HaltAt) (step width : ℕ) → Flies (flight_of spec script) → halt_in script p f ≡ Some halt → step ≡ halt.step → width ≡ words spec
     → step ≤ width + 1
 halt_in_width spec script p f halt step width flies there is same =
     let low : halt.step ≤ words spec + 1 = flies.step p f halt.step (ap (option_map (λ (h : HaltAt). h.step)) there) in
     omega (arith, low, is, same)
 
--- the same for a seat that has moved since a place was known
+-- Lemmas on the next step of a seat that has moved, given its place before.
 
 pub looks_on : (m : Flight) (p q n f : ℕ) (place : Place) → place ≡ At f (1 + q) → n ≡ m.procs → q < n → step_at m p place ≡ Some (Look (proc_id p) (proc_id q))
 looks_on m p q n f place here same low = looks m p f q place here (rw (sym same) low)

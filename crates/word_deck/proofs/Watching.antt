@@ -1,4 +1,4 @@
--- The rows that are handed to a watch.
+-- Lemmas on the rows that are handed to a watch.
 use Rattle.std.proofs.Common.{◌≡◌, ◌∙◌, ℕ, ◌+◌, ◌<◌, ◌≤◌, ap, sym, arith, List, length}
 use Rattle.std.specs.Prelude.{slice_index_or, slice_get, Some}
 use Rattle.std.proofs.lemmas.Bool.Decides.{nat_tests}
@@ -13,7 +13,7 @@ use Rattle.word_deck.specs.Kernels.{IsKernelBetween, IsKernelMoved, frames_noted
 use Rattle.word_deck.specs.declared.turns.Turn.{Turn}
 use Rattle.word_deck.specs.declared.turns.Turn.TheVariants.{Worked, NotYet, Finished}
 
--- the last row is the next one of the mission
+-- The row at index `before` of the kernel's rows is the mission's row of that index.
 pub next_row : (mission : MissionParts) (rows : List Row) (before : ℕ) (d : Row) → rows ≡ rows_below mission.spec mission.script (length rows) → length rows ≤ mission.script.frames
     → before < length rows → slice_get (rows_of mission.spec mission.script) before ≡ Some (slice_index_or rows before d)
 next_row mission rows before d are most low =
@@ -22,7 +22,7 @@ next_row mission rows before d are most low =
     get_listed (row_at mission.spec mission.script) mission.script.frames before (omega (arith, low, most))
     ∙ ap Some (sym (get_or_from_slice_get rows before (row_at mission.spec mission.script before) d here))
 
--- a turn ends at most one frame
+-- A turn adds at most one row, and the rows never exceed the frames of the flight.
 
 pub moved_on : (turn : Turn) (procs frames : ℕ) (before after : KSeat) → IsKernelMoved turn procs frames before after → frames_noted procs before ≤ frames_noted procs after
 moved_on NotYet procs frames before after moved = grind (arith, nat_tests)
@@ -41,7 +41,7 @@ within_flight procs frames kseat between =
     let last = between.last in
     grind (arith, nat_tests, within, most, last)
 
--- the rows of n frames are n in number
+-- The list of the rows of `n` frames has length `n`.
 pub rows_count : (mission : MissionParts) (rows : List Row) (n : ℕ) → rows ≡ rows_below mission.spec mission.script n → length rows ≡ n
 rows_count mission rows n are = ap length are ∙ length_listed (row_at mission.spec mission.script) n
 

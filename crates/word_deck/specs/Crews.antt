@@ -21,7 +21,7 @@ abbrev pub is_done : Flight → ℕ → Place → Bool
 is_done m p (At f n) = nat_eq f m.frames
 is_done m p (Halted h) = not (comes_back h (m.restart p))
 
--- The place of processor `p` after the frame that it waits for at a place.
+-- The place of processor `p` after the frame for which it waits at a place.
 abbrev pub place_flown : Flight → ℕ → Place → Place
 place_flown m p place = after_frame (frame_awaited m p place) (m.halt p (frame_awaited m p place))
 

@@ -34,19 +34,21 @@ numbers_in {X = X} {Y = Y} crews = map (λ (crew : Crew X Y). proc_of crew.seat)
 abbrev pub AreLanded : WordTable → List Seat → Type 0
 AreLanded words seats = (p : ℕ) (seat : Seat) → slice_get seats p ≡ Some seat → IsLanded words p seat
 
--- The numbers of the processors that fly in the caller's turns after processor `p` has boarded in this way.
+-- The numbers of the processors that fly in the caller's turns after processor `p` has boarded in this way, given the
+-- numbers before.
 abbrev pub numbers_boarded : Boarding → ℕ → List ℕ → List ℕ
 numbers_boarded (Threaded flying) p numbers = numbers
 numbers_boarded Own p numbers = numbers ++ p ∷ []
 numbers_boarded (Landed seat) p numbers = numbers
 
--- These are the numbers of the processors that fly in the caller's turns. If processor `p` flies there, it is the last.
+-- The numbers are those of the processors that fly in the caller's turns after processor `p` has boarded in this way.
+-- If `p` flies in the caller's turns, it is the last of them.
 pub record IsBoardedLast (boarding : Boarding) (p : ℕ) (numbers : List ℕ) : Type 0 where
   pub front : List ℕ
   pub same : numbers ≡ numbers_boarded boarding p front
 
--- The thread promises the landing of the processor that had this seat, or the landed seat is that processor's. Nothing
--- is required of a processor in the caller's turns.
+-- If the processor flies on a thread, the thread promises the landing of the processor that had this seat. If it has
+-- landed, the landed seat is that processor's. Nothing is required of a processor in the caller's turns.
 abbrev pub IsBoarded : WordTable → Seat → Boarding → Type 0
 IsBoarded words was (Threaded flying) = (flying.handle.promise.0.value ≡ words) × (flying.handle.promise.1.value ≡ was)
 IsBoarded words was Own = Unit {0}

@@ -37,9 +37,9 @@ pub record KernelCrewKeeps (mission : MissionParts) (kseat : KSeat) (kernel : Ke
   pub log : kernel ≡ kernel_after mission.spec mission.script (frames_noted (length mission.spec.procs) kseat)
   pub noted_are : AreNoted mission (kernel_frame kseat) (kernel_steps kseat) noted
 
--- The change of the kernel's seat by a turn. After `NotYet` the kernel is where it was and has counted another try.
--- After `Worked` it has noted more processors of its frame, or is at the start of the next frame. After `Finished` it
--- is in the same frame and has made no fewer steps than before.
+-- The change of the kernel's seat by a turn. After `NotYet`, the kernel is at the same place and has counted another
+-- try. After `Worked`, it has noted more processors of its frame, or is at the start of the next frame. After
+-- `Finished`, it is in the same frame and has made at least as many steps as before.
 abbrev pub IsKernelMoved : Turn → ℕ → ℕ → KSeat → KSeat → Type 0
 IsKernelMoved NotYet procs frames before after =
     (kernel_frame after ≡ kernel_frame before) × (kernel_steps after ≡ kernel_steps before) × (kernel_tries after ≡ suc (kernel_tries before))

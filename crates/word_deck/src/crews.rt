@@ -63,10 +63,10 @@ impl Crew {
         }
     }
 
-    /// Tries to fly the frame for which the processor waits, whole or up to its halt in it. A processor that has halted
-    /// restarts with its spare rack at the start of the frame of its restart. The call returns `NotYet` only if the
-    /// release that it loads does not show the frame. It returns `Finished` if and only if the processor has then flown
-    /// all frames or has halted for good. It does not block.
+    /// Tries to fly the frame for which the processor waits, whole or up to its halt in it. A processor that has
+    /// halted restarts with its spare rack at the start of the frame of its restart. Returns `NotYet` only if the
+    /// release that it loads does not show the frame. Returns `Finished` if and only if the processor has then flown
+    /// all frames or has halted for good. This method does not block.
     #[tactic(auto, using(crate::proofs::Places::waits, crate::proofs::Places::done_by, crate::proofs::Places::flown_after, crate::proofs::Places::finished_by, crate::proofs::Places::tried_by))]
     pub fn turn(&mut self, mission: &Mission, words: &WordTable) -> Turn
         requires mission { mission_in words.now ≡ mission.now }
@@ -151,7 +151,7 @@ impl Crew {
         self.end(mission, words);
     }
 
-    // Sets the image to the draft of the unit in the frame of its last snapshot. The unit is up.
+    // Sets the image to the draft of the unit in the frame of its last snapshot. The unit has to be up.
     #[tactic(auto, using(crate::proofs::Steps::drafted_by))]
     fn draft(&mut self, mission: &Mission)
         requires lives { is_halted (seat_place self.old.seat) ≡ false }

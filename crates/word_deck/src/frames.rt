@@ -11,8 +11,8 @@ use bank_words::encode;
 use scram_types::{Image, ProcId};
 use word_table::{Seat, WordTable};
 
-/// Looks at each processor, and sets the images to those as of the start of the seat's frame. The images past the last
-/// processor are unchanged.
+/// Looks at each processor, and sets the images to those as of the start of the seat's frame. The images after the
+/// last processor are unchanged.
 #[tactic(auto, using(crate::proofs::Steps::looks_on, crate::proofs::Noting::set_more))]
 pub(crate) fn look_at_all(words: &WordTable, procs: u8, seat: &mut Seat, images: &mut [Image; 8])
     requires seat { IsSeatOf words.now seat.old }

@@ -1,5 +1,5 @@
-//! The kernel as a type parameter of the functions that start threads. They cannot name a kernel's type with a
-//! lifetime, since nothing is known about the result of a closure that holds one.
+//! The kernel as a type parameter of the functions that start threads. These functions cannot name a kernel's type
+//! with a lifetime, since nothing is known about the result of a closure that holds such a type.
 
 ghost use Rattle.std.specs.Prelude.{◌≡◌};
 ghost use Rattle.word_table.specs.Tables.{mission_in};
@@ -23,7 +23,7 @@ pub(crate) trait KernelActor: Drop {
     ghost done: { WordTable → Self → Type 0 };
 
     // The ghost name of a reference that the kernel holds. It lets the lender of the reference know that the kernel
-    // still holds the same one.
+    // still holds that reference.
     ghost lent: { Self → ℕ };
 
     /// Makes a turn of the kernel, and returns its result.
@@ -35,7 +35,7 @@ pub(crate) trait KernelActor: Drop {
         ensures done { result ≡ Finished → done words.now self.new }
         ensures lent { lent self.new ≡ lent self.old };
 
-    /// Spins and then parks until the next note is possible. It may return earlier, without a cause.
+    /// Spins and then parks until the next note is possible. May return earlier, without a cause.
     fn rest<R: Wait>(&self, rt: &R, words: &WordTable);
 }
 

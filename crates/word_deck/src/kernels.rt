@@ -64,10 +64,10 @@ impl<'a> KernelCrew<'a> {
         self.kernel.rows()
     }
 
-    /// Tries to make the next steps of the kernel. It notes, in order, the processors that are done with its frame or
-    /// have halted. Once all are noted it ends the frame. If there is a next frame, it publishes and releases that
-    /// frame. The call returns `NotYet` only if the end word that it loads does not allow the next note. It returns
-    /// `Finished` if and only if the kernel has then made its last note, or no frame is flown. It does not block.
+    /// Tries to make the next steps of the kernel. Notes, in order, the processors that are done with its frame or
+    /// have halted. Once all are noted, ends the frame. If there is a next frame, publishes and releases that frame.
+    /// Returns `NotYet` only if the end word that it loads does not allow the next note. Returns `Finished` if and
+    /// only if the kernel has then made its last note, or no frame is flown. This method does not block.
     #[tactic(auto, using(crate::proofs::Noting::below, crate::proofs::Noting::all))]
     pub fn turn(&mut self, words: &WordTable) -> Turn
         requires mission { mission_in words.now ≡ self.old.mission.now }

@@ -1,6 +1,6 @@
 //! Processors that fly on threads of their own. A thread gives back only the seat, since a thread handle may not give
-//! back boxes. So the boxes of each processor are in a cell. The processor's thread takes them from the cell, or the
-//! caller does if no thread can be created.
+//! back boxes. Therefore the boxes of each processor are in a cell. The processor's thread takes them from the cell,
+//! or the caller does if no thread can be created.
 
 ghost use Rattle.std.specs.Prelude.{◌≡◌, IfErr, IfOk};
 ghost use Rattle.fail_stop.specs.Events.{At};
@@ -123,8 +123,8 @@ pub(crate) fn fly_crew<R: Wait>(
     unreachable!()
 }
 
-/// Starts a thread for a processor. If no thread can be created, it returns a landing that has not flown, and the boxes
-/// are in the cell.
+/// Starts a thread for a processor. If no thread can be created, returns a landing that has not flown, and leaves the
+/// boxes in the cell.
 pub(crate) fn start<'s, E, R: Wait + Threads + Sync>(
     scope: &Scope<'s, E>,
     rt: &'s R,
@@ -156,7 +156,7 @@ pub(crate) fn start<'s, E, R: Wait + Threads + Sync>(
     match spawned {
         Ok(handle) => Ok(handle),
         Err(refused) => {
-            // This call finds no pair, so it gives back the seat and flies nothing.
+            // The closure finds no pair in the cell. Therefore it gives back the seat and flies nothing.
             let pair = cell.take(rt);
             let landing = (refused.value)();
             cell.put(rt, pair);
@@ -165,7 +165,7 @@ pub(crate) fn start<'s, E, R: Wait + Threads + Sync>(
     }
 }
 
-// Flies a processor with the boxes from its cell. If the cell is empty, it gives back the seat unchanged.
+// Flies a processor with the boxes from its cell. If the cell is empty, gives back the seat unchanged.
 #[tactic(auto, using(crate::proofs::Units::few))]
 fn fly_seat<R: Wait>(
     rt: &R,
@@ -192,7 +192,7 @@ fn fly_seat<R: Wait>(
     }
 }
 
-/// Returns the processor of this seat, with the boxes from its cell. No proof says that the cell holds them. If it is
+/// Returns the processor of this seat, with the boxes from its cell. That the cell holds them is not proved. If it is
 /// empty, the processor flies with racks without boxes.
 #[tactic(auto, using(crate::proofs::Units::few))]
 pub(crate) fn crew_from<R: Wait>(rt: &R, words: &WordTable, cell: &RackCell, seat: Seat) -> Crew

@@ -1,7 +1,7 @@
 //! The results of turns.
 
-/// The result of a turn. The actor has made steps and has more to make, or nothing was ready, or the actor has no more
-/// steps.
+/// The result of a turn: the actor has made steps and has more to make (`Worked`), nothing was ready (`NotYet`), or
+/// the actor has no more steps (`Finished`).
 #[derive(Clone, Copy, Debug, PartialEq, Eq)]
 pub enum Turn {
     Worked,

@@ -55,7 +55,8 @@ pub struct Landed<'a> {
 }
 
 impl<'a> WordFlight<'a> {
-    /// Creates a flight of a mission. All memory of the flight is allocated here. The only error is out of memory.
+    /// Creates a flight of a mission. All memory of the flight is allocated here. The only error is that memory runs
+    /// out.
     #[tactic(auto, using(crate::proofs::Outcomes::at_table))]
     pub fn open(
         alloc: Global,
@@ -83,10 +84,10 @@ impl<'a> WordFlight<'a> {
         })
     }
 
-    /// Flies the mission with a thread for each processor and the kernel on the caller's thread. A processor for which
-    /// no thread can be created flies in the caller's turns. The result is the one-thread trace, for which SP1 to SP6
-    /// hold, and the words with all seats, whose actors have no more steps. It blocks until the threads have ended, and
-    /// has no error.
+    /// Flies the mission with a thread for each processor and the kernel on the caller's thread. A processor for
+    /// which no thread can be created flies in the caller's turns. Returns the one-thread trace, for which SP1 to SP6
+    /// hold, and the words with all seats, whose actors have no more steps. This method blocks until the threads have
+    /// ended, and has no error.
     pub fn run<R: Threads + Wait + Sync>(self, rt: &R) -> Landed<'a>
         ensures flown { IsTraceOf self.entry.mission.now result.flown }
         ensures mission { result.words.mission ≡ self.entry.mission }
@@ -99,7 +100,7 @@ impl<'a> WordFlight<'a> {
         self.run_on(rt, [true; 8])
     }
 
-    /// Flies as `run` does, but asks for a thread for processor `p` only if `asked[p]` is true.
+    /// Flies as `run` does, but asks for a thread for processor `p` only if `asked[p]` is `true`.
     pub fn run_on<R: Threads + Wait + Sync>(self, rt: &R, asked: [bool; 8]) -> Landed<'a>
         ensures flown { IsTraceOf self.entry.mission.now result.flown }
         ensures mission { result.words.mission ≡ self.entry.mission }
@@ -146,7 +147,7 @@ impl<'a> WordFlight<'a> {
             resources: &resources,
         };
         let (kernel, seats) = fly(rt, &shared, kernel, roster);
-        // The reference has a name, since the proof otherwise does not learn the value to which it refers.
+        // The name `_last` lets the proof learn the value to which the reference refers.
         let WatchedKernel {
             kernel,
             watch: _last,
@@ -154,7 +155,8 @@ impl<'a> WordFlight<'a> {
         land_all(mission, resources, kernel, seats)
     }
 
-    // Returns the values with which a flight starts. A thread is to be asked for processor `p` if `asked[p]` is true.
+    // Returns the values with which a flight starts. A thread is to be asked for processor `p` if `asked[p]` is
+    // `true`.
     fn prepare<R: Threads>(self, rt: &R, asked: [bool; 8]) -> (Resources, KernelCrew<'a>, Roster)
         ensures table { result.0.words.table ≡ self.entry.words.table }
         ensures mission { mission_in result.0.words ≡ self.entry.mission.now }

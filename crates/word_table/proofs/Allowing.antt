@@ -1,4 +1,4 @@
--- The steps of each kind that are allowed, and what they show.
+-- For each kind of step, the step keeps the rule and has the effect that its contract states.
 use Rattle.std.proofs.Common.{◌≡◌, ℕ, zero, suc, ◌+◌, ◌-◌, ◌*◌, ◌%◌, ◌<◌, ◌≤◌, Bool, true, false, refl, sym, ap, subst, ◌∙◌, arith, List, [], ◌∷◌}
 use Rattle.std.specs.Prelude.{Option, Some, None, IfSome, nat_eq, nat_lt, slice_index, slice_set}
 use Rattle.std.specs.Bool.{MatchBool}
@@ -27,12 +27,12 @@ module _ (mission : MissionParts) (slots id : ℕ) (me : Sat) (y : IsSound (miss
   abbrev m : Flight
   m = mission_flight mission
 
-  -- loads that are no events
+  -- A load that is no event keeps the rule.
   pub read_allows : (i : ℕ) → me.0.mission ≡ Some mission → Allows (Ruled m mission) slots id me i (λ n. n) (reads (step slots i 0 0 none) me)
   read_allows i planned = λ s r homes here small.
       (me.0, keeps, tt, loaded m mission s id me.0 y r here me.0 i refl refl, ((refl, empty), shown mission s id me.0 i r here planned))
 
-  -- a load that confirms the store of its actor
+  -- Lemmas on a load that confirms the store of its actor.
   module _ (a : Actor) (v : ℕ) (alone : me.0.actors ≡ a ∷ []) (planned : me.0.mission ≡ Some mission) (due : word_due m (a ∷ []) ≡ v) where
     confirm_told : (i : ℕ) (w : View) (n : ℕ) (b : Bool) → nat_eq n v ≡ b → MatchBool b (Has (w, me.1) (each_actor one_more me.0)) (Has (w, me.1) me.0) → confirms (step slots i 0 0 none) me n (w, me.1)
     confirm_told i w n b is told =
@@ -47,7 +47,7 @@ module _ (mission : MissionParts) (slots id : ℕ) (me : Sat) (y : IsSound (miss
         (each_actor one_more me.0, keeps, tt, made (grind (arith, nat_tests, b)), confirm_told i (each_actor one_more me.0) (slice_index s.words i) true b (refl, empty))
 
   module _ (p f n : ℕ) (l : p < m.procs) (alone : me.0.actors ≡ Runs p f (suc n) ∷ []) where
-    -- the load that is a look
+    -- A load that is the next look of the processor keeps the rule.
     pub look_allows : (q i : ℕ) → me.0.mission ≡ Some mission → plan m p f (suc n) ≡ Some (Look (proc_id p) (proc_id q)) → Allows (Ruled m mission) slots id me i (λ n. n) (looks (step slots i 0 0 none) me)
     look_allows q i planned next = λ s r homes here small.
         let there : r.at.proc p ≡ At f (suc n) = stands m mission s id me.0 y r here p (At f (suc n)) alone in
@@ -67,7 +67,8 @@ module _ (mission : MissionParts) (slots id : ℕ) (me : Sat) (y : IsSound (miss
       bank_stands : stored_in s.words (MarkWord p) % 2 ≡ side m p f
       bank_stands = side_of m p f (stored_in s.words (MarkWord p)) mark_stands
 
-    -- the store of a bank word
+    -- A store of a bank word keeps the rule if it is the next step of the processor. A load that may confirm the
+    -- store keeps the rule too.
     pub store_allows : (x i v : ℕ) → plan m p f (suc n) ≡ Some (Store (proc_id p) x) → suc n ≤ m.procs + 1 + m.width → i ≡ index_of (BankWord p (1 - side m p f) x) → v ≡ word_in (m.draft p f) x
         → Allows (Ruled m mission) slots id me i (λ z. v) (λ z. stores (step slots i v 0 none) me v)
     store_allows x i v next low place value = λ s r homes here small.
@@ -91,7 +92,7 @@ module _ (mission : MissionParts) (slots id : ℕ) (me : Sat) (y : IsSound (miss
         (ap (slice_set s.words i) found ∙ rw (bank_stands s r here (omega (arith, steps, low)), there, place, value) refl) one_more refl)
         (nat_eq (slice_index s.words i) v) refl
 
-    -- the store of the mark
+    -- The store of the mark keeps the rule if it is the next step of the processor.
     pub flip_allows : (i v : ℕ) → plan m p f (suc n) ≡ Some (Flip (proc_id p)) → suc n ≤ m.procs + 1 + m.width → i ≡ index_of (MarkWord p) → v ≡ 2 * suc f + (1 - side m p f)
         → Allows (Ruled m mission) slots id me i (λ z. v) (λ z. stores (step slots i v 0 none) me v)
     flip_allows i v next low place value = λ s r homes here small.
@@ -104,7 +105,7 @@ module _ (mission : MissionParts) (slots id : ℕ) (me : Sat) (y : IsSound (miss
           (refl, empty),
         )
 
-    -- the stores of the end word
+    -- A store of the end word keeps the rule, whether the processor ends its frame or halts in it.
     pub done_allows : (i v : ℕ) → plan m p f (suc n) ≡ Some (Done (proc_id p)) → i ≡ index_of (EndWord p) → v ≡ 2 * suc f
         → Allows (Ruled m mission) slots id me i (λ z. v) (λ z. finishes_frame (step slots i v 0 none) me v)
     done_allows i v next place value = λ s r homes here small.
@@ -129,7 +130,7 @@ module _ (mission : MissionParts) (slots id : ℕ) (me : Sat) (y : IsSound (miss
           (refl, empty),
         )
 
-  -- the load of the release is a start, from a halted place too, or a try
+  -- A load of the release by a processor that waits for a frame is a start or a try. The processor may be halted.
   module _ (p f : ℕ) (x : Place) (l : p < m.procs) (alone : me.0.actors ≡ actor_at p x ∷ []) (planned : me.0.mission ≡ Some mission)
       (next : (release : ℕ) → nat_lt f release ≡ true → next_from m p release x ≡ Some (Start (proc_id p))) (to : moved m (Start (proc_id p)) p x ≡ At f 1)
       (wait : awaited m (actor_at p x) ≡ f) (go : begun m (actor_at p x) ≡ Runs p f 1) (awaits : AwaitsRelease m 0 (actor_at p x ∷ [])) where
@@ -169,7 +170,7 @@ module _ (mission : MissionParts) (slots id : ℕ) (me : Sat) (y : IsSound (miss
   start_allows p (At f (suc n)) l alone planned waits = absurd (let none = waits.0 in omega (arith, none))
   start_allows p (Halted h) l alone planned waits = back_allows p h (m.restart p) l alone planned refl waits
 
-  -- the load of an end word is a note or a try
+  -- A load of an end word by the kernel is a note or a try.
   module _ (k p : ℕ) (l : p < m.procs) (flown : k < m.frames) (alone : me.0.actors ≡ Kernel k p ∷ []) (planned : me.0.mission ≡ Some mission) where
     note_told : (i : ℕ) → i ≡ index_of (EndWord p) → (w : View) (n : ℕ) (b : Bool) → may_note m p k n ≡ b → MatchBool b (Has (w, me.1) (each_actor one_more me.0)) (Has (w, me.1) (tried me.0))
         → IfSome me.0.mission (λ mission. TellsNote (mission_flight mission) i n me.0 (w, me.1))
@@ -195,7 +196,7 @@ module _ (mission : MissionParts) (slots id : ℕ) (me : Sat) (y : IsSound (miss
     pub note_allows : (i : ℕ) → i ≡ index_of (EndWord p) → Allows (Ruled m mission) slots id me i (λ n. n) (notes (step slots i 0 0 none) me)
     note_allows i place = λ s r homes here small. note_by i s r place here (may_note m p k (slice_index s.words i)) refl
 
-  -- the kernel's stores
+  -- The kernel's stores keep the rule.
   pub publish_allows : (k j x i v : ℕ) → x < 20 → suc k < m.frames → j ≡ m.procs + x → me.0.actors ≡ Kernel k j ∷ [] → i ≡ index_of (KernelWord x) → v ≡ word_in (m.kernel_image (suc k)) x
       → Allows (Ruled m mission) slots id me i (λ z. v) (λ z. stores (step slots i v 0 none) me v)
   publish_allows k j x i v low flown steps alone place value = λ s r homes here small.

@@ -1,4 +1,4 @@
--- The last words, as they are read one after another.
+-- Lemmas on the last words, which are read one processor after another.
 use Rattle.std.proofs.Common.{◌≡◌, ◌∙◌, ℕ, zero, suc, ℤ, pos, ◌+◌, ◌<◌, ◌≤◌, refl, sym, ap, arith, List, [], ◌∷◌, ◌++◌, length}
 use Rattle.std.specs.Prelude.{Some, replicate, slice_get, slice_index, slice_index_or, slice_set}
 use Rattle.std.proofs.lemmas.Grind.{get_or-set_at}
@@ -48,7 +48,7 @@ one_last list width p marks images mark image long longer low before last q most
         let at_image : slice_index_or (slice_set images p image) q [] ≡ slice_index_or images q [] = get_or-set_other images p q image [] d in
         rw (at_mark, at_image) (before q (omega (arith, most, d)))
 
--- the entries past the processors that have been read are unchanged
+-- If the marks and images from index `p` on are zero, those from index `p + 1` on stay zero when entry `p` is set.
 pub nobodys_left : (p : ℕ) (marks : List ℕ) (images : List (List ℤ)) (mark : ℕ) (image : List ℤ) → ((q : ℕ) → p ≤ q → q < 8 → AreZero (slice_index marks q) (slice_index_or images q []))
     → (q : ℕ) → p + 1 ≤ q → q < 8 → AreZero (slice_index (slice_set marks p mark) q) (slice_index_or (slice_set images p image) q [])
 nobodys_left p marks images mark image before q least most =
@@ -58,7 +58,7 @@ nobodys_left p marks images mark image before q least most =
       get_or-set_other images p q image [] other ∙ was.1,
     )
 
--- a seat that an iterator yields is one of its seats
+-- A seat that an iterator yields is one of its seats.
 at_front : (l rest : List Seat) (x : Seat) → slice_get (l ++ x ∷ rest) (length l) ≡ Some x
 at_front [] rest x = refl
 at_front (y ∷ l) rest x = at_front l rest x

@@ -41,7 +41,7 @@ opt_other None (Some b) n = refl
 opt_other (Some a) None n = refl
 opt_other (Some a) (Some b) n = let d : a ≢ b = λ e. n (ap (λ (x : ℕ). Some x) e) in grind (arith, nat_tests)
 
--- actor o moves to view n
+-- Lemmas on the homes after actor `o` has moved to view `n`.
 moved_home : (Option ℕ → ℕ) → Option ℕ → ℕ → Option ℕ → ℕ
 moved_home home o n q = if opt_eq q o then n else home q
 
@@ -79,7 +79,7 @@ differs_of q o [] apart none = absurd none
 differs_of q o (a ∷ rest) apart (inl is) = λ e. apart.0 (is ∙ e)
 differs_of q o (a ∷ rest) apart (inr more) = differs_of q o rest apart.1 more
 
--- a split gives up one actor
+-- A split, which moves the first actor of a view to a new view, keeps the rule.
 module _ (m : Flight) (mission : MissionParts) (id : ℕ) (v : View) (a : Actor) (rest : List Actor) (alone : v.actors ≡ a ∷ rest) (s : State (Unit {0}) View) (r : Ruled m mission s) (here : get_elem? s.views id ≡ some v) where
   hosted : Hosts r.at r.home id (a ∷ rest)
   hosted = rw alone at (r.each id v here)
@@ -167,7 +167,7 @@ pub split_allows : (m : Flight) (mission : MissionParts) (id : ℕ) (v : View) (
 split_allows m mission id v a rest alone =
     subst (λ (l : List Actor). Splits {S = Unit {0}} (Ruled m mission) id v (with_actors v (others_of l)) (with_actors v (first_of l))) (sym alone) (λ s r here. split_rule m mission id v a rest alone s r here)
 
--- a join takes the other's actors
+-- Lemmas on a join, in which view `id` takes the actors of another view.
 joined_home : (Option ℕ → ℕ) → ℕ → ℕ → Option ℕ → ℕ
 joined_home home id other q = if nat_eq (home q) other then id else home q
 
@@ -276,7 +276,7 @@ pub join_allows : (m : Flight) (mission : MissionParts) (id : ℕ) (v : View) (o
 join_allows m mission id v other w some_actor = λ s r here n there.
     join_rule m mission id v other w some_actor s r here n (was_there s.views id other (all_actors v w) w n (at_set s.views id other (all_actors v w) w there))
 
--- the opening
+-- Lemmas on the opening, in which the first view has all actors.
 not_below : (k p n : ℕ) → k < p → IsNotIn (Some k) (opening_actors p n)
 not_below k p zero low = ((λ e. cc), tt)
 not_below k p (suc n) low = ((λ e. let same : p ≡ k = cc in omega (arith, low, same)), not_below k (suc p) n (omega (arith, low)))

@@ -1,4 +1,4 @@
--- The seats that an opening deals.
+-- Lemmas on the seats that an opening deals.
 use Rattle.std.proofs.Common.{◌≡◌, ◌⊎◌, ◌∙◌, ℕ, zero, suc, ◌+◌, ◌-◌, ◌<◌, refl, sym, ap, inl, inr, arith, List, [], ◌∷◌, ◌++◌, length}
 use Rattle.std.specs.Prelude.{Some, slice_get}
 use Rattle.coverage_check.specs.Missions.{MissionParts}
@@ -14,7 +14,7 @@ use Rattle.word_table.specs.Plays.{Sat, first_actor, first_of, other_actors, oth
 use Rattle.word_table.specs.Rule.{first_view, opening_actors}
 use Rattle.word_table.specs.Tables.{IsSeatOf, mission_in, seat_place, proc_of}
 
--- The seats of the first processors, each at its opening place.
+-- The list holds the seats of the first processors, each at its opening place.
 pub record AreDealt (words : WordTable) (seats : List Seat) : Type 0 where
   pub each : (p : ℕ) (seat : Seat) → slice_get seats p ≡ Some seat → IsSeatOf words seat × (proc_of seat ≡ p) × (seat_place seat ≡ At 0 0)
 
@@ -43,7 +43,7 @@ pub long_one : (l : List Seat) (x : Seat) → length (l ++ x ∷ []) ≡ length 
 long_one [] x = refl
 long_one (y ∷ l) x = let more = long_one l x in omega (arith, more)
 
--- a seat that a split gives is the table's
+-- A seat that a split makes is a seat of the table.
 pub dealt_is : (words : WordTable) (seat : Seat) → IsFlown (mission_in words) → seat.inner.table_id ≡ words.table.shared.table_id → seat.inner.me.0.mission ≡ Some (mission_in words) → proc_of seat < length (mission_in words).spec.procs → seat_place seat ≡ At 0 0
     → IsSeatOf words seat
 dealt_is words seat holds table mission low place =
@@ -52,7 +52,8 @@ dealt_is words seat holds table mission low place =
 pub opening_first : (p n : ℕ) → p < n → opening_actors p (n - p) ≡ Runs p 0 0 ∷ opening_actors (suc p) (n - suc p)
 opening_first p n low = let more : n - p ≡ suc (n - suc p) = omega (arith, low) in ap (opening_actors p) more
 
--- the view that a split leaves, and the view of the new seat
+-- The view that a split leaves is the first view without its first actor. The view of the new seat has this actor
+-- only.
 abbrev alone_with : View → Sat
 alone_with v = (v, [])
 

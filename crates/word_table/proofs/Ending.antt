@@ -1,4 +1,4 @@
--- The last words are those of the places of the actors.
+-- The last words are those that the actors have committed at their places.
 use Rattle.std.proofs.Common.{◌≡◌, ℕ, zero, suc, ℤ, ◌+◌, ◌*◌, ◌%◌, ◌<◌, refl, sym, ap, subst, ◌∙◌, arith, List, [], ◌∷◌, map, length}
 use Rattle.std.specs.Prelude.{Option, Some, slice_get, slice_index}
 use Rattle.scram_types.specs.Specification.{IsSpec}

@@ -1,4 +1,4 @@
--- Images and words that are read one after another.
+-- Lemmas on images and words that are read one word after another.
 use Rattle.std.proofs.Common.{◌≡◌, ◌∙◌, ℕ, ℤ, pos, ◌+◌, ◌<◌, ◌≤◌, refl, sym, subst, arith, List, length}
 use Rattle.std.specs.Prelude.{slice_index, slice_index_or, slice_set}
 use Rattle.std.proofs.lemmas.Grind.{get_or-set_at}
@@ -10,7 +10,7 @@ use Rattle.word_table.specs.declared.actors.Actor.{Actor}
 use Rattle.word_table.specs.Plays.{IsFound}
 use Rattle.word_table.specs.Reading.{AreCleared, AreRead, IsWordRead}
 
--- The words of an image from `from` up to `n` were found from place `at` on.
+-- The words of an image from index `from` up to `n` were found from place `at` on.
 pub record AreReadBelow (m : Flight) (actors : List Actor) (at from n : ℕ) (image : List ℤ) : Type 0 where
   pub long : length image ≡ 64
   pub read : (i : ℕ) → from ≤ i → i < n → IsWordRead m actors (at + i) (slice_index_or image i (pos 0))
@@ -55,7 +55,8 @@ all_read m actors at from to image cleared each rest = record {
   by_length i over (yes d) = get_or_past cleared i (pos 0) (omega (arith, d, each.long, rest.long))
   by_length i over (no d) = rest.past i over (omega (arith, d))
 
--- the same for plain words
+-- If the first `to` kernel words were found at their places and the next one is read, the first `to + 1` words were
+-- found.
 pub more_found : (m : Flight) (actors : List Actor) (to : ℕ) (words : List ℕ) (w : ℕ) → length words ≡ 20 → ((i : ℕ) → i < to → IsFound m actors (8 + i) (slice_index words i)) → to < 20 → IsFound m actors (8 + to) w
     → (i : ℕ) → i < to + 1 → IsFound m actors (8 + i) (slice_index (slice_set words to w) i)
 more_found m actors to words w long before low found i most = by_place (ℕ_discrete i to)

@@ -24,7 +24,7 @@ use Rattle.word_table.specs.Actors.{StandsAt, actor_at, mission_flight, who, wit
 use Rattle.word_table.specs.Plays.{AllStand, IsFound, ShowsWord, each_actor}
 use Rattle.word_table.specs.Rule.{AreApart, Hosts, IsAmong, IsViewOf, Ruled}
 
--- The facts of a flight that the law requires.
+-- The facts about a flight that the law requires.
 pub record IsSound (m : Flight) : Type 0 where
   pub flies : Flies m
   pub few : m.procs ≤ 8
@@ -62,7 +62,7 @@ stand_at at p (Halted h) s = s
 proc_still : (m : Flight) (at : Places) (e : Event) (p q : ℕ) (x : Place) → ((r : ℕ) → is_actor e r ≡ nat_eq r p) → Some q ≢ Some p → at.proc q ≡ x → (places_after m at e).proc q ≡ x
 proc_still m at e p q x c n h = rw (c q, nat_eq_other q p (λ i. n (ap (λ (z : ℕ). Some z) i))) h
 
--- an actor of another view stays where it is
+-- An event of processor `p` leaves every other actor at its place.
 stands_still : (m : Flight) (at : Places) (e : Event) (p : ℕ) (a : Actor) → ((q : ℕ) → is_actor e q ≡ nat_eq q p) → frame_after at e ≡ at.frame → step_after at e ≡ at.step → who a ≢ Some p → StandsAt at a → StandsAt (places_after m at e) a
 stands_still m at e p (Runs q f n) c fr st d h = proc_still m at e p q (At f n) c d h
 stands_still m at e p (Stopped q g) c fr st d h = proc_still m at e p q (Halted g) c d h
@@ -89,7 +89,7 @@ view_same views i j v w same there here = some-injective v w (sym there ∙ ap (
 pub set_there : (views : List View) (id : ℕ) (v w : View) → get_elem? views id ≡ some v → get_elem? (slice_set views id w) id ≡ some w
 set_there views id v w here = set_here views id w (within views id v here)
 
--- an actor keeps its view when a view is replaced by one with the same actors
+-- If a view is replaced by one with the same actors, each actor keeps its view.
 pub view_after : (views : List View) (id : ℕ) (v w : View) → get_elem? views id ≡ some v → ((o : Option ℕ) → IsAmong o v.actors → IsAmong o w.actors) → (o : Option ℕ) (j : ℕ) → IsViewOf views o j → IsViewOf (slice_set views id w) o j
 view_after views id v w here stays o j is = by_place (ℕ_discrete j id)
   where
@@ -112,7 +112,7 @@ pub alone_moved : (v : View) (a : Actor) (go : Actor → Actor) → v.actors ≡
 alone_moved v a go alone = ap (λ (l : List Actor). with_actors v (map go l)) (sym alone)
 
 module _ (m : Flight) (mission : MissionParts) (s : State (Unit {0}) View) (id : ℕ) (v : View) (y : IsSound m) (r : Ruled m mission s) (here : get_elem? s.views id ≡ some v) where
-  -- an event of processor p, made by its seat
+  -- An event of processor `p` that its seat makes keeps the rule.
   module _ (p : ℕ) (x : Place) (alone : v.actors ≡ actor_at p x ∷ []) where
     hosted : Hosts r.at r.home id (actor_at p x ∷ [])
     hosted = rw alone at (r.each id v here)
@@ -155,7 +155,7 @@ module _ (m : Flight) (mission : MissionParts) (s : State (Unit {0}) View) (id :
       stepped_by go is =
           subst (λ (w : View). Ruled m mission (stepped s i n id [] w keeps)) (ap (with_actor v) (sym is) ∙ alone_moved v (actor_at p x) go alone) ruled_after
 
-  -- an event of the kernel, made by its seat
+  -- An event of the kernel that its seat makes keeps the rule.
   module _ (k j : ℕ) (alone : v.actors ≡ Kernel k j ∷ []) where
     kernel_hosted : Hosts r.at r.home id (Kernel k j ∷ [])
     kernel_hosted = rw alone at (r.each id v here)
@@ -200,7 +200,7 @@ module _ (m : Flight) (mission : MissionParts) (s : State (Unit {0}) View) (id :
       pub kernel_by : (go : Actor → Actor) → go (Kernel k j) ≡ Kernel k2 j2 → Ruled m mission (stepped s i n id [] (each_actor go v) keeps)
       kernel_by go is = subst (λ (w : View). Ruled m mission (stepped s i n id [] w keeps)) (ap (with_actor v) (sym is) ∙ alone_moved v (Kernel k j) go alone) kernel_ruled
 
-  -- a load that is no event
+  -- A load that is no event keeps the rule.
   module _ (w : View) (i : ℕ) (same : w.actors ≡ v.actors) (plan : w.mission ≡ v.mission) where
     load_each : (j : ℕ) (u : View) → ((j ≡ id) × (w ≡ u)) ⊎ ((j ≢ id) × (get_elem? s.views j ≡ some u)) → Hosts r.at r.home j u.actors
     load_each j u (inl a) = rw (← a.1, a.0, same) (r.each id v here)
@@ -226,7 +226,7 @@ pub all_stand : (at : Places) (home : Option ℕ → ℕ) (j : ℕ) (l : List Ac
 all_stand at home j [] h = tt
 all_stand at home j (a ∷ rest) h = (h.1, all_stand at home j rest h.2)
 
--- what a load shows
+-- A load finds a word that the view of its seat may find.
 pub shown : (mission : MissionParts) (s : State (Unit {0}) View) (id : ℕ) (v : View) (i : ℕ) → Ruled (mission_flight mission) mission s → get_elem? s.views id ≡ some v → v.mission ≡ Some mission → ShowsWord v i (slice_index s.words i)
 shown mission s id v i r here planned =
     subst (λ (o : Option MissionParts). IfSome o (λ mission. IsFound (mission_flight mission) v.actors i (slice_index s.words i))) (sym planned)

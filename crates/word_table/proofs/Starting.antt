@@ -1,4 +1,4 @@
--- The frame for which a processor waits is flown.
+-- The frame for which a processor waits is within the flight.
 use Rattle.std.proofs.Common.{◌≡◌, ℕ, ◌<◌, refl, arith}
 use Rattle.std.specs.Prelude.{Option, Some, None}
 use Rattle.scram_types.specs.Scripts.{ScriptParts}

@@ -1,4 +1,4 @@
--- The facts that follow if an event is the next step of a seat.
+-- The facts that follow from the next step of a seat being an event.
 use Rattle.std.proofs.Common.{◌≡◌, ◌∙◌, ℕ, zero, suc, ◌+◌, ◌<◌, ◌≤◌, Bool, true, false, refl, List, [], ◌∷◌}
 use Rattle.std.specs.Prelude.{Some}
 use Rattle.scram_types.specs.Lookups.{proc_id}
@@ -12,7 +12,7 @@ use Rattle.word_table.specs.declared.actors.Actor.TheVariants.{Runs}
 use Rattle.word_table.specs.Actors.{actor_at, place_at, step_at}
 use Rattle.word_table.specs.Reading.{IsReader}
 
--- The seat has begun its frame, and the event is in the frame's plan.
+-- The seat has begun its frame, and `e` is the next event of the frame's plan.
 pub record IsStep (m : Flight) (p f n : ℕ) (h : Bool) (e : Event) : Type 0 where
   pub runs : h ≡ false
   pub before : ℕ

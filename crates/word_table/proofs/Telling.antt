@@ -1,4 +1,4 @@
--- The effects of a step on a seat with a known mission and known actors.
+-- The effects of a step on a seat whose mission and actors are known.
 use Rattle.std.proofs.Common.{◌≡◌, ◌∙◌, ℕ, suc, ◌<◌, Bool, true, false, refl, ap, subst, arith, List, [], ◌∷◌, map}
 use Rattle.std.specs.Prelude.{Option, Some, IfSome, nat_eq, nat_lt}
 use Rattle.std.proofs.lemmas.Bool.Decides.{nat_tests}
@@ -25,7 +25,7 @@ shown_to mission v actors i n planned alone shows =
     subst (λ (l : List Actor). IsFound (mission_flight mission) l i n) alone
     (subst (λ (o : Option MissionParts). IfSome o (λ mission. IsFound (mission_flight mission) v.actors i n)) planned shows)
 
--- A load confirms a store exactly if it finds the word to be stored.
+-- A load confirms a store if and only if it finds the word to be stored.
 module _ (mission : MissionParts) (v : View) (after : Sat) (n word : ℕ) (a : Actor) (planned : v.mission ≡ Some mission) (alone : v.actors ≡ a ∷ []) (due : word_due (mission_flight mission) (a ∷ []) ≡ word)
     (told : IfSome v.mission (λ mission. StepsIf (nat_eq n (word_due (mission_flight mission) v.actors)) v after)) where
   confirm_told : (b : Bool) → nat_eq n word ≡ b → StepsIf b v after

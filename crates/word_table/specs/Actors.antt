@@ -13,13 +13,13 @@ use Rattle.word_table.specs.declared.actors.View.{View}
 abbrev pub mission_flight : MissionParts → Flight
 mission_flight mission = flight_of mission.spec mission.script
 
--- The number of an actor's processor, or none if the actor is the kernel.
+-- The number of an actor's processor, or `None` if the actor is the kernel.
 abbrev pub who : Actor → Option ℕ
 who (Runs p f n) = Some p
 who (Stopped p h) = Some p
 who (Kernel k j) = None
 
--- The actor is where `at` says that it is.
+-- The actor is at the place that `at` has for it.
 abbrev pub StandsAt : Places → Actor → Type 0
 StandsAt at (Runs p f n) = at.proc p ≡ At f n
 StandsAt at (Stopped p h) = at.proc p ≡ Halted h
@@ -35,7 +35,7 @@ abbrev pub place_at : ℕ → ℕ → Bool → Place
 place_at frame step true = Halted frame
 place_at frame step false = At frame step
 
--- The next step of processor `p` at a place, or none if the processor is at the start of a frame or has halted.
+-- The next step of processor `p` at a place, or `None` if the processor is at the start of a frame or has halted.
 abbrev pub step_at : Flight → ℕ → Place → Option Event
 step_at m p (At f zero) = None
 step_at m p (At f (suc n)) = plan m p f (suc n)

@@ -23,7 +23,7 @@ Stepped = Step (Unit {0})
 abbrev pub Has : Sat → View → Type 0
 Has me v = (me.0 ≡ v) × (me.1 ≡ [])
 
--- Each of these actors is where `at` says that it is.
+-- Each of these actors is at the place that `at` has for it.
 abbrev pub AllStand : Places → List Actor → Type 0
 AllStand at [] = Unit {0}
 AllStand at (a ∷ rest) = StandsAt at a × AllStand at rest
@@ -70,11 +70,12 @@ can_note m (Runs p f n ∷ rest) end = false
 can_note m (Stopped p h ∷ rest) end = false
 can_note m (Kernel k j ∷ rest) end = may_note m j k end
 
--- If `ready` is true, the actors move by `go`. Otherwise the view counts another try.
+-- If `ready` is `true`, the actors move by `go`. Otherwise the view counts another try.
 abbrev pub GoesOrTries : Bool → (Actor → Actor) → View → Sat → Type 0
 GoesOrTries ready go v after = MatchBool ready (Has after (each_actor go v)) (Has after (tried v))
 
--- If the actor waits for the word, it moves by `go` or the view counts another try. Otherwise the seat stays as it is.
+-- If the first actor waits for the word, the actors move by `go` or the view counts another try. Otherwise the seat
+-- stays as it is.
 abbrev pub GoesWhereItWaits : Type 0 → Bool → (Actor → Actor) → View → Sat → Type 0
 GoesWhereItWaits waits ready go v after = (waits → GoesOrTries ready go v after) × (¬ waits → Has after v)
 
@@ -109,8 +110,8 @@ looks s me n after = Has after (each_actor one_more me.0) × ShowsWord me.0 s.wo
 abbrev pub starts : Stepped → Sat → ℕ → Sat → Type 0
 starts s me n after = IfSome me.0.mission (λ mission. TellsStart (mission_flight mission) s.word n me.0 after)
 
--- A load of the end word for which the kernel waits is a note or a try. Any other load leaves the seat as it is. The
--- load finds the word that it shows.
+-- A load of the end word for which the kernel waits is a note or a try. Any other load leaves the seat as it is. In
+-- each case, the word found is one that the seat may find.
 abbrev pub notes : Stepped → Sat → ℕ → Sat → Type 0
 notes s me n after = IfSome me.0.mission (λ mission. TellsNote (mission_flight mission) s.word n me.0 after) × ShowsWord me.0 s.word n
 
@@ -130,7 +131,7 @@ finishes_frame s me n after = Has after (each_actor next_frame me.0)
 abbrev pub halts : Stepped → Sat → ℕ → Sat → Type 0
 halts s me n after = Has after (each_actor halted_actor me.0)
 
--- The list that holds only the first actor of a list, or the empty list if there is none.
+-- The list that holds only the first actor of a list, or the empty list if the list is empty.
 abbrev pub first_of : List Actor → List Actor
 first_of [] = []
 first_of (a ∷ rest) = a ∷ []

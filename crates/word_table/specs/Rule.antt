@@ -13,7 +13,7 @@ use Rattle.word_table.specs.declared.actors.Actor.TheVariants.{Runs, Kernel}
 use Rattle.word_table.specs.declared.actors.View.{View}
 use Rattle.word_table.specs.Actors.{StandsAt, mission_flight, who}
 
--- The home of each of these actors is view `j`, and each actor is where `at` says that it is.
+-- The home of each of these actors is view `j`, and each actor is at the place that `at` has for it.
 abbrev pub Hosts : Places → (Option ℕ → ℕ) → ℕ → List Actor → Type 0
 Hosts at home j [] = Unit {0}
 Hosts at home j (a ∷ rest) = (home (who a) ≡ j) × StandsAt at a × Hosts at home j rest
@@ -33,7 +33,7 @@ abbrev pub IsAmong : Option ℕ → List Actor → Type 0
 IsAmong o [] = ⊥
 IsAmong o (a ∷ rest) = (who a ≡ o) ⊎ IsAmong o rest
 
--- An actor belongs to a flight. It is one of the flight's processors, or the kernel.
+-- An actor belongs to a flight: it is the kernel or one of the flight's processors.
 abbrev pub IsActorOf : Flight → Option ℕ → Type 0
 IsActorOf m (Some p) = p < m.procs
 IsActorOf m None = Unit {0}

@@ -87,7 +87,7 @@ actor_of seat = actor_at (proc_of seat) (seat_place seat)
 abbrev pub awaited_by : WordTable → Seat → ℕ
 awaited_by words seat = frame_awaited (flight_in words) (proc_of seat) (seat_place seat)
 
--- The next step of a seat's processor in its frame, or none if it has not started the frame or has halted.
+-- The next step of a seat's processor in its frame, or `None` if it has not started the frame or has halted.
 abbrev pub next_step : WordTable → Seat → Option Event
 next_step words seat = step_at (flight_in words) (proc_of seat) (seat_place seat)
 

@@ -17,8 +17,8 @@ use fail_stop::words::{bank_index, mark_index};
 use scram_types::{Image, ProcId};
 use std::alloc::Global;
 
-/// The last stored marks of the processors, and the images that the marks name. The entries past the last processor are
-/// zero.
+/// The last stored marks of the processors, and the images that the marks name. The entries after the last processor
+/// are zero.
 #[derive(Clone, Copy, Debug)]
 pub struct LastWords {
     pub images: [Image; 8],
@@ -27,7 +27,8 @@ pub struct LastWords {
 
 impl WordTable {
     /// Closes the table and takes back all its seats. The marks and the images are those of the frames that each
-    /// processor has committed at its place. The entries past the last processor are zero. It does not block.
+    /// processor has committed at its place. The entries after the last processor are zero. This method does not
+    /// block.
     pub fn close(self, kseat: KSeat, seats: Vec<Seat>) -> LastWords
         requires kernel { IsKernelSeatOf self kseat }
         requires seats { AreSeatsOf self seats.items }

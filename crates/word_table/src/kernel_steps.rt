@@ -20,10 +20,10 @@ pub struct Marked {
 }
 
 impl WordTable {
-    /// Tries to note that processor `p` is done with the kernel's frame or has halted. It returns what the processor
-    /// has committed by the end of that frame, and sets `image` to the image that the mark names. It returns `None`
-    /// only if the end word that this call loads does not allow the note, and then `image` is unchanged. It does not
-    /// block.
+    /// Tries to note that processor `p` is done with the kernel's frame or has halted. Returns what the processor has
+    /// committed by the end of that frame, and sets `image` to the image that the mark names. Returns `None` only if
+    /// the end word that this call loads does not allow the note. In that case `image` is unchanged. This method does
+    /// not block.
     pub fn gone(&self, kseat: &mut KSeat, p: ProcId, image: &mut Image) -> Option<Marked>
         requires seat { IsKernelSeatOf self.now kseat.old }
         requires frame { kernel_frame kseat.old < (mission_in self.now).script.frames }
@@ -75,7 +75,7 @@ impl WordTable {
         ensures tries { kernel_tries kseat.new ≡ kernel_tries kseat.old }
     {
         let at = kernel_index(i as usize);
-        // If the word has that value already, a load makes the step, as in `store`.
+        // If the word already has that value, a load makes the step, as in `store`.
         if self.table.shared.load::<Confirms>(&mut kseat.inner, at) != word {
             self.table
                 .shared

@@ -27,7 +27,7 @@ use std::alloc::Global;
 
 impl WordTable {
     /// Creates the table of a mission before its first frame. Returns the table, the kernel's seat, and the seats of
-    /// the processors in order. Each actor is at its opening place. The only error is out of memory.
+    /// the processors in order. Each actor is at its opening place. The only error is that memory runs out.
     pub fn open(alloc: Global, mission: &Mission) -> Result<(WordTable, KSeat, Vec<Seat>), NoMemory>
         ensures mission { IfOk result (λ t. mission_in t.0 ≡ mission.now) }
         ensures kernel { IfOk result (λ t. IsKernelSeatOf t.0 t.1) }

@@ -31,8 +31,8 @@ impl<'a> Words<'a> {
     ghost use Rattle.word_table.specs.Tables.{AreImagesOf, AreMarksOf, AreOpening, AreSeatsOf, IsAwaitedImage, IsKernelSeatOf, IsSeatOf, committed_image, committed_mark, drafted_words, flight_in, has_halted_by, kernel_frame, kernel_steps, kernel_tries, kernel_words_of, mission_in, next_step, proc_of, seat_place, started_place, tries_of};
     ghost use Rattle.word_table.specs.declared.seats.Seat as seat_types;
 
-    /// Creates the words of a mission before its first frame. Returns them with the kernel's seat and the seats of the
-    /// processors in order. Each actor is at its opening place. The only error is out of memory.
+    /// Creates the words of a mission before its first frame. Returns them with the kernel's seat and the seats of
+    /// the processors in order. Each actor is at its opening place. The only error is that memory runs out.
     pub fn open(
         alloc: Global,
         mission: &'a Mission,
@@ -134,10 +134,10 @@ impl<'a> Words<'a> {
         self.table.halt(seat);
     }
 
-    /// Tries to note that processor `p` is done with the kernel's frame or has halted. It returns what the processor
-    /// has committed by the end of that frame, and sets `image` to the image that the mark names. It returns `None`
-    /// only if the end word that this call loads does not allow the note, and then `image` is unchanged. It does not
-    /// block.
+    /// Tries to note that processor `p` is done with the kernel's frame or has halted. Returns what the processor has
+    /// committed by the end of that frame, and sets `image` to the image that the mark names. Returns `None` only if
+    /// the end word that this call loads does not allow the note. In that case `image` is unchanged. This method does
+    /// not block.
     pub fn gone(&self, kseat: &mut KSeat, p: ProcId, image: &mut Image) -> Option<Marked>
         requires seat { IsKernelSeatOf self.now.table kseat.old }
         requires frame { kernel_frame kseat.old < (mission_in self.now.table).script.frames }
@@ -182,21 +182,22 @@ impl<'a> Words<'a> {
         self.table.release(kseat);
     }
 
-    /// Spins and then parks until the release shows the frame for which the seat waits. It may return earlier, without
-    /// a cause.
+    /// Spins and then parks until the release shows the frame for which the seat waits. May return earlier, without a
+    /// cause.
     pub fn rest<R: Wait>(&self, rt: &R, seat: &Seat)
         requires { IsSeatOf self.now.table seat.now }
     {
         self.table.rest(rt, seat);
     }
 
-    /// Spins and then parks until the kernel may note its next processor. It may return earlier, without a cause.
+    /// Spins and then parks until the kernel may note its next processor. May return earlier, without a cause.
     pub fn rest_kernel<R: Wait>(&self, rt: &R, kseat: &KSeat) {
         self.table.rest_kernel(rt, kseat);
     }
 
     /// Closes the table and takes back all its seats. The marks and the images are those of the frames that each
-    /// processor has committed at its place. The entries past the last processor are zero. It does not block.
+    /// processor has committed at its place. The entries after the last processor are zero. This method does not
+    /// block.
     pub fn close(self, kseat: KSeat, seats: Vec<Seat>) -> LastWords
         requires kernel { IsKernelSeatOf self.table kseat }
         requires seats { AreSeatsOf self.table seats.items }

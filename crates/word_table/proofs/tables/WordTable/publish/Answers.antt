@@ -15,7 +15,8 @@ use Rattle.word_table.proofs.Telling.{confirmed, third, unconfirmed}
 use Rattle.word_table.proofs.tables.WordTable.publish.Goals as goal
 use Rattle.word_table.proofs.tables.WordTable.publish.Goals.{then-load-word, else-load-word}
 
--- The next step of the kernel's seat is the store of word i of the next frame's image, and a load of that word has been made.
+-- The next step of the kernel's seat is the store of word `i` of the next frame's image, and a load of that word
+-- found `n`.
 module _ (words : WordTable) (kseat : KSeat) (i word n : ℕ) (after : Sat) (fits : IsKernelSeatOf words kseat) (next : kseat.step ≡ length (mission_in words).spec.procs + i)
     (said : word ≡ word_in (kernel_words_of words (kseat.frame + 1)) i) (told : IfSome kseat.inner.me.0.mission (λ mission. StepsIf (nat_eq n (word_due (mission_flight mission) kseat.inner.me.0.actors)) kseat.inner.me.0 after)) where
   value : word ≡ word_in ((flight_in words).kernel_image (suc kseat.frame)) i
@@ -34,7 +35,7 @@ module _ (words : WordTable) (kseat : KSeat) (i word n : ℕ) (after : Sat) (fit
   made : n ≡ word → Has after (each_actor one_more kseat.inner.me.0)
   made same = confirmed (mission_in words) kseat.inner.me.0 after n word (Kernel kseat.frame kseat.step) fits.mission kseat.alone due told same
 
--- The kernel one step on.
+-- If the kernel is the only actor and makes one more step, its place is one step later.
 moved : (v u : View) (k j : ℕ) → u ≡ each_actor one_more v → v.actors ≡ Kernel k j ∷ [] → u.actors ≡ Kernel k (j + 1) ∷ []
 moved v u k j go is =
     let more : suc j ≡ j + 1 = omega arith in
