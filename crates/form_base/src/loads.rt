@@ -36,7 +36,8 @@ pub trait Document<T> {
         ensures other { (told result).0 ≢ UNREAD_FILE };
 }
 
-/// Reads the file of this name and returns the value that it encodes, or the refusal that says why there is none.
+/// Reads the file of this name and returns the value that it encodes, or the refusal with the reason why there is
+/// none.
 pub fn load<T, D: Document<T>, F: Files>(
     alloc: Global,
     document: &D,
