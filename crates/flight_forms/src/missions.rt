@@ -26,7 +26,7 @@ pub struct MissionFiles<'a> {
     pub script: &'a str,
 }
 
-/// Reads the specification and the script, and returns their mission, or the refusal if they make none.
+/// Reads the specification and the script, and returns their mission, or the refusal if they do not form a mission.
 pub fn read_mission<F: Files>(
     alloc: Global,
     named: MissionFiles<'_>,
