@@ -27,7 +27,7 @@ pub trait Shown<T> {
 ///
 /// # Errors
 ///
-/// Out of memory.
+/// Returns an error if memory runs out.
 pub fn add_listed<T, S: Shown<T>>(lines: &mut Lines, items: &[T]) -> Result<(), NoMemory>
     ensures { OnOk result (lines.new ≡ lines.old ++ listed (map S.shown items.now)) }
 {
