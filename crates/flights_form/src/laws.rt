@@ -10,7 +10,7 @@ pub fn lines_are_runs()
     ensures { LinesAreRuns }
 {}
 
-/// States that each answer of `flights` with status 0 is assured.
+/// States that each answer of `flights` with status 0 gives the assurance.
 pub fn series_are_assured()
     ensures { SeriesAreAssured }
 {

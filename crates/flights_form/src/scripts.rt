@@ -54,7 +54,8 @@ pub fn next_line(bytes: &[u8]) -> Option<(&[u8], &[u8])>
     }
 }
 
-// Returns the last line of a file, which no line feed ends, with an empty rest, or `None` if there are no bytes.
+// Returns the last line of a file, which does not end with a line feed, and no further bytes, or `None` if there are
+// no bytes.
 fn last_line(bytes: &[u8]) -> Option<(&[u8], &[u8])>
     requires { pieces_of 10 bytes.now ≡ bytes.now ∷ [] }
     ensures lines { MatchOption result (lines_of bytes.now ≡ []) (λ parts. lines_of bytes.now ≡ parts.0.now ∷ lines_of parts.1.now) }
