@@ -1,4 +1,4 @@
--- An answer with status 0 gives the assurance.
+-- Lemmas on the assurance that an answer with status 0 gives.
 use Rattle.std.proofs.Common.{◌≡◌, ℕ, suc, List, [], ◌∷◌, refl, sym, ap, inl, inr, arith}
 use Rattle.std.specs.Prelude.{◌≢◌, ◌⊎◌}
 use Rattle.scram_types.specs.Specification.{IsSpec, Parts}

@@ -89,7 +89,7 @@ told_ends A files old new code below tells = record {
   shown = tells.taken;
 }
 
--- Lemmas on an answer for which one file is read before the others.
+-- Lemmas on an answer that reads one file before the others.
 
 rose_since : (before between now : ℕ) → before ≤ between → Rose between now → Rose before now
 rose_since before between now count rose = omega (arith, count, rose)
