@@ -72,7 +72,8 @@ value_past factors x past (want ∷ wants) each = by_bool (want.factor.0 == x)
     absurd (omega (arith, inside, same)))
     (λ other. rw (other) (value_past factors x past wants (each_rest (IsWant factors) want wants each)))
 
--- If an environment has each value that a demand requires, no two requirements for one factor have different values.
+-- If some environment has each value that a demand requires, all requirements for one factor have the value of the
+-- first of them.
 value_same : (v : Env) (wants : List Want) (i : ℕ) (want : Want) → list_all (has_wanted v) wants ≡ true → slice_get wants i ≡ Some want
     → wanted_value wants want.factor.0 ≡ want.value
 value_same v [] i want all there = absurd (cc)
