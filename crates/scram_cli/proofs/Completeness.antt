@@ -1,4 +1,5 @@
--- If nothing fails and a mission is read, its flight is answered, or the allocator was out of memory.
+-- If nothing fails and the files hold a mission, the answer is the flight of the mission, or the allocator was out of
+-- memory.
 use Rattle.std.proofs.Common.{◌≡◌, ℕ, ◌<◌, ◌≤◌, List, [], ◌∷◌, length, refl, sym, ◌∙◌, ap, inl, inr, ◌⊎◌, arith}
 use Rattle.std.proofs.lemmas.Bool.Decides.{nat_tests}
 use Rattle.std.specs.Prelude.{Bool, true, false, Option, Some, None, IfSome, IsTrue, Result, Ok, Err, cond, nat_le}
@@ -27,7 +28,7 @@ use Rattle.flight_forms.specs.Missions.{UnlessRefused, mission_refusal, refusal_
 use Rattle.flight_forms.specs.Texts.{flight_text}
 use Rattle.scram_cli.specs.Laws.{EndsAnswered, HasRoomFor, HoldsMission, MissionsAreAnswered}
 
--- If a value is read from bytes, the bytes are not more than the limit.
+-- If a value is read from bytes, there are at most as many bytes as the limit allows.
 short_by : {A E : Type 0} (few : Bool) (read : Result A E) (fault : E) (value : A) → cond few read (Err fault) ≡ Ok value → few ≡ true
 short_by true read fault value is = refl
 short_by false read fault value is = absurd (let e = is in cc)
@@ -99,7 +100,7 @@ said_script spec script Then bytes before after reads status text reading (inl i
     rw same at is.2
 said_script spec script Then bytes before after reads status text reading (inr is) = absurd (let read = is.1.is in cc)
 
--- If neither the specification nor the script is refused, the answer is the flight.
+-- If neither the specification nor the script is refused, the answer is the flight of their mission.
 
 script_none : (outside : Option Outside) (A : ℕ → List ℕ → Type 0) (status : ℕ) (text : List ℕ) → outside ≡ None → UnlessRefused (script_refusal outside) A status text → A status text
 script_none (Some outside) A status text is gives = absurd (let e = is in cc)
