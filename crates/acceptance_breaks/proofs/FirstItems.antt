@@ -1,7 +1,7 @@
--- The first items of a list.
+-- Lemmas on the first items of a list.
 use Rattle.std.proofs.Common.{ℕ, zero, suc, ◌≡◌, List, [], ◌∷◌, ap, arith, length, min, refl, take}
 
--- the first n items of a list are the first ones up to the smaller of n and its length
+-- The first `n` items of a list remain the same if `n` is limited to the length of the list.
 pub take_few : {A : Type 0} (xs : List A) (n : ℕ) → take (min (length xs) n) xs ≡ take n xs
 take_few [] zero = refl
 take_few [] (suc n) = let none : min 0 (suc n) ≡ 0 = grind arith in rw none refl

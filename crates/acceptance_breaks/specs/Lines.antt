@@ -64,7 +64,7 @@ load_line spec c p =
 abbrev pub chooses_text : Parts → ℕ → ConfId → List ℕ
 chooses_text spec k to = codes " rule " ++ decimal k ++ codes " chooses " ++ conf_name spec to.0
 
--- The number of rule `k` and its target, in words. If there is no such rule, the text says that no rule fits.
+-- The number of rule `k` and its target, in words. If there is no such rule, the words are that no rule fits.
 abbrev pub fitting_text : Parts → ℕ → List ℕ
 fitting_text spec k =
     option_map_or (λ (rule : Choice). chooses_text spec k rule.to) (slice_get spec.rules k) (codes " no rule fits")

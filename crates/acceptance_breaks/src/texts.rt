@@ -32,7 +32,7 @@ pub const MAX_BREAK_LINES: usize = 64;
 ///
 /// # Errors
 ///
-/// Out of memory.
+/// Returns an error if memory runs out.
 pub fn make_breaks(alloc: Global, spec: &Spec, condition: u8) -> Result<Vec<u8>, NoMemory>
     ensures { IfOk result (λ text. text.items ≡ breaks_text spec.now condition) }
 {

@@ -1,4 +1,4 @@
--- An answer with status 0 has what is assured.
+-- Each answer of `choices` or `choose` with status 0 gives the assurance of its form.
 use Rattle.std.proofs.Common.{◌≡◌, ℕ, List}
 use Rattle.std.specs.Prelude.{Option, Some, None}
 use Rattle.scram_types.specs.Specification.{Parts}

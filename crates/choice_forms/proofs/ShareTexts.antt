@@ -1,4 +1,4 @@
--- The text of a share.
+-- Lemmas on the text of a share.
 use Rattle.std.proofs.Common.{◌≡◌, ◌∙◌, ℕ, ap, sym, List, []}
 use Rattle.std.specs.Prelude.{Option, Some, None}
 use Rattle.std.specs.Option.{option_map_or}

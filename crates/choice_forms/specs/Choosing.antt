@@ -32,16 +32,16 @@ with_value v x value = record { up = v.up; factors = set v.factors x value }
 abbrev pub others_up : ℕ → ℕ → ℕ
 others_up up p = if has_bit up p then up - 2 ^ p else up
 
--- The environment `v` with this value for the factor, or none if the specification has no such factor or value.
+-- The environment `v` with this value for the factor, or `None` if the specification has no such factor or value.
 abbrev pub valued : Parts → Env → List ℕ → List ℕ → Option Env
 valued spec v factor value =
     option_and_then (λ (x : FactorId). option_map (λ (n : ℕ). with_value v x.0 n) (find_value spec x value)) (factor_named spec factor)
 
--- The environment `v` with the processor down, or none if the specification has no such processor.
+-- The environment `v` with the processor down, or `None` if the specification has no such processor.
 abbrev pub taken_down : Parts → Env → List ℕ → Option Env
 taken_down spec v proc = option_map (λ (p : ProcId). record { up = others_up v.up p.0; factors = v.factors }) (proc_named spec proc)
 
--- The environment `v` changed by a word of a state, or none if the word names nothing of the specification.
+-- The environment `v` changed by a word of a state, or `None` if the word names nothing of the specification.
 abbrev pub env_after : Parts → Env → StateWord → Option Env
 env_after spec v (Value factor value) = valued spec v factor value
 env_after spec v (Down proc) = taken_down spec v proc
@@ -93,8 +93,8 @@ chosen_line spec c v = choice_piece spec c v (first_rule spec.rules c v) ++ need
 abbrev pub no_name_line : List ℕ → List ℕ
 no_name_line word = codes "refused: no such name " ++ word ++ codes "\n"
 
--- The status and the line say that the word names nothing of the specification, or that there was no memory for that
--- line.
+-- The status and the line report that the word names nothing of the specification, or that there was no memory for
+-- that line.
 abbrev pub IsUnknown : List ℕ → ℕ × List ℕ → Type 0
 IsUnknown word refusal = (refusal ≡ (UNKNOWN_NAME, no_name_line word)) ⊎ (refusal ≡ (OUT_OF_MEMORY, memory_line))
 

@@ -10,7 +10,7 @@ use Rattle.choice_forms.specs.declared.states.TheConstants.{MAX_STATE_WORDS}
 abbrev pub is_equals : ℕ → Bool
 is_equals byte = byte == 61
 
--- The word that gives a factor a value, or none if the text is not two names with `=` between them.
+-- The word that gives a factor a value, or `None` if the text is not two names with `=` between them.
 abbrev pub value_word : List ℕ → Option StateWord
 value_word word =
     if nat_lt (position_or_len is_equals word) (length word)
@@ -18,17 +18,17 @@ value_word word =
     (name_of (before_first is_equals word))
     else None
 
--- The word of a state that a text spells, or none if it spells none.
+-- The word of a state that a text spells, or `None` if it spells no word.
 abbrev pub state_word : List ℕ → Option StateWord
 state_word [] = value_word []
 state_word (byte ∷ rest) = if byte == 45 then option_map (λ (proc : List ℕ). Down proc) (name_of rest) else value_word (byte ∷ rest)
 
--- The words of a state that the texts spell, or none if some text spells no word.
+-- The words of a state that the texts spell, or `None` if some text spells no word.
 abbrev pub state_words : List (List ℕ) → Option (List StateWord)
 state_words [] = Some []
 state_words (word ∷ words) = option_and_then (λ (first : StateWord). option_map (λ (rest : List StateWord). first ∷ rest) (state_words words)) (state_word word)
 
--- The state that texts spell, or none if there are too many of them or some text spells no word.
+-- The state that texts spell, or `None` if there are too many of them or some text spells no word.
 abbrev pub state_in : List (List ℕ) → Option (List StateWord)
 state_in words = if nat_le (length words) MAX_STATE_WORDS then state_words words else None
 

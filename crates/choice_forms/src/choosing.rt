@@ -120,7 +120,8 @@ fn make_chosen(spec: &Spec, c: ConfId, env: &Env) -> Chosen
     }
 }
 
-// Returns the opening environment of a flight changed by the words of a state, or the first word that names nothing.
+// Returns the opening environment of a flight after each word of a state has changed it. The error is the first word
+// that names nothing of the specification.
 fn env_after_all<'a>(spec: &Spec, state: &'a [StateWord]) -> Result<Env, &'a StateWord>
     ensures env { IfOk result (λ v. env_after_all spec.now (opening_env spec.now) state.now ≡ Ok v) }
     ensures belongs { IfOk result (λ v. IsEnv spec.now v) }

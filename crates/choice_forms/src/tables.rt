@@ -87,7 +87,7 @@ fn find_table(alloc: Global, spec: Spec) -> Result<Table, Refusal>
 ///
 /// # Errors
 ///
-/// Out of memory.
+/// Returns an error if memory runs out.
 pub fn find_shares(alloc: Global, spec: &Spec) -> Result<Vec<List<Share>>, NoMemory>
     ensures { IfOk result (λ shares. HasShares spec.now shares.items) }
 {

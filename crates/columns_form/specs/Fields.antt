@@ -35,8 +35,8 @@ abbrev pub value_fields : List Factor → ℕ → List ℕ → List ℕ
 value_fields [] i values = []
 value_fields (factor ∷ factors) i values = codes "," ++ value_name factor (slice_index values i) ++ value_fields factors (i + 1) values
 
--- A field for each processor, which is 1 if the processor is up and 0 otherwise. The lowest bit of `up` is the first
--- processor's.
+-- A field for each processor, which is 1 if the processor is up and 0 otherwise. The lowest bit of `up` is that of
+-- the first processor.
 abbrev pub up_fields : List Proc → ℕ → List ℕ
 up_fields [] up = []
 up_fields (proc ∷ procs) up = (if up % 2 == 1 then codes ",1" else codes ",0") ++ up_fields procs (up / 2)

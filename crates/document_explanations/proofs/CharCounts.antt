@@ -1,4 +1,4 @@
--- The first characters of a text.
+-- Lemmas on the first characters of a text.
 use Rattle.std.proofs.Common.{◌≡◌, ℕ, suc, ◌+◌, ◌-◌, ◌<◌, ◌≤◌, Bool, true, false, cond, List, [], ◌∷◌, ◌++◌, length, refl, sym, ap, ◌∙◌, arith, append-nil, ne_eqb}
 use Rattle.std.specs.Prelude.{◌==◌, codes, nat_lt}
 use Rattle.std.specs.Fmt.{char_count, format_spec, is_char_start, padded, styled_text, take_chars}
@@ -11,7 +11,7 @@ whole_at : (start : Bool) (n b : ℕ) (text : List ℕ) → cond start 1 0 + cha
 whole_at true n b text few more = rw (ne_eqb n 0 (λ none. omega (arith, none, few))) (ap (λ (t : List ℕ). b ∷ t) (more (n - 1) (omega (arith, few))))
 whole_at false n b text few more = ap (λ (t : List ℕ). b ∷ t) (more n (omega (arith, few)))
 
--- a text with few characters
+-- If a text has at most `n` characters, its first `n` characters are the whole text.
 pub whole_text : (n : ℕ) (text : List ℕ) → char_count text ≤ n → take_chars n text ≡ text
 unfolding char_count take_chars
 whole_text n [] few = refl
@@ -35,7 +35,7 @@ shorter_at false n b text many more =
     let one : suc (length (take_chars n text)) < suc (length text) = omega (arith, less) in
     one
 
--- a text with more characters
+-- If a text has more than `n` characters, its first `n` characters are fewer bytes than the text.
 pub shorter_text : (n : ℕ) (text : List ℕ) → n < char_count text → length (take_chars n text) < length text
 unfolding char_count take_chars
 shorter_text n [] many = absurd (omega (arith, many))
@@ -48,7 +48,7 @@ padded_cut text = let none : 0 - char_count (take_chars 60 text) ≡ 0 = omega a
 not_less : (n m : ℕ) → nat_lt n m ≡ false → m ≤ n
 not_less n m is = ltb-false n m is
 
--- a text that is shown with a precision of 60
+-- A text that is formatted with a precision of 60 is cut to its first 60 characters.
 pub shown_cut : (text : List ℕ) → styled_text (format_spec 32 0 0 0 60) text ≡ take_chars 60 text
 shown_cut text = padded_cut text
 
@@ -57,7 +57,7 @@ cut_by : (more : Bool) (text short : List ℕ) → nat_lt 60 (char_count text) �
 cut_by true text short is shown same = absurd (omega (arith, shorter_text 60 text (ltb-true 60 (char_count text) is), ap length shown, same))
 cut_by false text short is shown same = refl
 
--- a text of which all is shown
+-- If the first 60 characters of a text are as long as the text, the whole text is shown.
 pub cut_whole : (text short : List ℕ) → short ≡ take_chars 60 text → length short ≡ length text → cut text ≡ text
 cut_whole text short shown same = cut_by (nat_lt 60 (char_count text)) text short refl shown same
 
@@ -67,11 +67,11 @@ dots_by true text short is shown other = ap (λ (t : List ℕ). t ++ codes "..")
 dots_by false text short is shown other =
     absurd (other (ap length (shown ∙ whole_text 60 text (not_less 60 (char_count text) is))))
 
--- a text with more characters
+-- If the first 60 characters of a text are shorter than the text, they are shown with two dots after them.
 pub cut_dots : (text short : List ℕ) → short ≡ take_chars 60 text → (length short ≡ length text → ⊥) → cut text ≡ short ++ codes ".."
 cut_dots text short shown other = dots_by (nat_lt 60 (char_count text)) text short refl shown other
 
--- a byte that begins no character, or one of the first n characters
+-- If the first byte of a text begins a character, the first `n` characters of the text are at most `n` characters.
 counted_start : (none : Bool) (n b : ℕ) (text : List ℕ) → (n == 0) ≡ none → is_char_start b ≡ true → ((m : ℕ) → char_count (take_chars m text) ≤ m)
     → char_count (cond none [] (b ∷ take_chars (n - 1) text)) ≤ n
 unfolding char_count
@@ -102,6 +102,6 @@ short_by : (more : Bool) (text : List ℕ) → nat_lt 60 (char_count text) ≡ m
 short_by true text is = omega (arith, joined_characters (take_chars 60 text) (codes ".."), few_characters 60 text, two_dots)
 short_by false text is = omega (arith, not_less 60 (char_count text) is)
 
--- at most 62 characters of a text are shown
+-- At most 62 characters of a text are shown.
 pub short : (text : List ℕ) → char_count (cut text) ≤ 62
 short text = short_by (nat_lt 60 (char_count text)) text refl

@@ -1,4 +1,4 @@
--- Worked examples of the expected and the found values: computed, and compared with their words.
+-- Examples of expected and found values, which are computed and compared with their words.
 use Rattle.std.proofs.Common.{◌≡◌, ℕ, List, [], ◌∷◌, ◌++◌, Some, None, refl, decimal}
 use Rattle.std.specs.Option.{option_map_or}
 use Rattle.std.specs.Prelude.{◌+◌, codes, is_some, neg_ℤ, pos, true}
@@ -15,7 +15,8 @@ use Rattle.document_explanations.specs.declared.objects.Text.TheVariants as text
 use Rattle.document_explanations.specs.declared.rules.DocumentKind.{DocumentKind}
 use Rattle.document_explanations.specs.declared.rules.DocumentKind.TheVariants.{Specification, Script}
 
--- the words for the expected value at a path of a document where a rule is broken
+-- The words for the expected value at a path of a document where a rule is broken, or the empty text if there is
+-- none.
 abbrev wanted_in : DocumentKind → ℕ → List ℕ → List ℕ
 wanted_in kind rule path = option_map_or (wanted_text None) (wanted_at kind rule path) []
 
@@ -45,7 +46,7 @@ modes : wanted_in Specification 13 (codes ".demands.0.on.0.modes.1")
     codes "datalink: fast slow, task: full reduced minimal"
 modes = refl
 
--- if a member is missing, the words for its object
+-- If a member is missing, the words are those for its object.
 name_missing : wanted_in Specification 3 (codes ".factors.1.name") ≡ codes "name, values"
 name_missing = refl
 
@@ -55,7 +56,7 @@ restarts_missing = refl
 halts : wanted_in Script 6 (codes ".halts") ≡ codes "0 to " ++ decimal 8 ++ codes " elements, 0 to " ++ decimal 16 ++ codes " where scram is 2"
 halts = refl
 
--- a document of version 2 with unknown members
+-- The members of a document of version 2, some of which are not in its table.
 members : Members
 members = member (codes "demands") (array no_items) (member (codes "extra") (number (unsigned 1)) (member (codes "policy") (string (codes "settle")) (member (codes "scram") (number (unsigned 2)) no_members)))
 
@@ -71,7 +72,7 @@ elements : found_text_at Specification 6 (codes ".demands") (object members) ≡
 unfolding members
 elements = refl
 
--- each rule of both documents has its words
+-- Each rule of both kinds of document has words.
 specification_rules : all_below (λ (k : ℕ). is_some (broken_rule Specification (k + 1))) 25 ≡ true
 specification_rules = refl
 

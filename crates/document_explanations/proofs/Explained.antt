@@ -1,7 +1,7 @@
--- Refusals, and refusals without an explanation for lack of memory.
+-- Refusals with an explanation, and refusals without one if memory runs out.
 use Rattle.std.proofs.Common.{◌⊎◌, inl, inr}
 
--- the first of two cases, seen another way
+-- If the first of two cases implies a fact, then this fact or the second case holds.
 pub either : {A B M : Type 0} → (A → B) → A ⊎ M → B ⊎ M
 either seen (inl is) = inl (seen is)
 either seen (inr none) = inr none

@@ -17,14 +17,14 @@ use Rattle.flight_forms.specs.Documents.{SaysScript}
 use Rattle.document_explanations.specs.Scripts.{AsksExplainedScript, BreaksExplainedScript, long_explained_script}
 use Rattle.document_explanations.specs.Specifications.{AsksExplainedSpecification, BreaksExplainedSpecification, long_explained_specification}
 
--- the specification was read, followed by the answer to it
+-- If the specification was read and the answer to it was prepared, the answer to its file is prepared.
 pub explained_specification_reads : {U : Type 0} (name : List ℕ) (names : List (List ℕ)) (Then : Parts → Answer) (Rest : U → ℕ → List ℕ → Type 0) (spec : Parts) (before mid after : FilesState) (result : Result U Refusal)
     → HasRead MAX_SPECIFICATION_BYTES name (SaysSpecification spec) before mid → StaysSteady before mid name → Prepares (Then spec) Rest names mid after result
     → Prepares (AsksExplainedSpecification name Then) Rest (name ∷ names) before after result
 explained_specification_reads {U} name names Then Rest spec before mid after result has steady finds =
     document_reads SaysSpecification BreaksExplainedSpecification MAX_SPECIFICATION_BYTES long_explained_specification name names Then Rest spec before mid after result has steady finds
 
--- the specification was not loaded
+-- If the specification was not loaded, the refusal is the answer to its file.
 pub explained_specification_unread : (name : List ℕ) (names : List (List ℕ)) (Then : Parts → Answer) (before after : FilesState) (refusal : Refusal)
     → IsUnloaded BreaksExplainedSpecification MAX_SPECIFICATION_BYTES long_explained_specification name before after (told refusal) → StaysSteady before after name
     → ((told refusal).0 ≡ UNREAD_FILE → Rose before.faults after.faults)
@@ -32,14 +32,14 @@ pub explained_specification_unread : (name : List ℕ) (names : List (List ℕ))
 explained_specification_unread name names Then before after refusal is steady unread =
     refused_reads SaysSpecification BreaksExplainedSpecification MAX_SPECIFICATION_BYTES long_explained_specification name names Then before after refusal is steady unread
 
--- the script was read, followed by the answer to it
+-- If the script was read and the answer to it was prepared, the answer to its file is prepared.
 pub explained_script_reads : {U : Type 0} (spec : Parts) (name : List ℕ) (names : List (List ℕ)) (Then : ScriptParts → Answer) (Rest : U → ℕ → List ℕ → Type 0) (value : ScriptParts) (before mid after : FilesState) (result : Result U Refusal)
     → HasRead MAX_SCRIPT_BYTES name (SaysScript spec value) before mid → StaysSteady before mid name → Prepares (Then value) Rest names mid after result
     → Prepares (AsksExplainedScript spec name Then) Rest (name ∷ names) before after result
 explained_script_reads {U} spec name names Then Rest value before mid after result has steady finds =
     document_reads (SaysScript spec) (BreaksExplainedScript spec) MAX_SCRIPT_BYTES long_explained_script name names Then Rest value before mid after result has steady finds
 
--- the script was not loaded
+-- If the script was not loaded, the refusal is the answer to its file.
 pub explained_script_unread : (spec : Parts) (name : List ℕ) (names : List (List ℕ)) (Then : ScriptParts → Answer) (before after : FilesState) (refusal : Refusal)
     → IsUnloaded (BreaksExplainedScript spec) MAX_SCRIPT_BYTES long_explained_script name before after (told refusal) → StaysSteady before after name
     → ((told refusal).0 ≡ UNREAD_FILE → Rose before.faults after.faults)

@@ -1,8 +1,8 @@
--- Texts that were joined piece by piece.
+-- Lemmas on texts that are concatenated piece by piece.
 use Rattle.std.proofs.Common.{◌≡◌, ℕ, List, ◌++◌, Result, Ok, Err, OnOk, ap, sym, ◌∙◌, append_assoc}
 use Rattle.std.specs.Prelude.{codes}
 
--- a consequence of a fact about a success
+-- If a fact that holds on success implies another fact, the other fact holds on success.
 pub on_ok : {T E P Q : Type 0} (result : Result T E) → (P → Q) → OnOk result P → OnOk result Q
 on_ok (Ok value) then is = then is
 on_ok (Err error) then is = is
@@ -16,19 +16,19 @@ four_more a b c d e = append_assoc ((a ++ b) ++ c) d e ∙ three_more a b c (d +
 pub six_more : (a b c d e f g : List ℕ) → (((((a ++ b) ++ c) ++ d) ++ e) ++ f) ++ g ≡ a ++ (b ++ (c ++ (d ++ (e ++ (f ++ g)))))
 six_more a b c d e f g = append_assoc ((((a ++ b) ++ c) ++ d) ++ e) f g ∙ append_assoc (((a ++ b) ++ c) ++ d) e (f ++ g) ∙ four_more a b c d (e ++ (f ++ g))
 
--- three texts, joined to a first one piece by piece
+-- Appending three texts one by one is the same as appending their concatenation.
 pub joined_three : (a b c d : List ℕ) → ((a ++ b) ++ c) ++ d ≡ a ++ (b ++ c ++ d)
 joined_three a b c d = three_more a b c d ∙ ap (λ (rest : List ℕ). a ++ rest) (sym (append_assoc b c d))
 
--- four texts, joined to a first one piece by piece
+-- Appending four texts one by one is the same as appending their concatenation.
 pub joined_four : (a b c d e : List ℕ) → (((a ++ b) ++ c) ++ d) ++ e ≡ a ++ (b ++ c ++ d ++ e)
 joined_four a b c d e = four_more a b c d e ∙ ap (λ (rest : List ℕ). a ++ rest) (sym (three_more b c d e))
 
--- the words of a rule with a limit, and the end of its line
+-- The words of the rule that a document is not longer than a limit, in bytes.
 abbrev pub limit_end : List ℕ → List ℕ
 limit_end limit = codes "more than" ++ (codes " " ++ limit ++ codes " bytes")
 
--- the lines for a document that is too long
+-- The pieces of the lines for a document that is too long give the line with the rule and the line with its words.
 pub long_lines : (first rule number limit : List ℕ)
     → (((((first ++ rule) ++ codes "\n  rule ") ++ number) ++ codes ": more than ") ++ limit) ++ codes " bytes\n"
     ≡ first ++ rule ++ codes "\n" ++ (codes "  rule " ++ number ++ codes ": " ++ limit_end limit ++ codes "\n")

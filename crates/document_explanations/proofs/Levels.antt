@@ -1,4 +1,4 @@
--- The levels of a path, one by one.
+-- Lemmas on the levels of a path.
 use Rattle.std.proofs.Common.{◌≡◌, ◌≢◌, ℕ, ◌<◌, false, List, [], ◌∷◌, ◌++◌, All, length, get_or, Option, Some, None, option_and_then, refl, ap, ◌∙◌, arith, ne_eqb, eq-eqb}
 use Rattle.std.specs.Prelude.{◌==◌}
 use Rattle.std.proofs.lemmas.List.Elements.{All-from_get_or}
@@ -14,11 +14,11 @@ Lacks text = (i : ℕ) → i < length text → get_or text i 0 ≢ 46
 no_dots : (text : List ℕ) → Lacks text → All (λ (b : ℕ). (b == 46) ≡ false) text
 no_dots text lacks = All-from_get_or (λ (b : ℕ). (b == 46) ≡ false) text 0 (λ i below. ne_eqb (get_or text i 0) 46 (lacks i below))
 
--- a text without a dot is one level
+-- A text without a dot is one level.
 pub last_level : (text : List ℕ) → Lacks text → pieces_of 46 text ≡ text ∷ []
 last_level text lacks = slice_split_none (λ (b : ℕ). b == 46) text (no_dots text lacks)
 
--- the level before the first dot
+-- The first level of a text is the text before the first dot, and the other levels are those of the text after it.
 pub first_level : (text level rest : List ℕ) → text ≡ level ++ 46 ∷ rest → Lacks level → pieces_of 46 text ≡ level ∷ pieces_of 46 rest
 first_level text level rest parts lacks =
     ap (pieces_of 46) parts ∙ slice_split_at (λ (b : ℕ). b == 46) level 46 rest (no_dots level lacks) (eq-eqb 46 46 refl)
@@ -28,7 +28,8 @@ above_more : (level : List ℕ) (levels : List (List ℕ)) (w : Wanted) → 0 < 
 above_more level [] w some = absurd (omega (arith, some))
 above_more level (next ∷ levels) w some = refl
 
--- one level below, the expected value after the levels and above the last of them
+-- The expected value after several levels, or above the last of them, is found by the first level and then by the
+-- others.
 pub step_whole : (text level rest : List ℕ) (w : Wanted) → pieces_of 46 text ≡ level ∷ pieces_of 46 rest
     → wanted_along (pieces_of 46 text) w ≡ option_and_then (wanted_along (pieces_of 46 rest)) (wanted_below w level)
 step_whole text level rest w pieces = ap (λ (levels : List (List ℕ)). wanted_along levels w) pieces
@@ -38,7 +39,7 @@ pub step_above : (text level rest : List ℕ) (w : Wanted) → pieces_of 46 text
 step_above text level rest w pieces =
     ap (λ (levels : List (List ℕ)). wanted_along (all_but_last levels) w) pieces ∙ above_more level (pieces_of 46 rest) w (some_piece 46 rest)
 
--- a path that does not begin with a dot has no level
+-- A path that does not begin with a dot has no levels.
 pub no_dot_first : (path : List ℕ) → ((rest : List ℕ) → path ≢ 46 ∷ rest) → after_dot path ≡ []
 no_dot_first [] other = refl
 no_dot_first (b ∷ path) other = rw (ne_eqb b 46 (λ same. other path (ap (λ (c : ℕ). c ∷ path) same)))

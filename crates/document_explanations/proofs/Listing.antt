@@ -1,4 +1,4 @@
--- The text that is shown for items, whether or not they are read as plain data first.
+-- The text that is shown for items is the same whether or not they are read as plain data first.
 use Rattle.std.proofs.Common.{◌≡◌, ℕ, Bool, true, false, cond, List, [], ◌∷◌, ◌++◌, map, refl, ap, ◌∙◌}
 use Rattle.std.specs.Prelude.{codes}
 use Rattle.document_explanations.specs.Wants.{further_listed, listed}
@@ -7,12 +7,12 @@ read_first : {A B C : Type 0} (shown : B → C) (seen : A → B) (items : List A
 read_first shown seen [] = refl
 read_first shown seen (x ∷ items) = ap (λ (rest : List _). shown (seen x) ∷ rest) (read_first shown seen items)
 
--- the listed items are these
+-- If the items are read as the plain data `things`, the texts listed for the items are those of `things`.
 pub listed_read : {A B : Type 0} (shown : B → List ℕ) (seen : A → B) (items : List A) (things : List B) → map seen items ≡ things
     → listed (map (λ (x : A). shown (seen x)) items) ≡ listed (map shown things)
 listed_read {A} {B} shown seen items things same = ap listed (read_first shown seen items ∙ ap (map shown) same)
 
--- the remaining texts of a list, some of which may already be written
+-- The text of the remaining items of a list, given whether some items have been written before them.
 abbrev pub left_listed : Bool → List (List ℕ) → List ℕ
 left_listed true texts = further_listed texts
 left_listed false texts = listed texts

@@ -1,4 +1,4 @@
--- Copies of values without floats.
+-- Lemmas on copies of values without floats.
 use Rattle.std.proofs.Common.{◌≡◌, ℕ, List, [], ◌∷◌, map, Ordering, Less, Equal, Greater, nat_cmp, refl, sym, ap, ◌∙◌}
 use Rattle.std.specs.Cmp.Lexicographic.{slice_cmp}
 use Rattle.std.specs.Ordering.{match_ordering}
@@ -11,7 +11,7 @@ items_each : (vs : List Value) → items_of (map (λ (v : Value). without_floats
 items_each [] = refl
 items_each (v ∷ vs) = ap (item (without_floats (view v))) (items_each vs)
 
--- copies of all elements of a list
+-- If each copy is the value without floats, the list of the copies is the list without floats.
 pub items_shown : (copies vs : List Value) → map view copies ≡ map (λ (v : Value). without_floats (view v)) vs
     → items_view copies ≡ items_without_floats (items_view vs)
 items_shown copies vs same = ap items_of same ∙ items_each vs
@@ -21,7 +21,8 @@ match_shown Less a b c = refl
 match_shown Equal a b c = refl
 match_shown Greater a b c = refl
 
--- a copy with one further member
+-- Adding a member without floats to the members without floats gives the members with the added member, without
+-- floats.
 pub put_shown : (k : List ℕ) (d : Data) (ms : Members) → put k (without_floats d) (members_without_floats ms) ≡ members_without_floats (put k d ms)
 put_shown k d no_members = refl
 put_shown k d (member l e ms) = rw (put_shown k d ms) (sym (match_shown (slice_cmp nat_cmp k l) (member k d (member l e ms)) (member l d ms) (member l e (put k d ms))))

@@ -1,4 +1,4 @@
--- The members of the tables, counted for each version of a document.
+-- The tables have the members that the readers need for each version of a document.
 use Rattle.std.proofs.Common.{◌≡◌, ℕ, Bool, true, false, List, [], ◌∷◌, ◌++◌, cond, length, Option, Some, None, option_and_then, refl, map}
 use Rattle.std.specs.Prelude.{◌==◌, ◌||◌, codes}
 use Rattle.serde_json.specs.Find.{as_number, as_u64, get}
@@ -13,7 +13,7 @@ use Rattle.document_explanations.specs.declared.objects.Text.TheVariants as text
 use Rattle.document_explanations.specs.declared.objects.Versions.TheVariants as versions
 use Rattle.document_explanations.specs.declared.objects.Wanted.TheVariants as wanted
 
--- the last two members of a specification, if its version has them
+-- The members that only some versions of a specification or of a script have.
 abbrev policy_member : Member
 policy_member = later (codes "policy") versions.SecondOn (wanted.Text text.Policy)
 
@@ -39,7 +39,7 @@ count_by true false = refl
 count_by false true = refl
 count_by false false = refl
 
--- the last member of a script, if its version has it
+-- The names of the members of a script, given whether its version is 2.
 abbrev script_names : Bool → List (List ℕ)
 script_names second =
     codes "scram" ∷ codes "frames" ∷ codes "changes" ∷ codes "halts" ∷ map (λ (m : Member). m.name) (cond second (restarts_member ∷ []) [])

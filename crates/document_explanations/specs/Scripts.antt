@@ -30,8 +30,8 @@ pub record BreaksExplainedScript (spec : Parts) (refusal : ℕ × List ℕ) (byt
 abbrev pub long_explained_script : ℕ × List ℕ
 long_explained_script = (long_script.0, long_script.1 ++ explanation Script None rule.TOO_LONG [] None)
 
--- The answer to the name of a script's file, where `Then` gives the answer to the script in the file. A broken rule is
--- explained.
+-- The answer to the name of a script's file, given `Then`, which gives the answer to the script in the file. A broken
+-- rule is explained.
 abbrev pub AsksExplainedScript : Parts → List ℕ → (ScriptParts → Answer) → Answer
 AsksExplainedScript spec name Then =
     AnswersFile MAX_SCRIPT_BYTES long_explained_script name (AnswersDocument (SaysScript spec) (BreaksExplainedScript spec) Then)

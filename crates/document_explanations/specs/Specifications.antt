@@ -31,8 +31,8 @@ pub record BreaksExplainedSpecification (refusal : ℕ × List ℕ) (bytes : Lis
 abbrev pub long_explained_specification : ℕ × List ℕ
 long_explained_specification = (long_specification.0, long_specification.1 ++ explanation Specification None rule.TOO_LONG [] None)
 
--- The answer to the name of a specification's file, where `Then` gives the answer to the specification in the file. A
--- broken rule is explained.
+-- The answer to the name of a specification's file, given `Then`, which gives the answer to the specification in the
+-- file. A broken rule is explained.
 abbrev pub AsksExplainedSpecification : List ℕ → (Parts → Answer) → Answer
 AsksExplainedSpecification name Then =
     AnswersFile MAX_SPECIFICATION_BYTES long_explained_specification name (AnswersDocument SaysSpecification BreaksExplainedSpecification Then)

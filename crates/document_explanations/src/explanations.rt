@@ -31,7 +31,7 @@ pub struct BrokenDocument<'a> {
 ///
 /// # Errors
 ///
-/// Out of memory.
+/// Returns an error if memory runs out.
 pub fn add_explanation(
     alloc: Global,
     lines: &mut Lines,

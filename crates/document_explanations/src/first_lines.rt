@@ -15,7 +15,7 @@ use scram_types::{Name, NoMemory};
 ///
 /// # Errors
 ///
-/// Out of memory.
+/// Returns an error if memory runs out.
 pub fn add_specification_line(lines: &mut Lines, fault: &SpecFault) -> Result<(), NoMemory>
     ensures { OnOk result (lines.new ≡ lines.old ++ specification_line fault.now) }
 {
@@ -29,7 +29,7 @@ pub fn add_specification_line(lines: &mut Lines, fault: &SpecFault) -> Result<()
 ///
 /// # Errors
 ///
-/// Out of memory.
+/// Returns an error if memory runs out.
 pub fn add_script_line(lines: &mut Lines, fault: &ScriptFault) -> Result<(), NoMemory>
     ensures { OnOk result (lines.new ≡ lines.old ++ script_line fault.now) }
 {

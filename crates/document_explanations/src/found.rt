@@ -26,7 +26,7 @@ fn has_version(document: &Value, number: u64) -> bool
     }
 }
 
-// Returns whether the version of a document is one of `versions`.
+// Returns `true` if the version of a document is one of `versions`.
 fn is_version_of(document: &Value, versions: Versions) -> bool
     ensures { result ≡ is_version_of (view document.now) versions }
 {
@@ -38,7 +38,7 @@ fn is_version_of(document: &Value, versions: Versions) -> bool
     }
 }
 
-// Returns whether the table of an object of a document has a member with this name.
+// Returns `true` if the table of an object of a document has a member with this name.
 fn is_known(document: &Value, object: Object, name: &str) -> bool
     ensures { result ≡ is_known (view document.now) object name.now }
 {
@@ -135,7 +135,7 @@ fn elements_text(alloc: Global, value: &Value) -> Result<String, NoMemory>
 ///
 /// # Errors
 ///
-/// Out of memory.
+/// Returns an error if memory runs out.
 pub fn found_text_at(
     alloc: Global,
     kind: DocumentKind,
@@ -161,7 +161,7 @@ pub fn found_text_at(
 ///
 /// # Errors
 ///
-/// Out of memory.
+/// Returns an error if memory runs out.
 pub fn cut(alloc: Global, text: String) -> Result<String, NoMemory>
     ensures { IfOk result (λ cut_text. string_bytes cut_text ≡ cut (string_bytes text)) }
 {

@@ -35,7 +35,7 @@ impl Lines {
     ///
     /// # Errors
     ///
-    /// Out of memory.
+    /// Returns an error if memory runs out.
     pub fn push(&mut self, text: &str) -> Result<(), NoMemory>
         ensures { OnOk result (self.new ≡ self.old ++ text.now) }
     {
@@ -49,7 +49,7 @@ impl Lines {
     ///
     /// # Errors
     ///
-    /// Out of memory.
+    /// Returns an error if memory runs out.
     pub fn number(&mut self, number: usize) -> Result<(), NoMemory>
         ensures { OnOk result (self.new ≡ self.old ++ decimal number) }
     {
@@ -61,7 +61,7 @@ impl Lines {
     ///
     /// # Errors
     ///
-    /// Out of memory.
+    /// Returns an error if memory runs out.
     pub fn signed(&mut self, number: &i64) -> Result<(), NoMemory>
         ensures { OnOk result (self.new ≡ self.old ++ signed_decimal number.now) }
     {

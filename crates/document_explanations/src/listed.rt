@@ -19,6 +19,10 @@ pub trait Shown<T> {
     ghost shown: { T → List ℕ };
 
     /// Appends the text that is shown for an item.
+    ///
+    /// # Errors
+    ///
+    /// Returns an error if memory runs out.
     fn add(lines: &mut Lines, item: &T) -> Result<(), NoMemory>
         ensures { OnOk result (lines.new ≡ lines.old ++ shown item.now) };
 }
@@ -27,7 +31,7 @@ pub trait Shown<T> {
 ///
 /// # Errors
 ///
-/// Out of memory.
+/// Returns an error if memory runs out.
 pub fn add_listed<T, S: Shown<T>>(lines: &mut Lines, items: &[T]) -> Result<(), NoMemory>
     ensures { OnOk result (lines.new ≡ lines.old ++ listed (map S.shown items.now)) }
 {

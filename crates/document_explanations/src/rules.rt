@@ -225,7 +225,7 @@ pub fn broken_rule(kind: DocumentKind, number: u8) -> Option<DocumentRule>
 ///
 /// # Errors
 ///
-/// Out of memory.
+/// Returns an error if memory runs out.
 pub fn add_rule_text(lines: &mut Lines, rule: &DocumentRule) -> Result<(), NoMemory>
     ensures { OnOk result (lines.new ≡ lines.old ++ rule_words (rule_read rule.now)) }
 {
@@ -245,7 +245,7 @@ fn add_limit(lines: &mut Lines, limit: usize) -> Result<(), NoMemory>
 }
 
 impl Shows {
-    /// Returns whether the expected value is shown.
+    /// Returns `true` if the expected value is shown.
     pub fn wanted(self) -> bool
         ensures { result ≡ shows_wanted self }
     {
@@ -257,7 +257,7 @@ impl Shows {
         }
     }
 
-    /// Returns whether the value that was found is shown.
+    /// Returns `true` if the value that was found is shown.
     pub fn found(self) -> bool
         ensures { result ≡ shows_found self }
     {

@@ -64,7 +64,7 @@ fn members_without_floats(
 ///
 /// # Errors
 ///
-/// Out of memory.
+/// Returns an error if memory runs out.
 pub fn value_text(alloc: Global, value: &Value) -> Result<String, NoMemory>
     ensures { IfOk result (λ text. string_bytes text ≡ value_text (view value.now)) }
 {

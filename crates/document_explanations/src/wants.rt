@@ -16,7 +16,7 @@ use scram_types::{Factor, NoMemory, Proc, Spec};
 ///
 /// # Errors
 ///
-/// Out of memory.
+/// Returns an error if memory runs out.
 pub fn add_wanted(lines: &mut Lines, spec: Option<&Spec>, wanted: Wanted) -> Result<(), NoMemory>
     ensures { OnOk result (lines.new ≡ lines.old ++ wanted_text (option_map (λ s. s.now) spec.entry) wanted) }
 {

@@ -1,4 +1,4 @@
--- The reasons why a script leaves the failure assumption.
+-- Lemmas on the reasons why a script leaves the failure assumption.
 use Rattle.std.proofs.Common.{◌≡◌, ◌∙◌, ℕ, suc, ◌+◌, ◌≤◌, ◌++◌, ap, append_assoc, arith, sym, List, Bool, true, false}
 use Rattle.std.specs.Prelude.{Some, None, codes, if◌then◌else◌}
 use Rattle.scram_types.specs.Scripts.{ScriptParts}
@@ -11,7 +11,8 @@ use Rattle.fault_script.specs.Assumption.{brings_too_many_down, first_outside, i
 use Rattle.form_base.specs.Texts.{texts_below}
 use Rattle.explain_form.specs.Outsides.{change_frame_text, change_frames_text}
 
--- all frames up to the last one have been shown
+-- If the numbers of the frames up to frame `last` were appended, the line of the change frames up to `last` is
+-- complete.
 pub frames_told : (spec : Parts) (script : ScriptParts) (last n : ℕ) (old mid text : List ℕ) → mid ≡ old ++ codes "  frames" → last + 1 ≤ n → n ≤ last + 1
     → text ≡ mid ++ texts_below (change_frame_text spec script last) n → text ≡ old ++ change_frames_text spec script last
 unfolding change_frames_text
@@ -28,7 +29,7 @@ frame_by f true changes outside e = sym (ap (λ (o : Outside). o.frame) (same_so
 frame_by f false true outside e = sym (ap (λ (o : Outside). o.frame) (same_some _ outside e))
 frame_by f false false outside e = absurd (cc)
 
--- the frame that leaves the assumption is one of the script's, or the one after the last
+-- The frame with which a script leaves the assumption is one of the script's frames, or the one after the last.
 pub outside_inside : (spec : Parts) (script : ScriptParts) (outside : Outside) → first_outside spec script ≡ Some outside → outside.frame ≤ script.frames
 outside_inside spec script outside e =
     let found = found_below (outside_at spec script) (suc script.frames) outside e in

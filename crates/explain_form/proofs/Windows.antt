@@ -1,4 +1,4 @@
--- The change frames of a window.
+-- Lemmas on the change frames of a window.
 use Rattle.std.proofs.Common.{◌≡◌, ◌∙◌, ℕ, zero, suc, ◌+◌, ◌-◌, ◌<◌, ◌≤◌, ap, arith, refl, sym, Bool, false}
 use mathlib.Core.Logic.{inl, inr}
 use Rattle.std.specs.Prelude.{if◌then◌else◌}
@@ -13,7 +13,7 @@ use Rattle.explain_form.specs.Laws.{WindowsAreExact}
 use Rattle.explain_form.specs.Outsides.{is_change_told, is_in_window}
 
 module _ (spec : Parts) (script : ScriptParts) where
-  -- all change frames up to f
+  -- The number of changes up to frame `f` is the number of change frames up to `f`.
   upto_is : (f : ℕ) → changes_upto spec script f ≡ count_below (is_change_frame spec script) (suc f)
   upto_is zero = refl
   upto_is (suc f) = ap (λ (n : ℕ). n + (if is_change_frame spec script (suc f) then 1 else 0)) (upto_is f)
@@ -22,12 +22,12 @@ module _ (spec : Parts) (script : ScriptParts) where
     abbrev before : ℕ
     before = suc (last - spec.window)
 
-    -- no frame before the window is shown, and frame 0 is no change frame
+    -- No frame before the window is shown. Frame 0 is never shown, since it is not a change frame.
     none_before : (f : ℕ) → f < before → is_change_told spec script last f ≡ false
     none_before zero low = and-false (is_in_window spec last 0)
     none_before (suc f) low = rw (not_below_test last (suc f + spec.window) (omega (arith, low))) refl
 
-    -- each change frame from there on is shown
+    -- A frame at or after the start of the window is shown if and only if it is a change frame.
     same_after : (f : ℕ) → before ≤ f → is_change_told spec script last f ≡ is_change_frame spec script f
     same_after f high = rw (below_test last (f + spec.window) (omega (arith, high))) refl
 

@@ -46,8 +46,9 @@ abbrev pub AssuresExplain : List ℕ → History → List ℕ → Type 0
 AssuresExplain specification =
     OfSpecification specification (λ (spec : Parts) (reads : History) (text : List ℕ). (reads ≡ []) × Accepts spec × (text ≡ accepted_text spec))
 
--- If `explain` with a specification and a script ends with status 0, the same holds for the specification, and the two
--- make a mission.
+-- If `explain` with a specification and a script ends with status 0, it has read no further file, the specification
+-- is accepted, and the two form a mission. The text is the line of the specification, followed by the lines of its
+-- idle parts.
 abbrev pub AssuresExplainScript : List ℕ → List ℕ → History → List ℕ → Type 0
 AssuresExplainScript specification script =
     OfSpecification specification (λ (spec : Parts). OfDocument (SaysScript spec) script (λ (script : ScriptParts) (reads : History) (text : List ℕ).

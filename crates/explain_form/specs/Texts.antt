@@ -31,8 +31,8 @@ abbrev pub explain_answer : Parts → Option Shown → ℕ × List ℕ
 explain_answer spec (Some shown) = (NOT_ACCEPTED, refused_text spec shown)
 explain_answer spec None = (ANSWERED, accepted_text spec)
 
--- The status and the text for an accepted specification and a script for it, given where the script first leaves the
--- assumption, if it does.
+-- The status and the text for an accepted specification and a script for it, given the first frame with which the
+-- script leaves the failure assumption if there is one.
 abbrev pub outside_answer : Parts → ScriptParts → Option Outside → ℕ × List ℕ
 outside_answer spec script (Some outside) = (UNASSUMED_SCRIPT, unassumed_text spec script outside)
 outside_answer spec script None = (ANSWERED, accepted_text spec)

@@ -41,8 +41,8 @@ pub fn explain<F: Files, K: Sink>(
     }
 }
 
-/// Prints why the specification in a file or the script in another file is refused. If they make a mission, prints the
-/// idle parts of the specification.
+/// Prints why the specification in a file or the script in another file is refused. If the two form a mission, prints
+/// the idle parts of the specification.
 pub fn explain_script<F: Files, K: Sink>(
     alloc: Global,
     named: MissionFiles<'_>,

@@ -16,7 +16,7 @@ use trace_text::lines::Line;
 ///
 /// # Errors
 ///
-/// Out of memory.
+/// Returns an error if memory runs out.
 pub(crate) fn make_outside(
     alloc: Global,
     spec: &Spec,
@@ -122,7 +122,7 @@ fn make_assumed_line(spec: &Spec) -> Line
     line
 }
 
-// Returns whether a frame is at or after the start of the window that ends with frame `last`.
+// Returns `true` if a frame is at or after the start of the window that ends with frame `last`.
 fn is_in_window(spec: &Spec, last: u32, frame: u32) -> bool
     requires { frame ≤ 20000 }
     ensures { result ≡ is_in_window spec.now last frame }

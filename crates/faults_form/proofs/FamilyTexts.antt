@@ -1,4 +1,4 @@
--- The text of a family, candidate by candidate.
+-- Lemmas on the text of a family, candidate by candidate.
 use Rattle.std.proofs.Common.{◌≡◌, ◌∙◌, ℕ, zero, suc, ◌-◌, ◌<◌, Bool, true, false, List, [], ◌∷◌, ◌++◌, length, append_assoc, append-nil, arith, ap, refl, sym}
 use Rattle.std.specs.Prelude.{Some, flat_map, slice_get, if◌then◌else◌}
 use Rattle.std.specs.Option.{option_map_or}
@@ -16,7 +16,7 @@ texts_shift : (text : ℕ → List ℕ) (n : ℕ) → texts_below text (suc n) �
 texts_shift text zero = sym (append-nil (text 0))
 texts_shift text (suc n) = ap (λ (front : List ℕ). front ++ text (suc n)) (texts_shift text n) ∙ append_assoc (text 0) (texts_below (λ k. text (suc k)) n) (text (suc n))
 
--- the text of item k of a list
+-- The text of item `k` of a list, or the empty text if there is no such item.
 abbrev pub item_text : {A : Type 0} → (A → List ℕ) → List A → ℕ → List ℕ
 item_text text xs k = option_map_or text (slice_get xs k) []
 
@@ -42,7 +42,8 @@ module _ (spec : Parts) where
       flat_map_within (faults_line spec) (λ (fault : Fault). if may_follow spec before fault then extended spec more (before ++ fault ∷ []) else [])
       (branch_text spec more before) (λ fault. text_where (faults_line spec) (may_follow spec before fault) (extended spec more (before ++ fault ∷ []))) (candidates spec before)
 
-  -- the lines of the candidates, one after another
+  -- If `more` is greater than 0, the lines of the candidates, concatenated, are the lines of the scripts that begin
+  -- with the faults `before` and have `more` further faults.
   pub candidate_texts : (more : ℕ) (before : List Fault) → 0 < more
       → texts_below (item_text (branch_text spec (more - 1) before) (candidates spec before)) (length (candidates spec before)) ≡ extended_text spec more before
   candidate_texts zero before some = absurd (omega (arith, some))
@@ -50,7 +51,8 @@ module _ (spec : Parts) where
       let back : suc more - 1 ≡ more = omega arith in
       rw back (texts_of_items (branch_text spec more before) (candidates spec before) ∙ sym (extended_branches more before))
 
-  -- the lines of a candidate that may come next, and of one that may not
+  -- If a candidate may follow the faults `before`, its lines are those of the scripts that begin with `before` and
+  -- the candidate. Otherwise, its text is empty.
   pub branch_followed : (more : ℕ) (before : List Fault) (k : ℕ) (fault : Fault) → slice_get (candidates spec before) k ≡ Some fault → may_follow spec before fault ≡ true
       → item_text (branch_text spec more before) (candidates spec before) k ≡ extended_text spec more (before ++ fault ∷ [])
   branch_followed more before k fault there follows = rw (there, follows) refl
@@ -63,6 +65,7 @@ module _ (spec : Parts) where
   line_where true faults = append-nil (faults_line spec faults)
   line_where false faults = refl
 
-  -- the lines if no further fault follows
+  -- If no further fault follows, the text is the line of the script of these faults, or the empty text if the script
+  -- breaks the failure assumption.
   pub within_is : (faults : List Fault) → extended_text spec 0 faults ≡ within_text spec faults
   within_is faults = line_where (is_within spec (script_of_faults spec faults)) faults

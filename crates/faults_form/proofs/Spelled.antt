@@ -1,4 +1,5 @@
--- The canonical text of a script, written out: names are between quotes without escapes.
+-- The canonical text of a script is the text spelled member by member, in which names are between quotes without
+-- escapes.
 use Rattle.std.proofs.Common.{◌≡◌, ◌∙◌, ℕ, suc, ◌+◌, Bool, true, false, List, [], ◌∷◌, ◌++◌, length, map, append_assoc, arith, ap, refl, sym}
 use Rattle.std.specs.Prelude.{◌&&◌, nat_lt, slice_get, Option, Some, None, codes, decimal, filter_map}
 use Rattle.std.specs.List.{cons_option, list_all}
@@ -27,7 +28,7 @@ use Rattle.fault_family.specs.declared.faults.FaultKind.TheVariants as kind
 use Rattle.fault_family.specs.Scripts.{change_fault_in, change_of_fault, halt_fault_in, halt_of_fault, restart_fault_in, restart_of_fault}
 use Rattle.faults_form.specs.Lines.{spelled_change, spelled_halt, listed_text, spelled_restart, spelled_script, version_text}
 
--- each fault is a change, a halt or a restart
+-- The changes, halts and restarts of a list of faults are together as many as the faults.
 
 counted_by : (frame : ℕ) (kind : FaultKind) (changes : List Change) (halts : List HaltAt) (restarts : List RestartAt)
     → length (cons_option (change_fault_in frame kind) changes) + length (cons_option (halt_fault_in frame kind) halts) + length (cons_option (restart_fault_in frame kind) restarts)
@@ -43,7 +44,7 @@ counted (fault ∷ faults) =
     let rest = counted faults in
     omega (arith, here, rest)
 
--- by whether or not there are restarts
+-- If there are restarts, the text ends with the restarts and version 2. Otherwise, it ends with version 1.
 
 pub second_version : (spec : Parts) (restarts : List RestartAt) → nat_lt 0 (length restarts) ≡ true
     → version_text spec restarts ≡ codes ",\"restarts\":[" ++ (listed_text false (map (spelled_restart spec) restarts) ++ codes ",\"scram\":2}")
@@ -54,14 +55,14 @@ pub first_version : (spec : Parts) (restarts : List RestartAt) → nat_lt 0 (len
 first_version spec [] none = refl
 first_version spec (restart ∷ restarts) none = absurd (grind (arith, nat_tests, none))
 
--- names between quotes
+-- The name of a value is printed between quotes without escapes.
 
 quoted_value : (found : Option Factor) (value : ℕ) → ((factor : Factor) → found ≡ Some factor → HasValueNames factor)
     → quoted (option_map_or (λ (factor : Factor). value_name factor value) found []) ≡ 34 ∷ (option_map_or (λ (factor : Factor). value_name factor value) found [] ++ 34 ∷ [])
 quoted_value None value named = refl
 quoted_value (Some factor) value named = quoted_found (λ (name : List ℕ). name) (slice_get factor.values value) (named factor refl value)
 
--- members of an object, whose names are letters
+-- Lemmas on the members of an object whose names are letters.
 
 member_is : (later : Bool) (key : List ℕ) (value : Data) (members : Members) (text rest : List ℕ) → list_all is_letter_of_name key ≡ true → compact_text value ≡ text → members_text true members ≡ rest
     → members_text later (member key value members) ≡ comma_if later ++ 34 ∷ (key ++ 34 ∷ 58 ∷ (text ++ rest))
@@ -77,7 +78,7 @@ named_member_is later key name members rest spelled named behind =
     member_is later key (string name) members (34 ∷ (name ++ 34 ∷ [])) rest spelled named behind
     ∙ ap (λ (after : List ℕ). comma_if later ++ 34 ∷ (key ++ 34 ∷ 58 ∷ 34 ∷ after)) (append_assoc name (34 ∷ []) rest)
 
--- the items of a script
+-- Lemmas on the canonical texts of the items of a script.
 
 module _ (spec : Parts) (names : HasNames spec) where
   change_spelled : (change : Change) → compact_text (change_data spec change) ≡ spelled_change spec change
@@ -145,6 +146,6 @@ module _ (spec : Parts) (names : HasNames spec) (frames : ℕ) (changes : List C
       (member_is true (codes "restarts") (list_data (restart_data spec) (restart ∷ restarts)) (member (codes "scram") (count_data 2) no_members) (91 ∷ listed_text false (map (spelled_restart spec) (restart ∷ restarts))) _ refl (list_spelled (restart_data spec) (spelled_restart spec) (restart_spelled spec names) (restart ∷ restarts))
       (member_is true (codes "scram") (count_data 2) no_members (codes "2") (125 ∷ []) refl (decimal_digit 2 (omega arith)) refl)))))
 
--- the canonical text of a script is the one written out
+-- The text of a script spelled member by member is its canonical text.
 pub script_spelled : (spec : Parts) (script : ScriptParts) → IsSpec spec → spelled_script spec script ≡ script_text spec script
 script_spelled spec script is = sym (script_spelled_by spec is.names script.frames script.changes script.halts script.restarts)

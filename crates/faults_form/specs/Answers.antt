@@ -29,7 +29,7 @@ abbrev pub FaultsAnswers : List ℕ → FaultCount → Answer
 FaultsAnswers specification count =
     AsksSpecification specification (λ (spec : Parts). WithoutFiles (Gives (faults_answer spec count (first_refusal spec))))
 
--- If `faults` ends with status 0, it has read no further file, the specification is accepted, and the text is the lines
+-- If `faults` ends with status 0, it has read no other file, the specification is accepted, and the text is the lines
 -- of its family.
 abbrev pub AssuresFaults : List ℕ → FaultCount → History → List ℕ → Type 0
 AssuresFaults specification count =

@@ -3,7 +3,7 @@ use Rattle.std.specs.Prelude.{ℕ, List, Option, Some, None, bytes_eq, codes, if
 use Rattle.faults_form.specs.declared.counts.FaultCount.{FaultCount}
 use Rattle.faults_form.specs.declared.counts.FaultCount.TheVariants.{One, Two, Three}
 
--- The number that a count of faults spells, from 1 to 3.
+-- The number for a count of faults, from 1 to 3.
 abbrev pub number : FaultCount → ℕ
 number One = 1
 number Two = 2

@@ -172,7 +172,7 @@ fn add_version(line: &mut Line, spec: &Spec, faults: &[Fault])
     }
 }
 
-// Returns whether one of the faults is a restart.
+// Returns `true` if one of the faults is a restart.
 fn restarts(faults: &[Fault]) -> bool
     ensures { result ≡ nat_lt 0 (length (filter_map restart_of_fault faults.now)) }
 {

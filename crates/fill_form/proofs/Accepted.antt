@@ -31,13 +31,13 @@ use Rattle.fill_form.proofs.Apart.{all_append, all_of_each, gives, gives_append,
 use Rattle.fill_form.proofs.Filled.{all_raised, filled_is_spec, filled_is_writable, gives_raised}
 use Rattle.fill_form.proofs.Missing.{all_missing, gives_missing}
 
--- tests of the same numbers
+-- If two tests agree on every number, then both pass for all numbers below `n`, or neither does.
 
 same_all : (one two : ℕ → Bool) (n : ℕ) → ((k : ℕ) → one k ≡ two k) → all_below one n ≡ all_below two n
 same_all one two zero same = refl
 same_all one two (suc n) same = rw (same_all one two n same, same n) refl
 
--- A9
+-- Lemmas on A9.
 
 first_serves : (b : Bool) (frames needed : ℕ) (o : Option ℕ) → (b ≡ true → needed ≤ frames) → (is_some o ≡ true → option_map_or (λ (t : ℕ). nat_le needed t) o false ≡ true)
     → is_some (if b then Some frames else o) ≡ true → option_map_or (λ (t : ℕ). nat_le needed t) (if b then Some frames else o) false ≡ true
@@ -49,7 +49,7 @@ long_enough true frames needed is = omega arith
 long_enough false frames needed is = absurd (cc)
 
 module _ (spec : Parts) where
-  -- a bound is as long as acceptance requires
+  -- If a bound is required for the pair of a bound `x`, then `x` is sufficient.
   abbrev IsLongEnough : Bound → Type 0
   IsLongEnough x = is_bound_asked spec x.from x.to.0 ≡ true → least spec x.from x.to ≤ x.frames
 
@@ -59,7 +59,7 @@ module _ (spec : Parts) where
       (all_of_each (λ (x : Bound). ⊤) spec.bounds (λ k x there. tt)))
       (all_missing spec IsLongEnough (λ i j left right missing asked. le_refl (least spec (conf_id i) (conf_id j))))
 
-  -- the first bound for a pair is sufficient if each bound for the pair is
+  -- If each bound of a list is sufficient, then the first bound of the list for a pair is sufficient.
   first_for : (xs : List Bound) (i j : ConfId) → is_bound_asked spec i j.0 ≡ true → AllByRecursion IsLongEnough xs → gives xs i.0 j.0 ≡ true
       → option_map_or (λ (t : ℕ). nat_le (least spec i j) t) (bound_in xs i.0 j.0) false ≡ true
   first_for [] i j asked all some = absurd (cc)
@@ -72,7 +72,7 @@ module _ (spec : Parts) where
       subst (λ (c : ConfId). least spec c j ≤ x.frames) from (subst (λ (d : ConfId). least spec x.from d ≤ x.frames) to (all.0 here)))
       (first_for xs i j asked all.1) some
 
-  -- each pair for which a bound is required has one
+  -- The filled-in specification has a bound for each pair for which a bound is required.
   filled_gives : (i j : ℕ) → i < length spec.confs → j < length spec.confs → is_bound_asked spec (conf_id i) j ≡ true → gives (filled_bounds spec) i j ≡ true
   filled_gives i j left right asked = gives_append (map (raised spec) spec.bounds) (missing_bounds spec) i j ∙ by_bool (gives spec.bounds i j)
       (λ t. or_left (gives (map (raised spec) spec.bounds) i j) (gives (missing_bounds spec) i j) (gives_raised spec spec.bounds i j ∙ t))
@@ -84,7 +84,7 @@ module _ (spec : Parts) where
       (both_false (is_bound_asked spec (conf_id i) j) (not (is_bounded (filled spec) (conf_id i) (conf_id j)))
       (λ asked. ap not (first_for (filled_bounds spec) (conf_id i) (conf_id j) asked filled_serves (filled_gives i j left right asked))))))
 
-  -- A10
+  -- Lemmas on A10.
 
   wide_enough : (window needed : ℕ) → nat_lt (max window needed) needed ≡ false
   wide_enough window needed = not_below_test (max window needed) needed (omega arith)
@@ -92,7 +92,7 @@ module _ (spec : Parts) where
   window_serves : window_refusal (filled spec) ≡ None
   window_serves = none_shown _ _ (wide_enough spec.window (greatest_bound (filled_bounds spec) + 1))
 
-  -- the parts that do not depend on bounds and the window
+  -- Lemmas on the refusals that do not depend on the bounds and the window.
 
   same_load : (c : ConfId) (p n : ℕ) → load_below (filled spec) c p n ≡ load_below spec c p n
   same_load c p zero = refl

@@ -1,4 +1,4 @@
--- Bounds of which no two are for one pair of configurations.
+-- Lists of bounds in which no two bounds are for the same pair of configurations.
 use Rattle.std.proofs.Common.{◌≡◌, ◌∙◌, ℕ, zero, suc, ◌+◌, ◌*◌, ◌<◌, ◌≤◌, Bool, true, false, refl, arith, ap, sym, subst, List, [], ◌∷◌, ◌++◌, length, map}
 use Rattle.std.specs.Prelude.{Option, Some, ⊤, is_some, take, ◌==◌, ◌&&◌, ◌||◌, if◌then◌else◌}
 use Rattle.std.specs.List.{AllByRecursion, IsDistinct, list_any}
@@ -14,15 +14,15 @@ use Rattle.scram_types.proofs.Options.{same_some}
 use Rattle.reconf_spec.specs.Writable.{lists_pair}
 use Rattle.spec_members.specs.Kept.{NoDuplicates}
 
--- a bound is for a pair
+-- Whether a bound is for the pair `i` and `j`.
 abbrev pub is_for : ℕ → ℕ → Bound → Bool
 is_for i j bound = bound.from.0 == i && bound.to.0 == j
 
--- some bound is for a pair
+-- Whether some bound of a list is for the pair `i` and `j`.
 abbrev pub gives : List Bound → ℕ → ℕ → Bool
 gives bounds i j = is_some (bound_in bounds i j)
 
--- no two are for one pair
+-- No two bounds of the list are for the same pair.
 abbrev pub Apart : List Bound → Type 0
 Apart [] = ⊤
 Apart (x ∷ xs) = (gives xs x.from.0 x.to.0 ≡ false) × Apart xs
@@ -40,7 +40,7 @@ gives_append (x ∷ xs) ys i j =
     gives_cons x (xs ++ ys) i j ∙ ap (λ (b : Bool). is_for i j x || b) (gives_append xs ys i j)
     ∙ sym (or_assoc (is_for i j x) (gives xs i j) (gives ys i j)) ∙ ap (λ (b : Bool). b || gives ys i j) (sym (gives_cons x xs i j))
 
--- a property of each bound
+-- Lemmas on a property of each bound of a list.
 
 pub all_weaker : (P Q : Bound → Type 0) (xs : List Bound) → ((x : Bound) → P x → Q x) → AllByRecursion P xs → AllByRecursion Q xs
 all_weaker P Q [] turn all = tt
@@ -72,7 +72,7 @@ all_of_none (x ∷ xs) i j none =
 pub is_for_own : (x : Bound) → is_for x.from.0 x.to.0 x ≡ true
 is_for_own x = and_true _ _ (equal_test x.from.0 x.from.0 refl) (equal_test x.to.0 x.to.0 refl)
 
--- each bound of a list is for a pair that the list gives
+-- Each bound of a list is for a pair for which the list has a bound.
 pub gives_own : (xs : List Bound) → AllByRecursion (λ (x : Bound). gives xs x.from.0 x.to.0 ≡ true) xs
 gives_own [] = tt
 gives_own (x ∷ xs) = (
@@ -88,14 +88,14 @@ apart_append (x ∷ xs) ys one two other = (
   apart_append xs ys one.1 two other.1,
 )
 
--- if one bound is for the pair of another, the other is for the pair of the first
+-- If bound `y` is not for the pair of bound `x`, then `x` is not for the pair of `y`.
 turned : (x y : Bound) → is_for x.from.0 x.to.0 y ≡ false → is_for y.from.0 y.to.0 x ≡ false
 turned x y none = by_bool (is_for y.from.0 y.to.0 x) (λ t.
     let from : x.from.0 ≡ y.from.0 = equal x.from.0 y.from.0 (and_left _ _ t) in
     let to : x.to.0 ≡ y.to.0 = equal x.to.0 y.to.0 (and_right _ _ t) in
     true_false (is_for x.from.0 x.to.0 y) (and_true _ _ (equal_test y.from.0 x.from.0 (sym from)) (equal_test y.to.0 x.to.0 (sym to))) none) (λ f. f)
 
--- the two statements agree
+-- No two bounds of a list are for the same pair if and only if the list has no duplicates by `lists_pair`.
 
 tail_new : (x : Bound) (xs : List Bound) → NoDuplicates lists_pair (x ∷ xs) → NoDuplicates lists_pair xs
 tail_new x xs new i y there =
@@ -119,9 +119,9 @@ new_of_apart (x ∷ xs) apart (suc i) y there =
     let other = turned x y (each_of_all (λ (z : Bound). is_for x.from.0 x.to.0 z ≡ false) xs (all_of_none xs x.from.0 x.to.0 apart.0) i y there) in
     gives_cons x (take i xs) y.from.0 y.to.0 ∙ rw (other, new_of_apart xs apart.1 i y there) refl
 
--- the number of bounds
+-- Lemmas on the number of bounds.
 
--- both configurations are below 12
+-- Both configurations of the bound have indices below 12.
 abbrev pub IsNear : Bound → Type 0
 IsNear x = (x.from.0 < 12) × (x.to.0 < 12)
 
@@ -155,7 +155,7 @@ numbers_below (x ∷ xs) near q some = elim (or_cases (q == pair_number x) (list
   | inr rest ↦ numbers_below xs near.1 q rest
 ]
 
--- there are at most as many bounds as pairs
+-- A list in which no two bounds are for the same pair has at most 144 bounds, which is the number of pairs.
 pub apart_few : (xs : List Bound) → Apart xs → AllByRecursion IsNear xs → length xs ≤ 144
 apart_few xs apart near =
     let few = length-le_from_distinct_below (map pair_number xs) 144 (numbers_distinct xs apart near) (numbers_below xs near) in

@@ -30,7 +30,7 @@ some_sum a b c d = omega arith
 pub least_some : (spec : Parts) (i j : ConfId) → 1 ≤ least spec i j
 least_some spec i j = some_sum _ _ _ _
 
--- a property of bounds after they are raised
+-- Lemmas on bounds after they are raised.
 
 pub all_raised : (spec : Parts) (P Q : Bound → Type 0) (xs : List Bound) → ((x : Bound) → P x → Q (raised spec x)) → AllByRecursion P xs → AllByRecursion Q (map (raised spec) xs)
 all_raised spec P Q [] turn all = tt
@@ -45,7 +45,7 @@ apart_raised : (spec : Parts) (xs : List Bound) → Apart xs → Apart (map (rai
 apart_raised spec [] apart = tt
 apart_raised spec (x ∷ xs) apart = (gives_raised spec xs x.from.0 x.to.0 ∙ apart.0, apart_raised spec xs apart.1)
 
--- a pair that has a bound is not missing one
+-- If the specification gives a bound for a pair, no missing bound is for this pair.
 none_missing : (spec : Parts) (i j : ℕ) → gives spec.bounds i j ≡ true → gives (missing_bounds spec) i j ≡ false
 none_missing spec i j some = none_of (missing_bounds spec) i j (all_missing spec (λ (x : Bound). is_for i j x ≡ false)
     (λ k m left right missing. by_bool (is_for i j (least_bound spec k m))
@@ -57,7 +57,7 @@ none_missing spec i j some = none_of (missing_bounds spec) i j (all_missing spec
     (λ f. f)))
 
 module _ (spec : Parts) (made : IsSpec spec) (writable : IsWritable spec) (free : length_refusal spec ≡ None) where
-  -- no required bound would be too long
+  -- The smallest sufficient bound for each pair that requires one is at most 1000 frames.
   pub least_fits : (i j : ConfId) → i.0 < length spec.confs → j.0 < length spec.confs → is_bound_asked spec i j.0 ≡ true → least spec i j ≤ 1000
   least_fits i j left right asked =
       let row : long_refusal_of spec i.0 ≡ None = below_none (long_refusal_of spec) (length spec.confs) i.0 (none_left (long_refusal spec) (wide_refusal (greatest_bound (filled_bounds spec))) free) left in
@@ -93,7 +93,7 @@ module _ (spec : Parts) (made : IsSpec spec) (writable : IsWritable spec) (free 
       apart_few (filled_bounds spec) apart_filled
       (all_weaker (IsBound spec.confs) IsNear (filled_bounds spec) (λ x is. (let from = is.from in omega (arith, from, confs), let to = is.to in omega (arith, to, confs))) filled_fits)
 
-  -- nor would the window
+  -- The window for the greatest filled-in bound is at most 1000 frames.
   pub greatest_fits : greatest_bound (filled_bounds spec) + 1 ≤ 1000
   greatest_fits =
       not_below 1000 (greatest_bound (filled_bounds spec) + 1)

@@ -10,7 +10,7 @@ use Rattle.scram_types.proofs.Naturals.{below_or_at, differ_test}
 use Rattle.fill_form.specs.Filling.{bounds_below, is_bound_missing, least_bound, missing_bound, missing_bounds, missing_from}
 use Rattle.fill_form.proofs.Apart.{Apart, all_append, all_weaker, apart_append, gives, gives_append, gives_cons, is_for, is_for_own, none_of}
 
--- bounds one after another
+-- Lemmas on concatenated lists of bounds.
 
 pub below_more : (bounds : ℕ → List Bound) (n : ℕ) → bounds_below bounds (n + 1) ≡ bounds_below bounds n ++ bounds n
 below_more bounds n = let same : n + 1 ≡ suc n = omega arith in ap (bounds_below bounds) same
@@ -19,7 +19,7 @@ pub all_below : (P : Bound → Type 0) (bounds : ℕ → List Bound) (n : ℕ) �
 all_below P bounds zero each = tt
 all_below P bounds (suc n) each = all_append P (bounds_below bounds n) (bounds n) (all_below P bounds n (λ k less. each k (omega (arith, less)))) (each n (omega arith))
 
--- the bounds of different numbers are for different pairs
+-- If two bounds have different keys, they are for different pairs.
 abbrev Tells : (Bound → ℕ) → Type 0
 Tells key = (x y : Bound) → key x < key y → is_for x.from.0 x.to.0 y ≡ false
 
@@ -47,7 +47,7 @@ other_source x y less = rw (differ_test y.from.0 x.from.0 (λ e. omega (arith, l
 other_target : Tells (λ (x : Bound). x.to.0)
 other_target x y less = right_false (y.from.0 == x.from.0) (y.to.0 == x.to.0) (differ_test y.to.0 x.to.0 (λ e. omega (arith, less, e)))
 
--- one bound or none
+-- Lemmas on a list of one bound or none.
 
 apart_one : (b : Bool) (x : Bound) → Apart (if b then x ∷ [] else [])
 apart_one true x = (refl, tt)
@@ -62,7 +62,7 @@ gives_one true x is = gives_cons x [] x.from.0 x.to.0 ∙ or_left (is_for x.from
 gives_one false x is = absurd (cc)
 
 module _ (spec : Parts) where
-  -- a property of the smallest bound of each missing pair holds for each missing bound
+  -- If a property holds for the smallest sufficient bound of each missing pair, it holds for each missing bound.
   pub all_missing : (P : Bound → Type 0) → ((i j : ℕ) → i < length spec.confs → j < length spec.confs → is_bound_missing spec i j ≡ true → P (least_bound spec i j)) → AllByRecursion P (missing_bounds spec)
   all_missing P each = all_below P (missing_from spec) (length spec.confs) (λ i left. all_below P (missing_bound spec i) (length spec.confs)
       (λ j right. all_one P (is_bound_missing spec i j) (least_bound spec i j) (each i j left right)))

@@ -22,7 +22,7 @@ is_bound_missing spec i j = is_bound_asked spec (conf_id i) j && not (is_some (b
 abbrev pub least_bound : Parts → ℕ → ℕ → Bound
 least_bound spec i j = record { from = conf_id i; to = conf_id j; frames = least spec (conf_id i) (conf_id j) }
 
--- The smallest sufficient bound from `i` to `j` if a bound is required and not given, or the empty list.
+-- The smallest sufficient bound from `i` to `j` if a bound is required and not given, or the empty list otherwise.
 abbrev pub missing_bound : Parts → ℕ → ℕ → List Bound
 missing_bound spec i j = if is_bound_missing spec i j then least_bound spec i j ∷ [] else []
 

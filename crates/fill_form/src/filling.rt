@@ -27,7 +27,7 @@ pub struct Filling {
 ///
 /// # Errors
 ///
-/// Out of memory.
+/// Returns an error if memory runs out.
 pub fn find_filling(alloc: Global, spec: &Spec) -> Result<Filling, NoMemory>
     ensures { IfOk result (λ filling. IsFilling spec.now filling) }
 {

@@ -46,7 +46,7 @@ fn refuse_long_of(spec: &Spec, set: u16, i: u8) -> Option<Shown>
     None
 }
 
-/// Returns the refusal of A10 if the window that the greatest bound requires would be too long, or `None`.
+/// Returns the refusal of A10 if the window that the greatest bound requires would be too long, or `None` otherwise.
 pub(crate) fn refuse_wide(greatest: u32) -> Option<Shown>
     ensures { result ≡ wide_refusal greatest }
 {

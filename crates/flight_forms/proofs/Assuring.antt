@@ -34,7 +34,7 @@ use Rattle.flight_forms.specs.Missions.{UnlessRefused, mission_refusal, refusal_
 use Rattle.flight_forms.specs.Texts.{flight_text, watch_text}
 use Rattle.bank_words.specs.declared.events.Event.{Event}
 
--- if status 0 is answered, the specification and the script make a mission
+-- If the status is 0, the specification and the script form a mission, and the answer is the one for it.
 
 script_zero : (spec : Parts) (script : ScriptParts) (A : ℕ → List ℕ → Type 0) (outside : Option Outside) → Accepts spec → Fits spec script → first_outside spec script ≡ outside
     → (text : List ℕ) → UnlessRefused (script_refusal outside) A ANSWERED text → IsMission (mission_of spec script) × A ANSWERED text
@@ -72,7 +72,8 @@ files_assure law told specification script before after reads text is = specific
     (no_broken_script spec))
     before after reads text is
 
--- a list that is flown as a schedule
+-- If the status of a replay is 0, the list is a whole schedule of the flight, and the text is that of the one-thread
+-- flight.
 
 replayed_zero : (spec : Parts) (script : ScriptParts) (list : List Event) (flown : Result Flown ReplayError) (text : List ℕ) → AnswersReplay spec script list flown
     → Gives (replay_answer spec script flown) ANSWERED text → IsWholeSchedule (flight_of spec script) list × Gives (ANSWERED, flight_text Trace (mission_of spec script)) ANSWERED text
@@ -109,7 +110,7 @@ replay_assures law specification script schedule before after reads text is = sp
     (no_broken_script spec))
     before after reads text is
 
--- missions from a number
+-- Lemmas on missions generated from a number.
 
 gen_assures : (number : ℕ) → IsAssuring (WithoutFiles (GenAnswers number)) (AssuresGen number)
 gen_assures number before after reads text is =

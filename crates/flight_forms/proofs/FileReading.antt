@@ -1,4 +1,4 @@
--- From the script and the schedule in files to the answers to them.
+-- Lemmas that give the answer of a form from the script or the schedule in a file.
 use Rattle.std.proofs.Common.{◌≡◌, ℕ, List, ◌∷◌}
 use Rattle.std.specs.Prelude.{Result}
 use Rattle.scram_types.specs.declared.limits.TheConstants.{MAX_SCRIPT_BYTES}
@@ -16,14 +16,14 @@ use Rattle.form_base.proofs.Reading.{document_reads, refused_reads}
 use Rattle.flight_forms.specs.Documents.{AsksSchedule, AsksScript, BreaksSchedule, BreaksScript, SaysSchedule, SaysScript, long_schedule, long_script}
 use Rattle.bank_words.specs.declared.events.Event.{Event}
 
--- the script was read, and then answered
+-- If the script was read and the answer to it was prepared, the answer to its file is prepared.
 pub script_reads : {U : Type 0} (spec : Parts) (name : List ℕ) (names : List (List ℕ)) (Then : ScriptParts → Answer) (Rest : U → ℕ → List ℕ → Type 0) (value : ScriptParts) (before mid after : FilesState) (result : Result U Refusal)
     → HasRead MAX_SCRIPT_BYTES name (SaysScript spec value) before mid → StaysSteady before mid name → Prepares (Then value) Rest names mid after result
     → Prepares (AsksScript spec name Then) Rest (name ∷ names) before after result
 script_reads {U} spec name names Then Rest value before mid after result has steady finds =
     document_reads (SaysScript spec) (BreaksScript spec) MAX_SCRIPT_BYTES long_script name names Then Rest value before mid after result has steady finds
 
--- the script was not loaded
+-- If the script was not loaded, the refusal is the answer to its file.
 pub script_unread : (spec : Parts) (name : List ℕ) (names : List (List ℕ)) (Then : ScriptParts → Answer) (before after : FilesState) (refusal : Refusal)
     → IsUnloaded (BreaksScript spec) MAX_SCRIPT_BYTES long_script name before after (told refusal) → StaysSteady before after name
     → ((told refusal).0 ≡ UNREAD_FILE → Rose before.faults after.faults)
@@ -31,14 +31,14 @@ pub script_unread : (spec : Parts) (name : List ℕ) (names : List (List ℕ)) (
 script_unread spec name names Then before after refusal is steady unread =
     refused_reads (SaysScript spec) (BreaksScript spec) MAX_SCRIPT_BYTES long_script name names Then before after refusal is steady unread
 
--- the schedule was read, and then answered
+-- If the schedule was read and the answer to it was prepared, the answer to its file is prepared.
 pub schedule_reads : {U : Type 0} (spec : Parts) (name : List ℕ) (names : List (List ℕ)) (Then : List Event → Answer) (Rest : U → ℕ → List ℕ → Type 0) (value : List Event) (before mid after : FilesState) (result : Result U Refusal)
     → HasRead MAX_SCHEDULE_BYTES name (SaysSchedule spec value) before mid → StaysSteady before mid name → Prepares (Then value) Rest names mid after result
     → Prepares (AsksSchedule spec name Then) Rest (name ∷ names) before after result
 schedule_reads {U} spec name names Then Rest value before mid after result has steady finds =
     document_reads (SaysSchedule spec) (BreaksSchedule spec) MAX_SCHEDULE_BYTES long_schedule name names Then Rest value before mid after result has steady finds
 
--- the schedule was not loaded
+-- If the schedule was not loaded, the refusal is the answer to its file.
 pub schedule_unread : (spec : Parts) (name : List ℕ) (names : List (List ℕ)) (Then : List Event → Answer) (before after : FilesState) (refusal : Refusal)
     → IsUnloaded (BreaksSchedule spec) MAX_SCHEDULE_BYTES long_schedule name before after (told refusal) → StaysSteady before after name
     → ((told refusal).0 ≡ UNREAD_FILE → Rose before.faults after.faults)

@@ -1,4 +1,4 @@
--- The maximum numbers of rows and reports in the flight of a script that fits.
+-- Lemmas on the maximum numbers of rows and reports in the flight of a script that fits its specification.
 use Rattle.std.proofs.Common.{◌≤◌, arith, length}
 use Rattle.scram_types.specs.Scripts.{ScriptParts}
 use Rattle.scram_types.specs.Specification.{Parts}

@@ -1,4 +1,4 @@
--- From a specification and a script to the answer to their mission.
+-- Lemmas that give the answer to a mission from its specification and its script.
 use Rattle.std.proofs.Common.{◌≡◌, ◌∙◌, ℕ, List, refl, sym, ap, arith, subst, inl, inr}
 use Rattle.std.specs.Prelude.{◌⊎◌, Option, Some, None, Result, Ok, Err}
 use Rattle.scram_types.specs.Scripts.{ScriptParts}
@@ -21,7 +21,7 @@ use Rattle.flight_forms.specs.Missions.{MakesMission, UnlessRefused, mission_ref
 use Rattle.flight_forms.specs.Replays.{MakesReplay, GivesReplay}
 use Rattle.bank_words.specs.declared.events.Event.{Event}
 
--- if there is no refusal, the answer is the rest
+-- The answer is the refusal if there is one, and the rest of the answer otherwise.
 unless_none : (refusal : Option (ℕ × List ℕ)) (A : ℕ → List ℕ → Type 0) (status : ℕ) (text : List ℕ) → refusal ≡ None → A status text → UnlessRefused refusal A status text
 unless_none refusal A status text none is = rw none is
 
@@ -33,7 +33,7 @@ refused_settles : (refusal : Option (ℕ × List ℕ)) (A : ℕ → List ℕ →
 refused_settles refusal A told (inl some) = inl (unless_some refusal A told some)
 refused_settles refusal A told (inr is) = inr (memory_refusal told is)
 
--- a mission was made, or refused
+-- If the result is a mission or its refusal, the answer to the mission is prepared.
 pub mission_settles : (spec : Parts) (script : ScriptParts) (A : MissionParts → ℕ → List ℕ → Type 0) (result : Result MissionParts Refusal) → MakesMission spec script result
     → PreparesWithoutFiles (UnlessRefused (mission_refusal spec script) (A (mission_of spec script))) A result
 mission_settles spec script A (Ok mission) makes = λ status text is.
@@ -47,7 +47,8 @@ replay_told spec script list replay status text mission_is list_is is =
     subst (λ (m : MissionParts). IsReplayAnswer m.spec m.script list status text) mission_is
     (subst (λ (l : List Event). IsReplayAnswer replay.mission.spec replay.mission.script l status text) list_is is)
 
--- a mission that is flown by a list was made, or refused
+-- If the result is a mission with the list by which it is flown, or its refusal, the answer to the replay is
+-- prepared.
 pub replay_settles : (spec : Parts) (script : ScriptParts) (list : List Event) (result : Result Replay Refusal) → MakesReplay spec script list result
     → PreparesWithoutFiles (UnlessRefused (mission_refusal spec script) (IsReplayAnswer spec script list)) GivesReplay result
 replay_settles spec script list (Ok replay) makes = λ status text is.
@@ -55,7 +56,7 @@ replay_settles spec script list (Ok replay) makes = λ status text is.
 replay_settles spec script list (Err refusal) makes =
     (refused_settles (mission_refusal spec script) (IsReplayAnswer spec script list) (told refusal) makes.0, makes.1)
 
--- a list that does not fly to the end was refused
+-- If a replay ends with an error and its refusal was printed, the answer to the replay was printed.
 pub replay_refused : (spec : Parts) (script : ScriptParts) (list : List Event) (error : ReplayError) (answer : ℕ × List ℕ) (old new : SinkState) (code : ℕ)
     → AnswersReplay spec script list (Err error) → answer ≡ replay_refusal spec error → IsTaken old new code answer.0 answer.1 → Tells (IsReplayAnswer spec script list) old new code
 replay_refused spec script list (replay_error.Illegal index given next) answer old new code answers is taken =

@@ -26,11 +26,12 @@ use Rattle.bank_words.specs.declared.events.Event.{Event}
 abbrev pub GivesFlight : (MissionParts → List ℕ) → MissionParts → ℕ → List ℕ → Type 0
 GivesFlight text mission = Gives (ANSWERED, text mission)
 
--- The answer after a specification and a script have been read, where `text` gives the text of their mission.
+-- The answer after a specification and a script have been read, given `text`, which is the text of their mission.
 abbrev pub ScriptAnswers : (MissionParts → List ℕ) → Parts → ScriptParts → Answer
 ScriptAnswers text spec script = WithoutFiles (UnlessRefused (mission_refusal spec script) (GivesFlight text (mission_of spec script)))
 
--- The answer to the names of the files of a specification and a script, where `text` gives the text of their mission.
+-- The answer to the names of the files of a specification and a script, given `text`, which is the text of their
+-- mission.
 abbrev pub FlightAnswers : (MissionParts → List ℕ) → List ℕ → List ℕ → Answer
 FlightAnswers text specification script = AsksSpecification specification (λ (spec : Parts). AsksScript spec script (ScriptAnswers text spec))
 
@@ -38,8 +39,8 @@ FlightAnswers text specification script = AsksSpecification specification (λ (s
 abbrev pub RunAnswers : List ℕ → List ℕ → Answer
 RunAnswers = FlightAnswers (flight_text Trace)
 
--- The answer of `pair` to the names of the files of a specification and a script. It is the answer of `run`, whatever
--- halt of a unit is requested.
+-- The answer of `pair` to the names of the files of a specification and a script. It is the answer of `run`, and does
+-- not depend on the halt of a unit.
 abbrev pub PairAnswers : List ℕ → List ℕ → Answer
 PairAnswers = RunAnswers
 

@@ -25,7 +25,7 @@ abbrev pub refusal_by : Parts → ScriptParts → Option Shown → Option (ℕ �
 refusal_by spec script (Some shown) = Some (NOT_ACCEPTED, shown_line spec shown)
 refusal_by spec script None = script_refusal (first_outside spec script)
 
--- The refusal of a specification and a script for it, or `None` if they make a mission.
+-- The refusal of a specification and a script for it, or `None` if the two form a mission.
 abbrev pub mission_refusal : Parts → ScriptParts → Option (ℕ × List ℕ)
 mission_refusal spec script = refusal_by spec script (first_refusal spec)
 

@@ -26,7 +26,13 @@ pub struct MissionFiles<'a> {
     pub script: &'a str,
 }
 
-/// Reads the specification and the script, and returns their mission, or the refusal if they make none.
+/// Reads the specification and the script, and returns their mission.
+///
+/// # Errors
+///
+/// Returns the refusal of the first file that is not read, is too long or breaks a rule. Returns a refusal if the
+/// specification is not accepted or the script leaves its failure assumption, and the out-of-memory refusal if memory
+/// runs out.
 pub fn read_mission<F: Files>(
     alloc: Global,
     named: MissionFiles<'_>,
@@ -59,8 +65,12 @@ fn read_script<F: Files>(
     }
 }
 
-/// Returns the mission of a specification and a script that fits it. Returns a refusal if the specification is not
-/// accepted or the script leaves its failure assumption.
+/// Returns the mission of a specification and a script that fits it.
+///
+/// # Errors
+///
+/// Returns a refusal if the specification is not accepted or the script leaves its failure assumption, and the
+/// out-of-memory refusal if memory runs out.
 pub fn make_mission(alloc: Global, spec: Spec, script: Script) -> Result<Mission, Refusal>
     requires { Fits spec script }
     ensures { MakesMission spec script result }

@@ -1,4 +1,4 @@
--- Each answer with status 0 is assured.
+-- Each answer of `flights` with status 0 gives the assurance of the form.
 use Rattle.std.proofs.Common.{◌≡◌, ◌∙◌, ◌+◌, sym, ◌-◌, ◌-ℤ◌, pos, ap, arith, ℕ, zero, suc, List, [], ◌∷◌, refl, subst, inl, inr}
 use Rattle.std.specs.Prelude.{Option, Some, None, Result, Ok, Err, slice_get}
 use Rattle.scram_types.specs.Scripts.{ScriptParts}
@@ -35,7 +35,7 @@ use Rattle.flights_form.proofs.Kept.{gap_kept, gap_total_kept, margin_kept, marg
 use Rattle.flights_form.specs.Outcomes.{AreOutcomes, IsOutcome, outcome_read, outcome_within}
 use Rattle.flights_form.specs.Scripts.{BreaksScripts, SaysScripts, lines_of}
 
--- the outcome of the line at an index
+-- If the outcomes are those of the lines, outcome `k` is the outcome of line `k`.
 outcome_at : (spec : Parts) (lines : List (List ℕ)) (outcomes : List Outcome) (k : ℕ) (line : List ℕ) (outcome : Outcome) → AreOutcomes spec lines outcomes
     → slice_get lines k ≡ Some line → slice_get outcomes k ≡ Some outcome → IsOutcome spec line outcome
 outcome_at spec [] [] k line outcome are there that = absurd (let e = there in cc)
@@ -47,7 +47,8 @@ outcome_at spec (l ∷ lines) (o ∷ outcomes) zero line outcome are there that 
     subst (λ (x : List ℕ). IsOutcome spec x outcome) same_line (subst (λ (x : Outcome). IsOutcome spec l x) same are.0)
 outcome_at spec (l ∷ lines) (o ∷ outcomes) (suc k) line outcome are there that = outcome_at spec lines outcomes k line outcome are.1 there that
 
--- the facts of a mission hold for each of its reconfigurations and applications
+-- The facts of a mission bound the margin of each of its finished reconfigurations and the gap of each of its
+-- applications.
 
 margin_of_finished : (spec : Parts) (reports : List Report) (k : ℕ) (report : Report) (to : ConfId) → slice_get reports k ≡ Some report → report.to ≡ Some to → KeepsSp3 spec report
     → KeepsMargin spec (least_margin spec reports) report to
@@ -58,7 +59,7 @@ margin_of_finished spec reports k report to there finished keeps =
     ap (λ (o : Option ConfId). margin_to report o (bound_of spec report)) finished ∙ ap (λ (o : Option ℕ). margin_to report (Some to) o) bound in
     record { bound = keeps.bound; given = given; kept = margin_kept spec reports k report _ there is }
 
--- a line that was flown is a mission
+-- A line that was flown is the script of a mission, and its facts are assured.
 
 within_assured : ReconfigurationsAreAssured → (spec : Parts) → IsSpec spec → Accepts spec → (line : List ℕ) (script : ScriptParts) (facts : FlightFacts) (outside : Option Outside)
     → script_of spec line ≡ Ok script → first_outside spec script ≡ outside → Flown facts ≡ outcome_within spec script outside → IsAssuredFlight spec line facts
@@ -88,7 +89,7 @@ outcome_assured : ReconfigurationsAreAssured → (spec : Parts) → IsSpec spec 
 outcome_assured law spec sound accepts line facts (inl same) = read_assured law spec sound accepts line facts (script_of spec line) refl same
 outcome_assured law spec sound accepts line facts (inr same) = absurd (let e = same in cc)
 
--- all lines
+-- Lemmas on all lines of a file.
 
 accepted_zero : (spec : Parts) (scripts : List ℕ) (shown : Option Shown) (text : List ℕ) → UnlessRefused (acceptance_refusal spec shown) (GivesFlights spec scripts) ANSWERED text
     → (shown ≡ None) × GivesFlights spec scripts ANSWERED text

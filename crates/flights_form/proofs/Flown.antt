@@ -1,4 +1,4 @@
--- From one line of a file to the next.
+-- Lemmas on flying the lines of a file in order.
 use Rattle.std.proofs.Common.{◌≡◌, ◌∙◌, ℕ, ◌+◌, List, [], ◌∷◌, ◌++◌, arith, length, append_assoc, append-nil, refl, sym, ap, map, subst, inl}
 use Rattle.std.specs.Prelude.{Result, Ok, Err}
 use Rattle.form_base.specs.declared.status.TheConstants.{ANSWERED}
@@ -18,7 +18,7 @@ use Rattle.flights_form.specs.Scripts.{lines_of}
 use Rattle.flights_form.specs.Totals.{totals_of, with_outcome}
 use Rattle.flights_form.proofs.Summed.{totals_more}
 
--- the outcomes of lines, and of those after them
+-- The outcomes of two lists of lines, concatenated, are the outcomes of the concatenated lines.
 are_both : (spec : Parts) (front behind : List (List ℕ)) (outcomes others : List Outcome) → AreOutcomes spec front outcomes → AreOutcomes spec behind others
     → AreOutcomes spec (front ++ behind) (outcomes ++ others)
 are_both spec [] behind [] others first second = second
@@ -26,12 +26,12 @@ are_both spec [] behind (outcome ∷ outcomes) others first second = absurd firs
 are_both spec (line ∷ front) behind [] others first second = absurd first
 are_both spec (line ∷ front) behind (outcome ∷ outcomes) others first second = (first.0, are_both spec front behind outcomes others first.1 second)
 
--- the outcomes of lines that are not yet flown
+-- The outcomes that `outcome_of` gives for lines are outcomes of these lines.
 all_come : (spec : Parts) (lines : List (List ℕ)) → AreOutcomes spec lines (map (outcome_of spec) lines)
 all_come spec [] = tt
 all_come spec (line ∷ lines) = (inl refl, all_come spec lines)
 
--- the lines for flights, and for those after them
+-- The text for concatenated outcomes is the text for the first outcomes, followed by the text for the others.
 lines_both : (spec : Parts) (k : ℕ) (outcomes others : List Outcome) → outcome_lines spec k (outcomes ++ others) ≡ outcome_lines spec k outcomes ++ outcome_lines spec (k + length outcomes) others
 lines_both spec k [] others = let same : k ≡ k + 0 = omega arith in ap (λ (n : ℕ). outcome_lines spec n others) same
 lines_both spec k (outcome ∷ outcomes) others =
@@ -40,7 +40,8 @@ lines_both spec k (outcome ∷ outcomes) others =
     (lines_both spec (k + 1) outcomes others ∙ ap (λ (n : ℕ). outcome_lines spec (k + 1) outcomes ++ outcome_lines spec n others) same)
     ∙ sym (append_assoc (outcome_line spec k outcome) (outcome_lines spec (k + 1) outcomes) (outcome_lines spec (k + length (outcome ∷ outcomes)) others))
 
--- the lines for flights, for the next one, and for all others
+-- The text for all outcomes consists of the text for the first outcomes, the line for the next one, and the text for
+-- the others.
 lines_at : (spec : Parts) (outcomes others : List Outcome) (outcome : Outcome) (totals : Totals) → totals ≡ totals_of outcomes
     → outcome_lines spec 0 (outcomes ++ outcome ∷ others) ≡ (outcome_lines spec 0 outcomes ++ outcome_line spec totals.lines outcome) ++ outcome_lines spec (length outcomes + 1) others
 lines_at spec outcomes others outcome totals are =
@@ -49,11 +50,11 @@ lines_at spec outcomes others outcome totals are =
     ∙ sym (append_assoc (outcome_lines spec 0 outcomes) (outcome_line spec (length outcomes) outcome) (outcome_lines spec (length outcomes + 1) others))
     ∙ ap (λ (n : ℕ). (outcome_lines spec 0 outcomes ++ outcome_line spec n outcome) ++ outcome_lines spec (length outcomes + 1) others) (sym (ap (λ (t : Totals). t.lines) are))
 
--- no line was flown
+-- Before the first line, no line was flown and nothing was printed.
 pub flown_none : (spec : Parts) (bytes : List ℕ) (old new : SinkState) → Printed old new [] → IsFlownTo spec bytes bytes (totals_of []) old new
 flown_none spec bytes old new printed = record { front = []; outcomes = []; parts = refl; answers = tt; totals_are = refl; printed = printed }
 
--- the next line was flown, and the line for it was printed
+-- If the next line was flown and the line for its outcome was printed, the lines up to this one were flown.
 pub flown_next : (spec : Parts) (bytes rest line behind : List ℕ) (totals : Totals) (outcome : Outcome) (old mid new : SinkState) → IsFlownTo spec bytes rest totals old mid
     → lines_of rest ≡ line ∷ lines_of behind → IsOutcome spec line outcome → Printed mid new (outcome_line spec totals.lines outcome)
     → IsFlownTo spec bytes behind (with_outcome totals outcome) old new
@@ -68,7 +69,7 @@ flown_next spec bytes rest line behind totals outcome old mid new flown split co
       (printed_more old mid new (outcome_lines spec 0 flown.outcomes) (outcome_line spec totals.lines outcome) flown.printed printed);
 }
 
--- the next line was flown, and the line for it was cut off
+-- If the next line was flown and the line for its outcome was cut off, the text for all lines was cut off.
 pub flown_cut : (spec : Parts) (bytes rest line behind : List ℕ) (totals : Totals) (outcome : Outcome) (fault : SinkFault) (old mid new : SinkState) → IsFlownTo spec bytes rest totals old mid
     → lines_of rest ≡ line ∷ lines_of behind → IsOutcome spec line outcome → CutOff mid new (outcome_line spec totals.lines outcome)
     → PrintsLines spec bytes (Err fault) old new
@@ -83,7 +84,7 @@ flown_cut spec bytes rest line behind totals outcome fault old mid new flown spl
           (outcome_lines spec (length flown.outcomes + 1) others) (lines_at spec flown.outcomes others outcome totals flown.totals_are) flown.printed cut;
     }
 
--- all lines were flown
+-- If no line is left, all lines were flown and the lines for their outcomes were printed.
 pub flown_all : (spec : Parts) (bytes rest : List ℕ) (totals : Totals) (old new : SinkState) → IsFlownTo spec bytes rest totals old new → lines_of rest ≡ [] → PrintsLines spec bytes (Ok totals) old new
 flown_all spec bytes rest totals old new flown none = record {
   outcomes = flown.outcomes;
@@ -92,7 +93,7 @@ flown_all spec bytes rest totals old new flown none = record {
   prints = (flown.totals_are, flown.printed);
 }
 
--- the text of the outcomes of all lines was printed
+-- If all lines were flown and the text of their outcomes was printed or cut off, the answer was printed or cut off.
 pub series_tells : {A E : Type 0} (spec : Parts) (scripts : List ℕ) (result : Result A E) (old new : SinkState) (code : ℕ) → code ≡ status_after result ANSWERED
     → PrintsFlights spec scripts result old new → Tells (GivesFlights spec scripts) old new code
 series_tells {A} {E} spec scripts result old new code same prints = rw same (record {

@@ -1,4 +1,4 @@
--- The longest gap of the applications from one on.
+-- Lemmas on the longest gap of the applications from application `a` on.
 use Rattle.std.proofs.Common.{◌≡◌, ◌∙◌, ◌<◌, ◌≤◌, ◌+◌, ◌-◌, ℕ, zero, suc, List, [], ◌∷◌, arith, drop, length, refl, sym}
 use Rattle.std.specs.Prelude.{Option}
 use Rattle.scram_types.specs.declared.rows.Row.{Row}
@@ -12,7 +12,8 @@ at_app rows a i [] below = absurd (omega (arith, below))
 at_app rows a zero (app ∷ apps) below = refl
 at_app rows a (suc i) (app ∷ apps) below = at_app rows a i apps (omega (arith, below))
 
--- an application, and those after it
+-- The longer of the gap of application `a - 1` and the longest gap from application `a` on is the longest gap from
+-- application `a - 1` on.
 pub gap_before : (rows : List Row) (a : ℕ) (apps : List AppSpec) (so_far found : Option AppGap) → 0 < a → a ≤ length apps → so_far ≡ greatest_gap rows a (drop a apps)
     → found ≡ greater_gap (gap_of_app rows (a - 1)) so_far → found ≡ greatest_gap rows (a - 1) (drop (a - 1) apps)
 gap_before rows a apps so_far found some most known is =

@@ -20,7 +20,7 @@ use Rattle.flights_form.specs.Assurance.{IsAtLeastIn, IsAtLeastOf, IsAtMostIn, I
 use Rattle.flights_form.specs.Facts.{gap_of_app, greater_gap, greatest_gap, least_margin, lesser_margin, margin_in}
 use Rattle.flights_form.specs.Totals.{gap_in_flight, greater_in_flight, greatest_in_flights, least_in_flights, lesser_in_flight, margin_in_flight}
 
--- the smaller of two margins
+-- Lemmas on the smaller of two margins.
 
 margin_picked : (first later : Margin) (t : Bool) → int_lt later.frames first.frames ≡ t → IsAtMostOf (if t then Some later else Some first) first.frames
 margin_picked first later true is = record { margin = later; is = refl; at_most = omega (arith, ints) }
@@ -45,7 +45,7 @@ margin_second (Some first) (Some later) n is =
     let known = is.at_most in
     margin_weaker (lesser_margin (Some first) (Some later)) later.frames n (rw same known) (margin_picked_later first later (int_lt later.frames first.frames) refl)
 
--- the minimum margin of a flight is at most that of each of its reconfigurations
+-- The minimum margin of a flight is at most the margin of each of its reconfigurations.
 pub margin_kept : (spec : Parts) (reports : List Report) (k : ℕ) (report : Report) (margin : Margin) → slice_get reports k ≡ Some report → margin_in spec report ≡ Some margin
     → IsAtMostOf (least_margin spec reports) margin.frames
 margin_kept spec [] k report margin there is = absurd (let e = there in cc)
@@ -55,7 +55,7 @@ margin_kept spec (first ∷ reports) zero report margin there is =
 margin_kept spec (first ∷ reports) (suc k) report margin there is =
     margin_second (margin_in spec first) (least_margin spec reports) margin.frames (margin_kept spec reports k report margin there is)
 
--- the longer of two gaps
+-- Lemmas on the longer of two gaps.
 
 gap_picked : (first later : AppGap) (t : Bool) → nat_lt first.gap.frames later.gap.frames ≡ t → IsAtLeastOf (if t then Some later else Some first) first.gap.frames
 gap_picked first later true is = record { gap = later; is = refl; at_least = grind arith }
@@ -80,7 +80,7 @@ gap_second (Some first) (Some later) n is =
     let known = is.at_least in
     gap_weaker (greater_gap (Some first) (Some later)) later.gap.frames n (rw same known) (gap_picked_later first later (nat_lt first.gap.frames later.gap.frames) refl)
 
--- the longest gap of a flight is at least that of each application
+-- The longest gap of a flight is at least the gap of each application.
 pub gap_kept : (rows : List Row) (a i : ℕ) (apps : List AppSpec) (gap : Gap) → i < length apps → longest_gap (a + i) 0 rows ≡ Some gap
     → IsAtLeastOf (greatest_gap rows a apps) gap.frames
 gap_kept rows a i [] gap below is = absurd (omega (arith, below))
@@ -93,7 +93,7 @@ gap_kept rows a (suc i) (app ∷ apps) gap below is =
     let next : a + suc i ≡ a + 1 + i = omega arith in
     gap_second (gap_of_app rows a) (greatest_gap rows (a + 1) apps) gap.frames (gap_kept rows (a + 1) i apps gap (omega (arith, below)) (rw next at is))
 
--- the smaller of two flights' margins
+-- Lemmas on the smaller of the margins of two flights.
 
 in_flight_picked : (first later : FlightMargin) (t : Bool) → int_lt later.frames first.frames ≡ t → IsAtMostIn (if t then Some later else Some first) first.frames
 in_flight_picked first later true is = record { margin = later; is = refl; at_most = omega (arith, ints) }
@@ -118,7 +118,7 @@ in_flight_second (Some first) (Some later) n is =
     let known = is.at_most in
     in_flight_weaker (lesser_in_flight (Some first) (Some later)) later.frames n (rw same known) (in_flight_picked_later first later (int_lt later.frames first.frames) refl)
 
--- the minimum margin of all flights is at most that of each flight
+-- The minimum margin of all flights is at most the minimum margin of each flight.
 pub margin_total_kept : (n : ℕ) (outcomes : List Outcome) (k : ℕ) (facts : FlightFacts) (margin : Margin) → slice_get outcomes k ≡ Some (Flown facts) → facts.margin ≡ Some margin
     → IsAtMostIn (least_in_flights n outcomes) margin.frames
 margin_total_kept n [] k facts margin there is = absurd (let e = there in cc)
@@ -130,7 +130,7 @@ margin_total_kept n (first ∷ outcomes) zero facts margin there is =
 margin_total_kept n (first ∷ outcomes) (suc k) facts margin there is =
     in_flight_second (margin_in_flight n first) (least_in_flights (n + 1) outcomes) margin.frames (margin_total_kept (n + 1) outcomes k facts margin there is)
 
--- the longer of two flights' gaps
+-- Lemmas on the longer of the gaps of two flights.
 
 gap_in_picked : (first later : FlightGap) (t : Bool) → nat_lt first.frames later.frames ≡ t → IsAtLeastIn (if t then Some later else Some first) first.frames
 gap_in_picked first later true is = record { gap = later; is = refl; at_least = grind arith }
@@ -155,7 +155,7 @@ gap_in_second (Some first) (Some later) n is =
     let known = is.at_least in
     gap_in_weaker (greater_in_flight (Some first) (Some later)) later.frames n (rw same known) (gap_in_picked_later first later (nat_lt first.frames later.frames) refl)
 
--- the longest gap of all flights is at least that of each flight
+-- The longest gap of all flights is at least the longest gap of each flight.
 pub gap_total_kept : (n : ℕ) (outcomes : List Outcome) (k : ℕ) (facts : FlightFacts) (gap : AppGap) → slice_get outcomes k ≡ Some (Flown facts) → facts.gap ≡ Some gap
     → IsAtLeastIn (greatest_in_flights n outcomes) gap.gap.frames
 gap_total_kept n [] k facts gap there is = absurd (let e = there in cc)

@@ -1,4 +1,4 @@
--- The totals of some lines, and with the next line.
+-- Including the outcome of the next line in the totals gives the totals of all lines up to this one.
 use Rattle.std.proofs.Common.{◌≡◌, ◌∙◌, ℕ, ◌+◌, ◌≤◌, Bool, true, false, List, [], ◌∷◌, ◌++◌, arith, length, refl, sym, ap}
 use Rattle.std.proofs.lemmas.Int.{ints}
 use Rattle.std.proofs.lemmas.List.Sums.{count_by-le-length, sum_by-append}
@@ -10,7 +10,7 @@ use Rattle.flights_form.specs.declared.totals.FlightMargin.{FlightMargin}
 use Rattle.flights_form.specs.declared.totals.Totals.{Totals}
 use Rattle.flights_form.specs.Totals.{gap_in_flight, greater_in_flight, greatest_in_flights, is_refused, least_in_flights, lesser_in_flight, margin_in_flight, totals_of, with_outcome}
 
--- the smaller of margins
+-- Lemmas on the smaller of several margins.
 
 lesser_none : (a : Option FlightMargin) → lesser_in_flight a None ≡ a
 lesser_none None = refl
@@ -45,7 +45,7 @@ least_more k (first ∷ outcomes) outcome =
     ∙ sym (lesser_assoc (margin_in_flight k first) (least_in_flights (k + 1) outcomes) (margin_in_flight (k + 1 + length outcomes) outcome))
     ∙ ap (λ (n : ℕ). lesser_in_flight (least_in_flights k (first ∷ outcomes)) (margin_in_flight n outcome)) same
 
--- the longer of gaps
+-- Lemmas on the longer of several gaps.
 
 greater_none : (a : Option FlightGap) → greater_in_flight a None ≡ a
 greater_none None = refl
@@ -80,7 +80,7 @@ greatest_more k (first ∷ outcomes) outcome =
     ∙ sym (greater_assoc (gap_in_flight k first) (greatest_in_flights (k + 1) outcomes) (gap_in_flight (k + 1 + length outcomes) outcome))
     ∙ ap (λ (n : ℕ). greater_in_flight (greatest_in_flights k (first ∷ outcomes)) (gap_in_flight n outcome)) same
 
--- the numbers
+-- Lemmas on the numbers of lines and of refused lines.
 
 one_refused : (b : Bool) (n m : ℕ) → m ≡ n + (0 + (if b then 1 else 0)) → m ≡ n + (if b then 1 else 0)
 one_refused true n m same = omega (arith, same)
@@ -99,7 +99,7 @@ totals_same : (lines others refused rejected : ℕ) (margin least : Option Fligh
     → (a b : Totals) → a ≡ record { lines = lines; refused = refused; margin = margin; gap = gap } → b ≡ record { lines = others; refused = rejected; margin = least; gap = greatest } → a ≡ b
 totals_same lines others refused rejected margin least gap greatest e f g h a b is that = cc
 
--- the totals with the next line
+-- Including an outcome in the totals of the outcomes before it gives the totals of all of them.
 pub totals_more : (outcomes : List Outcome) (outcome : Outcome) → totals_of (outcomes ++ outcome ∷ []) ≡ with_outcome (totals_of outcomes) outcome
 totals_more outcomes outcome =
     let from_first : 0 + length outcomes ≡ length outcomes = omega arith in
@@ -107,6 +107,6 @@ totals_more outcomes outcome =
     (rw from_first at (least_more 0 outcomes outcome)) (rw from_first at (greatest_more 0 outcomes outcome))
     (totals_of (outcomes ++ outcome ∷ [])) (with_outcome (totals_of outcomes) outcome) refl refl
 
--- the number of refused lines is at most that of lines
+-- The number of refused lines is at most the number of lines.
 pub few_refused : (outcomes : List Outcome) → (totals_of outcomes).refused ≤ (totals_of outcomes).lines
 few_refused outcomes = count_by-le-length is_refused outcomes

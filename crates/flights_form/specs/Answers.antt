@@ -39,7 +39,7 @@ pub record IsFlightsText (spec : Parts) (scripts text : List ℕ) : Type 0 where
 abbrev pub GivesFlights : Parts → List ℕ → ℕ → List ℕ → Type 0
 GivesFlights spec scripts status text = (status ≡ ANSWERED) × IsFlightsText spec scripts text
 
--- The refusal of a specification, or `None` if the specification is accepted.
+-- The refusal of a specification, given its first refusal if there is one, or `None` if the specification is accepted.
 abbrev pub acceptance_refusal : Parts → Option Shown → Option (ℕ × List ℕ)
 acceptance_refusal spec None = None
 acceptance_refusal spec (Some shown) = Some (NOT_ACCEPTED, shown_line spec shown)

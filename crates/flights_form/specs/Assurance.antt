@@ -57,7 +57,7 @@ pub record KeepsMargin (spec : Parts) (told : Option Margin) (report : Report) (
   pub given : bound_in spec.bounds report.from.0 to.0 ≡ Some bound
   pub kept : IsAtMostOf told (pos bound -ℤ pos (report.end - report.begin))
 
--- The line is a script that makes a mission with the specification, and `facts` are the facts of the mission's
+-- The line is a script that forms a mission with the specification, and `facts` are the facts of the mission's
 -- one-thread flight. The properties of reconfigurations hold for the flight's rows and reports. No finished
 -- reconfiguration has a smaller margin than the facts report, and no application has a longer gap.
 pub record IsAssuredFlight (spec : Parts) (line : List ℕ) (facts : FlightFacts) : Type 0 where
@@ -71,7 +71,7 @@ pub record IsAssuredFlight (spec : Parts) (line : List ℕ) (facts : FlightFacts
   pub gaps : (a : ℕ) (gap : Gap) → a < length spec.apps → longest_gap a 0 (rows_of spec script) ≡ Some gap → IsAtLeastOf facts.gap gap.frames
 
 -- The specification is accepted, and the text is that of the outcomes of the lines, one for each. Each line that was
--- flown is assured. None of them has a smaller margin or a longer gap than the totals report.
+-- flown is assured. No line that was flown has a smaller margin or a longer gap than the totals report.
 pub record AreAssuredFlights (spec : Parts) (scripts text : List ℕ) : Type 0 where
   pub accepts : Accepts spec
   pub outcomes : List Outcome
@@ -91,6 +91,6 @@ AssuresFlights specification scripts =
     OfSpecification specification (λ (spec : Parts). OfDocument SaysScripts scripts (λ (bytes : List ℕ) (reads : History) (text : List ℕ).
     (reads ≡ []) × AreAssuredFlights spec bytes text))
 
--- Each answer of `flights` with status 0 is assured.
+-- Each answer of `flights` with status 0 gives the assurance of the form.
 abbrev pub SeriesAreAssured : Type 0
 SeriesAreAssured = (specification scripts : List ℕ) → IsAssuring (FlightsAnswers specification scripts) (AssuresFlights specification scripts)

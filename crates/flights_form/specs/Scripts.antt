@@ -20,10 +20,10 @@ lines_of bytes = without_empty_last (pieces_of 10 bytes)
 abbrev pub SaysScripts : List ℕ → List ℕ → Type 0
 SaysScripts scripts bytes = scripts ≡ bytes
 
--- No bytes are refused as a file of scripts, except for their number.
+-- No bytes break a rule of files of scripts. A file is refused only if it has too many bytes.
 abbrev pub BreaksScripts : ℕ × List ℕ → List ℕ → Type 0
 BreaksScripts refusal bytes = ⊥
 
--- The answer to the name of a file of scripts, where the last argument gives the answer to the bytes of the file.
+-- The answer to the name of a file of scripts, given the answer to the bytes of the file.
 abbrev pub AsksScripts : List ℕ → (List ℕ → Answer) → Answer
 AsksScripts name Then = AnswersFile MAX_SCRIPTS_BYTES long_script name (AnswersDocument SaysScripts BreaksScripts Then)

@@ -20,7 +20,11 @@ use scram_types::List;
 use std::alloc::Global;
 use trace_text::pieces::split_once;
 
-/// Loads the file of scripts with this name, or returns the refusal if it cannot be read or is too long.
+/// Loads the file of scripts with this name.
+///
+/// # Errors
+///
+/// Returns a refusal if the file cannot be read or is too long, and the out-of-memory refusal if memory runs out.
 pub fn load_scripts<F: Files>(alloc: Global, name: &str, files: &mut F) -> Result<List<u8>, Refusal>
     ensures loads { Loads SaysScripts BreaksScripts MAX_SCRIPTS_BYTES long_script name.now (F.state files.old) (F.state files.new) result }
     ensures few { IfOk result (λ scripts. length scripts ≤ MAX_SCRIPTS_BYTES) }
@@ -54,7 +58,8 @@ pub fn next_line(bytes: &[u8]) -> Option<(&[u8], &[u8])>
     }
 }
 
-// Returns the last line of a file, which no line feed ends, with an empty rest, or `None` if there are no bytes.
+// Returns the last line of a file, which does not end with a line feed, and no further bytes, or `None` if there are
+// no bytes.
 fn last_line(bytes: &[u8]) -> Option<(&[u8], &[u8])>
     requires { pieces_of 10 bytes.now ≡ bytes.now ∷ [] }
     ensures lines { MatchOption result (lines_of bytes.now ≡ []) (λ parts. lines_of bytes.now ≡ parts.0.now ∷ lines_of parts.1.now) }

@@ -33,6 +33,11 @@ pub struct Series {
 }
 
 /// Reads the specification and the file of scripts, and checks that the specification is accepted.
+///
+/// # Errors
+///
+/// Returns a refusal if a file cannot be read or is too long, or if the specification breaks a rule or is not
+/// accepted. Returns the out-of-memory refusal if memory runs out.
 pub fn read_series<F: Files>(
     alloc: Global,
     named: ScriptsFiles<'_>,

@@ -1,4 +1,4 @@
--- The result of a form, from the text that it printed.
+-- Lemmas that give the result of a form from the text that it printed.
 use Rattle.std.proofs.Common.{◌≡◌, ℕ, ◌-◌, ◌<◌, ◌≤◌, List, [], ◌++◌, length, append_assoc, append-nil, refl, sym, ◌∙◌, ap, inl, inr, arith}
 use Rattle.std.specs.Prelude.{◌≢◌, Option, Some, None, Result, Ok, Err, IfSome, IsTrue, ◌⊎◌}
 use Rattle.scram_io.specs.Outside.{Agrees, CutOff, FileMap, FilesState, Flushed, History, Printed, Prints, Rose, SinkState, TakesSurely, Took, TookPrefix, Unrisen, taken}
@@ -11,31 +11,33 @@ use Rattle.form_base.specs.Endings.{AreInTurn, AreThere, Completes, Decides, End
 use Rattle.form_base.specs.Refusals.{code_of, memory_line}
 use Rattle.form_base.specs.Telling.{status_after}
 
--- a text that was printed whole, with its status
+-- If a text was printed whole, the sink took it, and the code is its status.
 pub printed_taken : (status : ℕ) (text : List ℕ) (old new : SinkState) → Printed old new text → IsTaken old new status status text
 printed_taken status text old new printed = record { shown = inl (refl, printed.whole); surely = printed.surely; count = printed.count }
 
--- a text that was cut off, with the status of output that was not written
+-- If a text was cut off, the sink took a prefix of it, and the code is the status of unwritten output.
 pub cut_taken : (status : ℕ) (text : List ℕ) (old new : SinkState) → CutOff old new text → IsTaken old new UNWRITTEN_OUTPUT status text
 cut_taken status text old new cut = record { shown = inr (refl, cut.prefix, cut.rose); surely = cut.surely; count = cut.count }
 
--- a text was written, with its status if the sink did not fail
+-- If a text was written, the sink took it or a prefix of it. The code is the status of the text if the sink did not
+-- fail, or that of unwritten output.
 pub put_taken : {A E : Type 0} (put : Result A E) (status : ℕ) (text : List ℕ) (old new : SinkState) → Prints put old new text → IsTaken old new (status_after put status) status text
 put_taken {A} {E} (Ok _) status text old new printed = printed_taken status text old new printed
 put_taken {A} {E} (Err _) status text old new cut = cut_taken status text old new cut
 
--- a text of status 0 was printed
+-- If the sink took a text of status 0, it took the answer that has this text.
 pub answered_tells : (text : List ℕ) (old new : SinkState) (code : ℕ) → IsTaken old new code ANSWERED text → Tells (Gives (ANSWERED, text)) old new code
 answered_tells text old new code taken =
     record { status = ANSWERED; text = text; answer = inl refl; read = λ same. absurd (omega (arith, same)); written = λ same. absurd (omega (arith, same)); taken = taken }
 
--- a status and a text that were given were printed
+-- If the sink took a text, it took the answer that has this text and its status. The status is neither that of an
+-- unread file nor that of unwritten output.
 pub given_tells : (status : ℕ) (text : List ℕ) (old new : SinkState) (code : ℕ) → status ≢ UNREAD_FILE → status ≢ UNWRITTEN_OUTPUT
     → IsTaken old new code status text → Tells (Gives (status, text)) old new code
 given_tells status text old new code read written taken =
     record { status = status; text = text; answer = inl refl; read = read; written = written; taken = taken }
 
--- the out-of-memory line was printed
+-- If the sink took the out-of-memory line, the result is correct for every answer.
 pub memory_tells : (A : ℕ → List ℕ → Type 0) (old new : SinkState) (code : ℕ) → IsTaken old new code OUT_OF_MEMORY memory_line → Tells A old new code
 memory_tells A old new code taken =
     record { status = OUT_OF_MEMORY; text = memory_line; answer = inr (refl, refl); read = λ same. absurd (omega (arith, same)); written = λ same. absurd (omega (arith, same)); taken = taken }
@@ -45,7 +47,8 @@ told_other : (A B : ℕ → List ℕ → Type 0) (status : ℕ) (text : List ℕ
 told_other A B status text turn (inl is) = inl (turn is)
 told_other A B status text turn (inr is) = inr is
 
--- one answer replaced by another
+-- If each status and text with which `A` answers is also an answer by `B`, then a printed answer by `A` is a printed
+-- answer by `B`.
 pub tells_other : (A B : ℕ → List ℕ → Type 0) (old new : SinkState) (code : ℕ) → ((status : ℕ) (text : List ℕ) → A status text → B status text)
     → Tells A old new code → Tells B old new code
 tells_other A B old new code turn tells = record {
@@ -57,7 +60,7 @@ tells_other A B old new code turn tells = record {
   taken = tells.taken;
 }
 
--- no refusal has the status of output that was not written
+-- No refusal has the status of unwritten output.
 refusal_written : (refused : Refused) → code_of refused ≢ UNWRITTEN_OUTPUT
 refusal_written Usage same = absurd (omega (arith, same))
 refusal_written File same = absurd (omega (arith, same))
@@ -70,7 +73,7 @@ refusal_written Trace same = absurd (omega (arith, same))
 refusal_written Schedule same = absurd (omega (arith, same))
 refusal_written Name same = absurd (omega (arith, same))
 
--- a refusal was printed
+-- If a refusal was decided and the sink took its line, the form ends with this refusal.
 pub refusal_ends : (A : Answer) (names : List (List ℕ)) (before after : FilesState) (refused : Refused) (line : List ℕ) (old new : SinkState) (code : ℕ)
     → Decides A names before after (code_of refused) line → IsTaken old new code (code_of refused) line → Ends A names before after (IsTaken old new code)
 refusal_ends A names before after refused line old new code decides taken =
@@ -81,7 +84,7 @@ found_answer : (A : Answer) (Rest : ℕ → List ℕ → Type 0) (names : List (
 found_answer A Rest names before after finds status text (inl is) = inl (finds.answers status text is)
 found_answer A Rest names before after finds status text (inr is) = inr (is, finds.turn)
 
--- the rest of an answer was printed
+-- If the files of an answer were read and the sink took the rest of the answer, the form ends with this answer.
 pub found_ends : (A : Answer) (Rest : ℕ → List ℕ → Type 0) (names : List (List ℕ)) (before after : FilesState) (old new : SinkState) (code : ℕ)
     → IsPrepared A Rest names before after → Tells Rest old new code → Ends A names before after (IsTaken old new code)
 found_ends A Rest names before after old new code finds tells = record {
@@ -98,7 +101,7 @@ found_ends A Rest names before after old new code finds tells = record {
   shown = tells.taken;
 }
 
--- the flush at the end
+-- Lemmas on the flush at the end of a form.
 
 sent_surely_by : (room mid : Option ℕ) (before between now : ℕ) (last : Option ℕ) (text : List ℕ) →
     IfSome room (λ n. length text ≤ n → Unrisen before between × (mid ≡ Some (n - length text))) →
@@ -111,22 +114,23 @@ sent_surely_by (Some n) mid before between now last text first second = λ fits.
     let two : Unrisen between now × (last ≡ Some (n - length text - 0)) = then (omega arith) in
     record { same = two.0.same ∙ one.0.same; below = one.0.below }
 
--- a text that was surely taken, and then surely sent
+-- If the sink is certain to take a text and then to send it, no fault is counted.
 sent_surely : (old mid new : SinkState) (text : List ℕ) → TakesSurely old mid text → Flushed mid new → IsQuietFor text old new
 sent_surely old mid new text first flushed = sent_surely_by old.surely mid.surely old.faults mid.faults new.faults new.surely text first flushed.surely
 
--- all that was taken was sent
+-- If the sink took a text and holds nothing back after the flush, the text was sent.
 pub went_out : (old mid new : SinkState) (text : List ℕ) → Flushed mid new → new.held ≡ [] → Took old mid text → WentOut old new text
 went_out old mid new text flushed empty took = record {
   sent = sym (append-nil new.sent) ∙ ap (λ (held : List ℕ). new.sent ++ held) (sym empty) ∙ flushed.same ∙ took;
   held = empty;
 }
 
--- all was taken, and some of it may be held back
+-- If the sink took the whole text and the flush failed, a prefix of the text was sent. The rest is held back.
 stopped_whole : (old mid new : SinkState) (text : List ℕ) → Took old mid text → Flushed mid new → Rose mid.faults new.faults → old.faults ≤ mid.faults → StoppedIn old new text
 stopped_whole old mid new text took flushed rose count = record { rest = new.held; parts = sym took ∙ sym flushed.same; rose = omega (arith, rose, count) }
 
--- a prefix was taken, and some of it may be held back
+-- If the sink took a prefix of the text, then after the flush a prefix of the text was sent. Some of what the sink
+-- took may be held back.
 stopped_part : (old mid new : SinkState) (text : List ℕ) → TookPrefix old mid text → Flushed mid new → Rose old.faults mid.faults → StoppedIn old new text
 stopped_part old mid new text cut flushed rose = record {
   rest = new.held ++ cut.rest;
@@ -163,19 +167,19 @@ shown_ends : (A : Answer) (names : List (List ℕ)) (before after : FilesState) 
 shown_ends A names before after S T turn ends =
     record { status = ends.status; text = ends.text; decides = ends.decides; written = ends.written; shown = turn ends.status ends.text ends.shown }
 
--- the flush sent everything
+-- If the flush sent everything, the text that the sink took was sent.
 pub flushed_ends : (A : Answer) (names : List (List ℕ)) (before after : FilesState) (old mid new : SinkState) (code : ℕ) → Flushed mid new → new.held ≡ []
     → Ends A names before after (IsTaken old mid code) → Ends A names before after (IsSent old new code)
 flushed_ends A names before after old mid new code flushed empty ends =
     shown_ends A names before after (IsTaken old mid code) (IsSent old new code) (λ status text is. flushed_sent old mid new code status text flushed empty is) ends
 
--- the flush failed
+-- If the flush failed, the code is the status of unwritten output.
 pub failed_ends : (A : Answer) (names : List (List ℕ)) (before after : FilesState) (old mid new : SinkState) (code : ℕ) → Flushed mid new → Rose mid.faults new.faults
     → Ends A names before after (IsTaken old mid code) → Ends A names before after (IsSent old new UNWRITTEN_OUTPUT)
 failed_ends A names before after old mid new code flushed rose ends =
     shown_ends A names before after (IsTaken old mid code) (IsSent old new UNWRITTEN_OUTPUT) (λ status text is. failed_sent old mid new code status text flushed rose is) ends
 
--- if nothing can fail, no count rises
+-- If neither the files nor the sink can fail, neither fault count rises.
 
 room_for : (A : Answer) (map : FileMap) (names : List (List ℕ)) (before after : FilesState) (old : SinkState) (room : HasRoom A map before old) (reads : History) (status : ℕ) (text : List ℕ)
     → Agrees map reads → Unrisen before.faults after.faults → A before after reads status text ⊎ (IsMemoryRefusal status text × AreInTurn names reads) → length text ≤ room.room
@@ -199,7 +203,8 @@ completes A names before after old new code ends =
     let decides = ends.decides in
     completes_by A names before.known_map before after old new decides.reads ends.status ends.text decides.grew.agrees decides.answer ends.shown.surely decides.quiet
 
--- the status of a file that was not read, and that of output that was not written
+-- If the code is that of an unread file, the fault count of the files rose. If it is that of unwritten output, the
+-- fault count of the sink rose.
 
 sent_unread : (A : Answer) (names : List (List ℕ)) (before after : FilesState) (old new : SinkState) (code : ℕ) (ends : Ends A names before after (IsSent old new code)) → code ≡ UNREAD_FILE
     → ((code ≡ ends.status) × WentOut old new ends.text) ⊎ ((code ≡ UNWRITTEN_OUTPUT) × StoppedIn old new ends.text) → Rose before.faults after.faults
@@ -219,7 +224,7 @@ pub unwritten_rose : (A : Answer) (names : List (List ℕ)) (before after : File
     → Rose old.faults new.faults
 unwritten_rose A names before after old new code ends unwritten = sent_unwritten A names before after old new code ends unwritten ends.shown.shown
 
--- the assurance of status 0
+-- If the code is 0, the assurance holds.
 
 zero_answer : (A : Answer) (Assures : History → List ℕ → Type 0) (names : List (List ℕ)) (before after : FilesState) (reads : History) (code status : ℕ) (text : List ℕ)
     → IsAssuring A Assures → code ≡ ANSWERED → code ≡ status → A before after reads status text ⊎ (IsMemoryRefusal status text × AreInTurn names reads) → Assures reads text

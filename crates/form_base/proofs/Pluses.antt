@@ -1,4 +1,4 @@
--- The rest of the text of names joined by pluses, whether or not some names are already written.
+-- The rest of the text of names joined by pluses, whether or not some names have been written before it.
 use Rattle.std.specs.Prelude.{ℕ, Bool, List, if◌then◌else◌}
 use Rattle.form_base.specs.Lines.{added, further_added}
 

@@ -1,4 +1,4 @@
--- The answer, from the files that were loaded.
+-- Lemmas that give the answer of a form from the files that it loaded.
 use Rattle.std.proofs.Common.{◌≡◌, ℕ, ◌≤◌, List, [], ◌∷◌, ◌++◌, refl, sym, ◌∙◌, ap, inl, inr, arith}
 use Rattle.std.specs.Prelude.{◌≢◌, Bool, Option, Some, None, IfNone, IfSome, IsSome, IsTrue, ◌⊎◌, ◌<◌, Result, Ok, Err, ⊤}
 use Rattle.scram_io.specs.Outside.{FileMap, FilesState, FoundLonger, Grew, History, Rose, SinkState, StaysSteady, Unrisen, file_at, greatest_count}
@@ -10,7 +10,7 @@ use Rattle.form_base.specs.Endings.{AreInTurn, AreThere, Decides, Ends, IsPrepar
 use Rattle.form_base.specs.Loads.{HasRead, IsOutOfMemory, IsUnloaded, Loads}
 use Rattle.form_base.specs.Refusals.{memory_line, read_line, told}
 
--- if no file is read, or one, or one more, no fault count of steady files rises
+-- Lemmas on fault counts: if the files are steady and the named files exist, reading them raises no fault count.
 
 quiet_none_by : (told : Option FileMap) (names : List (List ℕ)) (files : FilesState) → (IsTrue files.steady → files.faults < greatest_count)
     → IfSome told (λ map. IsTrue files.steady → AreThere map names → Unrisen files.faults files.faults)
@@ -26,7 +26,7 @@ quiet_last_by : (told : Option FileMap) (name : List ℕ) (names : List (List �
 quiet_last_by None name names still again before now first = tt
 quiet_last_by (Some map) name names still again before now first = λ steady there. (first steady there.0).0
 
--- one file was read, and nothing else
+-- If only the first of the named files was read and the files stay steady, their fault count did not rise.
 quiet_last : (name : List ℕ) (names : List (List ℕ)) (before after : FilesState) → StaysSteady before after name → StaysQuiet (name ∷ names) before after
 quiet_last name names before after steady = quiet_last_by before.known_map name names before.steady after.steady before.faults after.faults steady
 
@@ -40,20 +40,21 @@ quiet_since_by (Some map) name names still again before between now first second
     let two : Unrisen between now = second one.1 there.1 in
     record { same = two.same ∙ one.0.same; below = one.0.below }
 
--- one file was read, and then these were
+-- If reading one file and then reading the other named files raised no fault count, then reading all of them raised
+-- none.
 quiet_since : (name : List ℕ) (names : List (List ℕ)) (before mid after : FilesState) (reads : History) → Grew before mid reads
     → StaysSteady before mid name → StaysQuiet names mid after → StaysQuiet (name ∷ names) before after
 quiet_since name names before mid after reads grew steady quiet =
     quiet_since_by before.known_map name names before.steady mid.steady before.faults mid.faults after.faults steady (rw (grew.known_map) at quiet)
 
--- no file is left to read
+-- Lemmas on answers that read no further file.
 
 settled_answer : (A : ℕ → List ℕ → Type 0) (status : ℕ) (text : List ℕ) (files : FilesState) → A status text ⊎ IsMemoryRefusal status text
     → WithoutFiles A files files [] status text ⊎ (IsMemoryRefusal status text × AreInTurn [] [])
 settled_answer A status text files (inl is) = inl (refl, is)
 settled_answer A status text files (inr is) = inr (is, ([], refl))
 
--- a decision that reads no file
+-- If a decision was made without reading a file, the list of the files that were read for it is empty.
 pub settled : {T : Type 0} (A : ℕ → List ℕ → Type 0) (Rest : T → ℕ → List ℕ → Type 0) (files : FilesState) (result : Result T Refusal)
     → (IsTrue files.steady → files.faults < greatest_count) → PreparesWithoutFiles A Rest result → Prepares (WithoutFiles A) Rest [] files files result
 settled {T} A Rest files (Ok value) below answers = record {
@@ -71,7 +72,7 @@ settled {T} A Rest files (Err refusal) below is = record {
   unread = λ same. absurd (is.1 same);
 }
 
--- an answer that needs no file was printed
+-- If an answer that needs no file was printed, the form ends with this answer.
 pub told_ends : (A : ℕ → List ℕ → Type 0) (files : FilesState) (old new : SinkState) (code : ℕ) → (IsTrue files.steady → files.faults < greatest_count) → Tells A old new code
     → Ends (WithoutFiles A) [] files files (IsTaken old new code)
 told_ends A files old new code below tells = record {
@@ -88,7 +89,7 @@ told_ends A files old new code below tells = record {
   shown = tells.taken;
 }
 
--- one further file was read first
+-- Lemmas on an answer that reads one file before the others.
 
 rose_since : (before between now : ℕ) → before ≤ between → Rose between now → Rose before now
 rose_since before between now count rose = omega (arith, count, rose)
@@ -111,7 +112,7 @@ first_decided {T} Says Breaks limit long name names Then value before mid after 
     inl (first_answer Says Breaks limit long name names Then value before mid after has reads status text is)
 first_decided {T} Says Breaks limit long name names Then value before mid after has reads status text (inr is) = inr (is.0, turn_first name has.bytes names reads is.1)
 
--- a document was read, and then answered
+-- If a document was read and the answer to its value was prepared, the answer to the document is prepared.
 pub document_reads : {T U : Type 0} (Says : T → List ℕ → Type 0) (Breaks : ℕ × List ℕ → List ℕ → Type 0) (limit : ℕ) (long : ℕ × List ℕ) (name : List ℕ) (names : List (List ℕ)) (Then : T → Answer)
     (Rest : U → ℕ → List ℕ → Type 0) (value : T) (before mid after : FilesState) (result : Result U Refusal)
     → HasRead limit name (Says value) before mid → StaysSteady before mid name → Prepares (Then value) Rest names mid after result
@@ -131,7 +132,7 @@ document_reads {T} {U} Says Breaks limit long name names Then Rest value before 
   unread = λ same. rose_since before.faults mid.faults after.faults has.grew.count (decides.unread same);
 }
 
--- the first file was not loaded
+-- Lemmas on answers to a first file that was not loaded.
 
 record Unloaded {T : Type 0} (Says : T → List ℕ → Type 0) (Breaks : ℕ × List ℕ → List ℕ → Type 0) (limit : ℕ) (long : ℕ × List ℕ) (name : List ℕ) (names : List (List ℕ)) (Then : T → Answer)
     (before after : FilesState) (status : ℕ) (text : List ℕ) : Type 0 where

@@ -1,4 +1,4 @@
--- The answer, from the specification in a file.
+-- Lemmas that give the answer of a form from the specification in a file.
 use Rattle.std.proofs.Common.{◌≡◌, ℕ, List, ◌∷◌}
 use Rattle.std.specs.Prelude.{Result}
 use Rattle.scram_types.specs.Specification.{Parts}
@@ -13,14 +13,14 @@ use Rattle.form_base.specs.Refusals.{told}
 use Rattle.form_base.specs.Specifications.{AsksSpecification, BreaksSpecification, SaysSpecification, long_specification}
 use Rattle.form_base.proofs.Reading.{document_reads, refused_reads}
 
--- the specification was read, and then answered
+-- If the specification was read and the answer to it was prepared, the answer to its file is prepared.
 pub specification_reads : {U : Type 0} (name : List ℕ) (names : List (List ℕ)) (Then : Parts → Answer) (Rest : U → ℕ → List ℕ → Type 0) (spec : Parts) (before mid after : FilesState) (result : Result U Refusal)
     → HasRead MAX_SPECIFICATION_BYTES name (SaysSpecification spec) before mid → StaysSteady before mid name → Prepares (Then spec) Rest names mid after result
     → Prepares (AsksSpecification name Then) Rest (name ∷ names) before after result
 specification_reads {U} name names Then Rest spec before mid after result has steady finds =
     document_reads SaysSpecification BreaksSpecification MAX_SPECIFICATION_BYTES long_specification name names Then Rest spec before mid after result has steady finds
 
--- the specification was not loaded
+-- If the specification was not loaded, the refusal is the answer to its file.
 pub specification_unread : (name : List ℕ) (names : List (List ℕ)) (Then : Parts → Answer) (before after : FilesState) (refusal : Refusal)
     → IsUnloaded BreaksSpecification MAX_SPECIFICATION_BYTES long_specification name before after (told refusal) → StaysSteady before after name
     → ((told refusal).0 ≡ UNREAD_FILE → Rose before.faults after.faults)

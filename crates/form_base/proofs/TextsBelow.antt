@@ -1,4 +1,4 @@
--- Concatenated texts.
+-- Lemmas on concatenated texts.
 use Rattle.std.proofs.Common.{◌≡◌, ℕ, zero, suc, ◌+◌, ◌<◌, ◌≤◌, List, [], ◌++◌, refl, sym, ap, arith, append_assoc, append-nil, ◌∙◌}
 use mathlib.Core.Logic.{inl, inr}
 use Rattle.scram_types.proofs.Naturals.{at_or_below}
@@ -6,7 +6,7 @@ use Rattle.scram_io.specs.Outside.{CutOff, Printed, SinkState}
 use Rattle.scram_io.proofs.Puts.{cut_in, printed_more}
 use Rattle.form_base.specs.Texts.{texts_below}
 
--- the texts of all numbers below n begin with those of the first i
+-- The concatenated texts of the numbers below `n` begin with those of the numbers below `i`.
 pub texts_rest : (text : ℕ → List ℕ) (i n : ℕ) → i ≤ n → (rest : List ℕ) × (texts_below text n ≡ texts_below text i ++ rest)
 texts_rest text i zero few = let none : i ≡ 0 = omega (arith, few) in ([], rw none refl)
 texts_rest text i (suc n) few = elim (at_or_below i n few) [
@@ -16,21 +16,25 @@ texts_rest text i (suc n) few = elim (at_or_below i n few) [
   | inr last ↦ ([], rw last (sym (append-nil (texts_below text (suc n)))))
 ]
 
--- the texts of one further number
+-- The concatenated texts of the numbers below `i + 1` are those of the numbers below `i`, followed by the text of
+-- `i`.
 pub texts_more : (text : ℕ → List ℕ) (i : ℕ) → texts_below text (i + 1) ≡ texts_below text i ++ text i
 texts_more text i = let next : i + 1 ≡ suc i = omega arith in rw next refl
 
--- the texts of the numbers below i were printed, and that of i too
+-- If the texts of the numbers below `i` were printed and then the text of `i`, the texts of the numbers below `i + 1`
+-- were printed.
 pub printed_next : (text : ℕ → List ℕ) (i : ℕ) (old mid new : SinkState) → Printed old mid (texts_below text i) → Printed mid new (text i) → Printed old new (texts_below text (i + 1))
 printed_next text i old mid new first second = rw (texts_more text i) (printed_more old mid new (texts_below text i) (text i) first second)
 
--- the texts of the numbers below i were printed, and that of i was cut off, so the whole text is cut off
+-- If the texts of the numbers below `i` were printed and the text of `i` was cut off, the texts of the numbers below
+-- `n` were cut off.
 pub cut_below : (text : ℕ → List ℕ) (i n : ℕ) (old mid new : SinkState) → i < n → Printed old mid (texts_below text i) → CutOff mid new (text i) → CutOff old new (texts_below text n)
 cut_below text i n old mid new below first second =
     let rest = texts_rest text (suc i) n (omega (arith, below)) in
     cut_in old mid new (texts_below text n) (texts_below text i) (text i) rest.0 rest.1 first second
 
--- the texts of the numbers below i were appended to a line, and that of i too
+-- If the texts of the numbers below `i` were appended to a line and then the text of `i`, the texts of the numbers
+-- below `i + 1` were appended.
 pub added_next : (text : ℕ → List ℕ) (i : ℕ) (line before after : List ℕ) → before ≡ line ++ texts_below text i → after ≡ before ++ text i → after ≡ line ++ texts_below text (i + 1)
 added_next text i line before after first second =
     second ∙ ap (λ (front : List ℕ). front ++ text i) first ∙ append_assoc line (texts_below text i) (text i) ∙ ap (λ (tail : List ℕ). line ++ tail) (sym (texts_more text i))

@@ -38,22 +38,22 @@ pub record AnswersLonger (limit : ℕ) (long : ℕ × List ℕ) (name : List ℕ
   pub counted : IfNone before.known_map (Rose before.faults after.faults)
   pub gives : Gives long status text
 
--- Reading the file of this name failed, and the answer says so.
+-- Reading the file of this name failed, and the answer reports that.
 abbrev pub AnswersFailed : List ℕ → Answer
 AnswersFailed name before after reads status text = (reads ≡ []) × Rose before.faults after.faults × Gives (UNREAD_FILE, read_line name) status text
 
--- The file of this name is too long or was not read, and the answer says so.
+-- The file of this name is too long or was not read, and the answer reports which of the two.
 abbrev pub AnswersUnread : ℕ → ℕ × List ℕ → List ℕ → Answer
 AnswersUnread limit long name before after reads status text =
     AnswersLonger limit long name before after reads status text ⊎ AnswersFailed name before after reads status text
 
--- The answer to the bytes of the file of this name. If the file was not read or is too long, the answer says so.
+-- The answer to the bytes of the file of this name. If the file was not read or is too long, the answer reports that.
 abbrev pub AnswersFile : ℕ → ℕ × List ℕ → List ℕ → (List ℕ → Answer) → Answer
 AnswersFile limit long name Answers before after reads status text =
     AnswersBytes limit name Answers before after reads status text ⊎ AnswersUnread limit long name before after reads status text
 
--- The bytes encode a value, and the answer is that to the value. Otherwise they break a rule, and the answer reports
--- it.
+-- The bytes encode a value, and the answer is the one for that value. Otherwise they break a rule, and the answer
+-- reports it.
 abbrev pub AnswersDocument : {T : Type 0} → (T → List ℕ → Type 0) → (ℕ × List ℕ → List ℕ → Type 0) → (T → Answer) → List ℕ → Answer
 AnswersDocument {T} Says Breaks Then bytes before after reads status text =
     ((value : T) × Says value bytes × Then value before after reads status text) ⊎ ((reads ≡ []) × Breaks (status, text) bytes)

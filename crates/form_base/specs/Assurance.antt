@@ -1,4 +1,4 @@
--- Assurances of status 0: facts about the files that were read and the text.
+-- Assurances of status 0, which are facts about the files that were read and the text.
 use Rattle.std.specs.Prelude.{◌≡◌, ℕ, List, ◌∷◌}
 use Rattle.scram_io.specs.Outside.{FilesState, Grew, History}
 use Rattle.scram_types.specs.Specification.{Parts}
@@ -10,7 +10,7 @@ use Rattle.form_base.specs.Specifications.{SaysSpecification}
 abbrev pub IsAssuring : Answer → (History → List ℕ → Type 0) → Type 0
 IsAssuring Answers Assures = (before after : FilesState) (reads : History) (text : List ℕ) → Answers before after reads ANSWERED text → Assures reads text
 
--- The assurance holds for the reads made meanwhile and for a text for which `Shown` holds.
+-- The assurance holds for the reads made between two states of the files and for a text for which `Shown` holds.
 pub record Assured (Assures : History → List ℕ → Type 0) (before after : FilesState) (Shown : List ℕ → Type 0) : Type 0 where
   pub reads : History
   pub text : List ℕ

@@ -48,7 +48,7 @@ Prepares Answers Rest names before after (Ok value) = IsPrepared Answers (Rest v
 Prepares Answers Rest names before after (Err refusal) = Decides Answers names before after (told refusal).0 (told refusal).1
 
 -- A decision was made without reading a file. The result is a value, from which the rest of the answer is made, or a
--- refusal. The refusal is the answer or says that the allocator was out of memory.
+-- refusal. The refusal is the answer or reports that the allocator was out of memory.
 abbrev pub PreparesWithoutFiles : {T : Type 0} → (ℕ → List ℕ → Type 0) → (T → ℕ → List ℕ → Type 0) → Result T Refusal → Type 0
 PreparesWithoutFiles Answers Rest (Ok value) = (status : ℕ) (text : List ℕ) → Rest value status text → Answers status text
 PreparesWithoutFiles Answers Rest (Err refusal) =
@@ -72,7 +72,7 @@ pub record StoppedIn (old new : SinkState) (text : List ℕ) : Type 0 where
   pub parts : taken old ++ text ≡ new.sent ++ rest
   pub rose : Rose old.faults new.faults
 
--- If the sink surely takes as many bytes as the text has, its fault count did not rise.
+-- If the sink is certain to take as many bytes as the text has, its fault count did not rise.
 abbrev pub IsQuietFor : List ℕ → SinkState → SinkState → Type 0
 IsQuietFor text old new = IfSome old.surely (λ room. length text ≤ room → Unrisen old.faults new.faults)
 
@@ -101,7 +101,7 @@ pub record Ends (Answers : Answer) (names : List (List ℕ)) (before after : Fil
   pub written : status ≢ UNWRITTEN_OUTPUT
   pub shown : Shown status text
 
--- The sink surely takes the out-of-memory line, and every answer to reads of the map's files without a fault.
+-- The sink is certain to take the out-of-memory line, and every answer to reads of the map's files without a fault.
 pub record HasRoom (Answers : Answer) (map : FileMap) (files : FilesState) (sink : SinkState) : Type 0 where
   pub room : ℕ
   pub told : sink.surely ≡ Some room

@@ -12,7 +12,7 @@ pub record HasRead (limit : ℕ) (name : List ℕ) (Fact : List ℕ → Type 0) 
   pub fits : length bytes ≤ limit
   pub fact : Fact bytes
 
--- The refusal says that the allocator was out of memory.
+-- The refusal reports that the allocator was out of memory.
 abbrev pub IsOutOfMemory : ℕ × List ℕ → Type 0
 IsOutOfMemory refusal = refusal ≡ (OUT_OF_MEMORY, memory_line)
 
@@ -30,7 +30,8 @@ IsUnloaded Breaks limit long name before after refusal =
     ⊎ (Grew before after [] × Rose before.faults after.faults × (refusal ≡ (UNREAD_FILE, read_line name)))
     ⊎ ((Grew before after [] ⊎ HasRead limit name (λ (bytes : List ℕ). ⊤) before after) × IsOutOfMemory refusal)
 
--- The result of loading a file is a value that its bytes encode, or the refusal that says why the file was not loaded.
+-- The result of loading a file is a value that its bytes encode, or the refusal with the reason why the file was not
+-- loaded.
 abbrev pub Loads : {T : Type 0} → (T → List ℕ → Type 0) → (ℕ × List ℕ → List ℕ → Type 0) → ℕ → ℕ × List ℕ → List ℕ
     → FilesState → FilesState → Result T Refusal → Type 0
 Loads Says Breaks limit long name before after (Ok value) = HasRead limit name (Says value) before after

@@ -41,6 +41,6 @@ pub record BreaksSpecification (refusal : ℕ × List ℕ) (bytes : List ℕ) : 
 abbrev pub long_specification : ℕ × List ℕ
 long_specification = (BROKEN_SPECIFICATION, specification_line (showing [] (record { rule = rule.TOO_LONG; path = [] })))
 
--- The answer to the specification in the file of this name, or the answer that says why the file has none.
+-- The answer to the specification in the file of this name, or the answer that reports why the file has none.
 abbrev pub AsksSpecification : List ℕ → (Parts → Answer) → Answer
 AsksSpecification name Then = AnswersFile MAX_SPECIFICATION_BYTES long_specification name (AnswersDocument SaysSpecification BreaksSpecification Then)

@@ -24,8 +24,11 @@ pub trait Document<T> {
     fn limit(&self) -> usize
         ensures { result ≡ limit self.now };
 
-    /// Returns the value that the bytes encode. The error is the refusal of the first rule that they break, or out of
-    /// memory.
+    /// Returns the value that the bytes encode.
+    ///
+    /// # Errors
+    ///
+    /// Returns the refusal of the first rule that the bytes break, and the out-of-memory refusal if memory runs out.
     fn read(&self, alloc: Global, bytes: &[u8]) -> Result<T, Refusal>
         ensures reads { ReadsAs (Says self.now) (Breaks self.now) bytes.now result }
         ensures other { IfErr result (λ refusal. (told refusal).0 ≢ UNREAD_FILE) };
@@ -36,7 +39,12 @@ pub trait Document<T> {
         ensures other { (told result).0 ≢ UNREAD_FILE };
 }
 
-/// Reads the file of this name and returns the value that it encodes, or the refusal that says why there is none.
+/// Reads the file of this name and returns the value that it encodes.
+///
+/// # Errors
+///
+/// Returns the refusal of an unread file if reading fails, the refusal of the document if the file is too long or
+/// breaks a rule, and the out-of-memory refusal if memory runs out.
 pub fn load<T, D: Document<T>, F: Files>(
     alloc: Global,
     document: &D,

@@ -23,7 +23,7 @@ pub enum Refused {
     Script,
     /// A script violates the failure assumption.
     Assumption,
-    /// Out of memory.
+    /// Memory ran out.
     Memory,
     /// A file breaks a rule of traces.
     Trace,

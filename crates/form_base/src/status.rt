@@ -30,7 +30,7 @@ pub const BROKEN_SCRIPT: u8 = 7;
 /// The script violates the failure assumption.
 pub const UNASSUMED_SCRIPT: u8 = 8;
 
-/// Out of memory.
+/// Memory ran out.
 pub const OUT_OF_MEMORY: u8 = 9;
 
 /// The trace breaks a property of reconfigurations.

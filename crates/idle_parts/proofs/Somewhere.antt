@@ -1,4 +1,4 @@
--- Tests that pass in some environment in scope.
+-- Lemmas on tests that pass in some environment in scope.
 use Rattle.std.proofs.Common.{◌≡◌, ◌∙◌, ap, sym, Bool, true, false}
 use Rattle.std.specs.Prelude.{Option, Some, None, is_some}
 use Rattle.scram_types.specs.Specification.{IsSpec, Parts}
@@ -42,7 +42,7 @@ module _ (spec : Parts) (made : IsSpec spec) (test : Env → Bool) where
       (λ passes. true_false (passes_somewhere spec test) (passes_in v belongs scope passes) nowhere)
       (λ fails. fails)
 
-  -- the first such environment is found if there is one
+  -- The search for the first environment in scope in which a test passes finds one if and only if there is one.
   pub least_passes : (o : Option Env) → IsLeastEnv spec test o → is_some o ≡ passes_somewhere spec test
   least_passes None none = by_bool (passes_somewhere spec test)
       (λ passes. let found = passes_found passes in true_false (test found.v) found.passes (none found.v found.belongs found.scope))

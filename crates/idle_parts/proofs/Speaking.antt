@@ -1,4 +1,4 @@
--- The environment to which a demand applies, if it applies to any.
+-- Lemmas on the environment to which a demand applies if it applies to any in scope.
 use Rattle.std.proofs.Common.{◌≡◌, ◌∙◌, ℕ, zero, suc, ◌<◌, ◌≤◌, ◌^◌, ap, arith, length, refl, sym, List, [], ◌∷◌, Bool, true, false, subst}
 use mathlib.Core.Logic.{inl, inr}
 use Rattle.std.specs.Prelude.{◌&&◌, ◌==◌, not, slice_get, Some, bit_and}
@@ -27,7 +27,7 @@ use Rattle.idle_parts.specs.Somewhere.{passes_somewhere}
 use Rattle.idle_parts.specs.Speaking.{spoken_env, wanted_value}
 use Rattle.idle_parts.proofs.Somewhere.{passes_found, passes_in}
 
--- the values of the environment, factor by factor
+-- Lemmas on the values of the factors in this environment.
 
 value_at : (spec : Parts) (demand : Demand) (x : ℕ) → x < 6 → factor_in (spoken_env spec demand) x ≡ wanted_value demand.wants x
 value_at spec demand zero h = refl
@@ -50,7 +50,7 @@ none_past spec demand (suc (suc (suc (suc (suc (suc x)))))) h = refl
 each_rest : {A : Type 0} (Fact : A → Type 0) (x : A) (xs : List A) → Each Fact (x ∷ xs) → Each Fact xs
 each_rest {A} Fact x xs each = λ i y e. each (suc i) y e
 
--- the value that is required of a factor, or its first one if none is required, is one of its values
+-- The value of factor `x` that a demand requires, or 0 if it requires none, is the index of a value of the factor.
 
 value_within : (factors : List Factor) (x : ℕ) (factor : Factor) → slice_get factors x ≡ Some factor → 0 < length factor.values
     → (wants : List Want) → Each (IsWant factors) wants → wanted_value wants x < length factor.values
@@ -72,7 +72,8 @@ value_past factors x past (want ∷ wants) each = by_bool (want.factor.0 == x)
     absurd (omega (arith, inside, same)))
     (λ other. rw (other) (value_past factors x past wants (each_rest (IsWant factors) want wants each)))
 
--- an environment that has each required value has this one
+-- If some environment has each value that a demand requires, all requirements for one factor have the value of the
+-- first of them.
 value_same : (v : Env) (wants : List Want) (i : ℕ) (want : Want) → list_all (has_wanted v) wants ≡ true → slice_get wants i ≡ Some want
     → wanted_value wants want.factor.0 ≡ want.value
 value_same v [] i want all there = absurd (cc)
@@ -94,7 +95,7 @@ value_same v (first ∷ wants) (suc i) want all there =
         subst (λ (w : Want). factor_in v w.factor.0 ≡ w.value) same (equal _ first.value (and_left (has_wanted v first) _ all))
     wanted_is v (first ∷ wants) (suc i) want all there = wanted_is v wants i want (and_right (has_wanted v first) _ all) there
 
--- sets of processors that are down
+-- Lemmas on sets of processors that are down.
 
 down_by : (set p : ℕ) (v : Env) → all_down set v ≡ true → has_bit set p ≡ true → is_up_in v p ≡ false
 down_by set p v none bit =
@@ -122,7 +123,7 @@ module _ (spec : Parts) (made : IsSpec spec) (demand : Demand) (is : IsDemand sp
   few_up : spoken.up < 2 ^ length spec.procs
   few_up = bits_lt (λ q. not (has_bit demand.down q)) (length spec.procs)
 
-  -- the environment belongs to the specification
+  -- The environment of a demand belongs to the specification.
   pub spoken_belongs : IsEnv spec spoken
   spoken_belongs = record {
     up = few_up;
@@ -139,7 +140,8 @@ module _ (spec : Parts) (made : IsSpec spec) (demand : Demand) (is : IsDemand sp
     ];
   }
 
-  -- the processors that must be up are up, and those that must be down are down
+  -- In the environment of a demand, the processors that the demand requires to be up are up, and those that it
+  -- requires to be down are down.
   ups : all_up demand.up spoken ≡ true
   ups = (sets_by_members demand.up spoken).1 (λ p bit. elim (low_or_high p (length spec.procs)) [
     | inl low ↦ up_is p low ∙ ap not (is.apart p bit)
@@ -167,7 +169,7 @@ module _ (spec : Parts) (made : IsSpec spec) (demand : Demand) (is : IsDemand sp
         let few = made.factors_count in
         equal_test _ want.value (value_at spec demand want.factor.0 (omega (arith, inside, few)) ∙ value_same v demand.wants i want all_wanted there))
 
-    -- a demand that applies to an environment applies to this one
+    -- If a demand applies to an environment, it applies to the environment of the demand.
     pub spoken_speaks : applies_in demand spoken ≡ true
     spoken_speaks =
         and_true (list_all (has_wanted spoken) demand.wants && all_up demand.up spoken) _
@@ -186,11 +188,12 @@ module _ (spec : Parts) (made : IsSpec spec) (demand : Demand) (is : IsDemand sp
         twice_not true h = refl
         twice_not false h = absurd (cc)
 
-    -- this environment is in scope if the other one is
+    -- If a demand applies to an environment in scope, the environment of the demand is in scope.
     pub spoken_in_scope : in_scope spec spoken ≡ true
     spoken_in_scope = at_most_test _ spec.halts (let most = at_most (down_count spec v) spec.halts scope in let fewer = fewer_down in omega (arith, most, fewer))
 
-  -- a demand applies to some environment in scope if and only if it applies to this one and this one is in scope
+  -- A demand applies to some environment in scope if and only if the environment of the demand is in scope and the
+  -- demand applies to it.
   pub spoken_somewhere : passes_somewhere spec (applies_in demand) ≡ (in_scope spec spoken && applies_in demand spoken)
   spoken_somewhere = same_test _ _
       (λ passes. let found = passes_found spec made (applies_in demand) passes in

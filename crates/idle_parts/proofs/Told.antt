@@ -1,4 +1,4 @@
--- The meaning of idle parts.
+-- The parts that are shown as idle are exactly the parts that have no use.
 use Rattle.std.proofs.Common.{◌≡◌, ap, length, refl, Bool, true, false}
 use mathlib.Core.Logic.{inl, inr}
 use Rattle.std.specs.Prelude.{◌==◌, not}

@@ -1,4 +1,4 @@
--- The one environment in which to check whether a demand applies to any environment.
+-- The only environment that has to be checked to find out whether a demand applies to any environment.
 use Rattle.std.specs.Prelude.{ℕ, not, ◌==◌, List, [], ◌∷◌, length, if◌then◌else◌}
 use Rattle.scram_types.specs.Bits.{bits_below, has_bit}
 use Rattle.scram_types.specs.Specification.{Parts}

@@ -20,27 +20,27 @@ use Rattle.idle_parts.specs.Wants.{is_demand_idle, is_factor_idle}
 abbrev pub line_if : Bool → PartKind → List ℕ → List ℕ
 line_if is_idle kind name = if is_idle then idle_line kind name else []
 
--- The line of rule `k`, if it is idle.
+-- The line of rule `k` if it is idle, or the empty text otherwise.
 abbrev pub idle_rule_text : Parts → ℕ → List ℕ
 idle_rule_text spec k = line_if (is_rule_idle spec k) kind.Rule (decimal k)
 
--- The line of configuration number `c`, if it is idle.
+-- The line of configuration number `c` if it is idle, or the empty text otherwise.
 abbrev pub idle_conf_text : Parts → ℕ → List ℕ
 idle_conf_text spec c = line_if (is_conf_idle spec c) kind.Conf (conf_name spec c)
 
--- The line of factor `x`, if it is idle.
+-- The line of factor `x` if it is idle, or the empty text otherwise.
 abbrev pub idle_factor_text : Parts → ℕ → List ℕ
 idle_factor_text spec x = line_if (is_factor_idle spec x) kind.Factor (factor_name spec x)
 
--- The line of a bound, if it is idle.
+-- The line of a bound if it is idle, or the empty text otherwise.
 abbrev pub idle_bound_text : Parts → Bound → List ℕ
 idle_bound_text spec bound = line_if (is_bound_idle spec bound) kind.Bound (pair_text spec bound)
 
--- The line of bound number `k`, if it is idle.
+-- The line of bound number `k` if it is idle, or the empty text otherwise.
 abbrev pub idle_bound_text_at : Parts → ℕ → List ℕ
 idle_bound_text_at spec k = option_map_or (idle_bound_text spec) (slice_get spec.bounds k) []
 
--- The line of a mode of application number `a`, if it is idle.
+-- The line of a mode of application number `a` if it is idle, or the empty text otherwise.
 abbrev pub mode_line : Parts → ℕ → ModeSpec → List ℕ
 mode_line spec a listed =
     line_if (is_mode_idle spec a listed.mode.0) kind.Mode (app_name spec a ++ codes " " ++ mode_text (kind_of_app spec a) listed.mode.0)
@@ -54,19 +54,19 @@ idle_modes_text spec a (listed ∷ modes) = mode_line spec a listed ++ idle_mode
 abbrev pub idle_modes_text_of : Parts → ℕ → List ℕ
 idle_modes_text_of spec a = option_map_or (λ (app : AppSpec). idle_modes_text spec a app.modes) (slice_get spec.apps a) []
 
--- The line of application number `a`, if it is idle.
+-- The line of application number `a` if it is idle, or the empty text otherwise.
 abbrev pub idle_app_text : Parts → ℕ → List ℕ
 idle_app_text spec a = line_if (is_app_idle spec a) kind.App (app_name spec a)
 
--- The line of processor `p`, if it is idle.
+-- The line of processor `p` if it is idle, or the empty text otherwise.
 abbrev pub idle_proc_text : Parts → ℕ → List ℕ
 idle_proc_text spec p = line_if (is_proc_idle spec p) kind.Proc (proc_name spec p)
 
--- The line of a demand, if it is idle.
+-- The line of a demand if it is idle, or the empty text otherwise.
 abbrev pub idle_demand_text : Parts → Demand → List ℕ
 idle_demand_text spec demand = line_if (is_demand_idle spec demand) kind.Demand demand.name
 
--- The line of demand number `k`, if it is idle.
+-- The line of demand number `k` if it is idle, or the empty text otherwise.
 abbrev pub idle_demand_text_at : Parts → ℕ → List ℕ
 idle_demand_text_at spec k = option_map_or (idle_demand_text spec) (slice_get spec.demands k) []
 

@@ -33,7 +33,7 @@ pub(crate) fn find_chosen(alloc: Global, spec: &Spec) -> Result<Chosen, NoMemory
     Ok(Chosen { shares, sets })
 }
 
-// Returns whether there is no configuration and no environment in scope for which rule `k` is the first that fits.
+// Returns `true` if there is no configuration and no environment in scope for which rule `k` is the first that fits.
 pub(crate) fn is_rule_idle(spec: &Spec, shares: &[List<Share>], k: u8) -> bool
     requires shares { HasShares spec.now shares.now }
     requires rule { k < length spec.now.rules }
@@ -55,7 +55,7 @@ fn is_rule_first(spec: &Spec, shares: &[List<Share>], k: u8) -> bool
     false
 }
 
-// Returns whether rule `k` is the first that fits configuration `i` in some environment in scope. `shares` are the
+// Returns `true` if rule `k` is the first that fits configuration `i` in some environment in scope. `shares` are the
 // shares of configuration `i`.
 fn is_first_from(spec: &Spec, shares: &[Share], k: u8, i: u8) -> bool
     requires shares { AreShares spec.now (conf_id i) shares.now }
@@ -65,8 +65,8 @@ fn is_first_from(spec: &Spec, shares: &[Share], k: u8, i: u8) -> bool
     has_environment(spec, &shares[usize::from(k)], k, i)
 }
 
-// Returns whether rule `k` is the first that fits configuration `i` in some environment in scope, given the share of
-// the rule.
+// Returns `true` if rule `k` is the first that fits configuration `i` in some environment in scope, given the share
+// of the rule.
 fn has_environment(spec: &Spec, share: &Share, k: u8, i: u8) -> bool
     requires { IsShare spec.now (is_ruled_by spec.now (conf_id i) k) share.now }
     ensures { result ≡ is_first_from spec.now k i }
@@ -83,7 +83,7 @@ fn count_confs(spec: &Spec) -> u8
     spec.confs.items().len() as u8
 }
 
-// Returns whether configuration `c` is neither the start nor a possible target of another configuration.
+// Returns `true` if configuration `c` is neither the start nor a possible target of another configuration.
 pub(crate) fn is_conf_idle(spec: &Spec, sets: &[u16; 12], c: u8) -> bool
     requires sets { AreAskedBounds spec.now sets.now }
     requires conf { c < length spec.now.confs }
@@ -105,8 +105,8 @@ fn is_target_of_others(spec: &Spec, sets: &[u16; 12], c: u8) -> bool
     false
 }
 
-// Returns whether `i` and `c` differ, and configuration `c` is a possible target of configuration `i`. `set` has the
-// targets to which acceptance requires a bound.
+// Returns `true` if `i` and `c` differ, and configuration `c` is a possible target of configuration `i`. `set` has
+// the targets to which acceptance requires a bound.
 fn is_target_of_other(spec: &Spec, set: u16, c: u8, i: u8) -> bool
     requires set { set ≡ asked_bounds spec.now (conf_id i) }
     requires conf { c < length spec.now.confs }
@@ -116,8 +116,8 @@ fn is_target_of_other(spec: &Spec, set: u16, c: u8, i: u8) -> bool
     i != c && is_asked(spec, set, ConfId(i), ConfId(c))
 }
 
-// Returns whether acceptance does not require a bound. `set` has the targets to which acceptance requires a bound from
-// the bound's source.
+// Returns `true` if acceptance does not require a bound. `set` has the targets to which acceptance requires a bound
+// from the bound's source.
 pub(crate) fn is_bound_idle(spec: &Spec, set: u16, bound: &Bound) -> bool
     requires set { set ≡ asked_bounds spec.now bound.now.from }
     requires to { bound.now.to.0 < length spec.now.confs }

@@ -23,7 +23,7 @@ use trace_text::row_lines::name_of_mode;
 ///
 /// # Errors
 ///
-/// Out of memory.
+/// Returns an error if memory runs out.
 pub fn make_idle(alloc: Global, spec: &Spec) -> Result<Vec<u8>, NoMemory>
     ensures { IfOk result (λ text. text.items ≡ idle_text spec.now) }
 {

@@ -18,8 +18,8 @@ use scram_types::{AppId, Choice, Demand, Env, FactorId, Spec, Want};
 /// The number of factors that supply power. They are the first factors, and power monitors read them.
 pub const POWER_FACTORS: u8 = 2;
 
-// Returns whether no rule requires a value of a factor, and the factor is not a power supply that a placed application
-// reads.
+// Returns `true` if no rule requires a value of a factor, and the factor is not a power supply that a placed
+// application reads.
 pub(crate) fn is_factor_idle(spec: &Spec, factor: FactorId) -> bool
     ensures { result ≡ is_factor_idle spec.now factor.0 }
 {
@@ -50,7 +50,7 @@ fn is_supply_read(spec: &Spec, factor: FactorId) -> bool
     factor.0 < POWER_FACTORS && has_placed_monitor(spec)
 }
 
-// Returns whether some configuration places a power monitor.
+// Returns `true` if some configuration places a power monitor.
 fn has_placed_monitor(spec: &Spec) -> bool
     ensures { result ≡ any_below (is_placed_monitor spec.now) (length spec.now.apps) }
 {
@@ -75,7 +75,7 @@ fn is_placed_monitor(spec: &Spec, app: AppId) -> bool
     spec.kind_of_app(app).0 == power_monitor::KIND && is_app_placed(spec, app)
 }
 
-// Returns whether a demand applies to no environment in scope.
+// Returns `true` if a demand applies to no environment in scope.
 pub(crate) fn is_demand_idle(spec: &Spec, demand: &Demand) -> bool
     requires { IsDemand spec.now.procs spec.now.apps spec.now.confs spec.now.factors demand.now }
     ensures { result ≡ is_demand_idle spec.now demand.now }
@@ -86,7 +86,7 @@ pub(crate) fn is_demand_idle(spec: &Spec, demand: &Demand) -> bool
     !speaks_in_scope(spec, demand, &env)
 }
 
-// Returns whether an environment is in scope and a demand applies to the environment.
+// Returns `true` if an environment is in scope and a demand applies to the environment.
 fn speaks_in_scope(spec: &Spec, demand: &Demand, env: &Env) -> bool
     ensures { result ≡ (in_scope spec.now env.now && applies_in demand.now env.now) }
 {

@@ -1,4 +1,4 @@
--- Pictures with the same curves are those of flights with the same extremes and heights.
+-- If two pictures have the same curves, their flights have the same extremes and heights.
 use Rattle.std.proofs.Common.{◌≡◌, ℕ, ℤ, pos, negsuc, zero, suc, ◌+◌, ◌-◌, ◌*◌, ◌/◌, ◌<◌, ◌≤◌, ◌^◌, Bool, true, false, cond, List, [], ◌∷◌, ◌++◌, Option, Some, None, drop as past, length, decimal, refl, sym, ap, arith, append_assoc, ◌∙◌}
 use mathlib.Core.Logic.{inl, inr}
 use Rattle.std.specs.Prelude.{◌==◌, codes, int_lt, nat_lt, nat_le, slice_get, if◌then◌else◌}
@@ -30,7 +30,7 @@ use Rattle.picture_form.specs.declared.sheets.Sheet.{Sheet}
 use Rattle.picture_form.proofs.Cuts.{field, fields}
 use Rattle.picture_form.proofs.RectsBack.{decimal_digits, placed_grouped}
 
--- points
+-- Lemmas on the points of a curve.
 
 drop_by : (t : Bool) (n : ℕ) → cond t 240 (480 - n) ≤ 480
 drop_by true n = omega arith
@@ -39,7 +39,7 @@ drop_by false n = omega arith
 drop_small : (ends : Extremes) (number : ℤ) → drop_of ends number ≤ 480
 drop_small ends number = drop_by (distance ends.least ends.greatest == 0) (distance ends.least number * 480 / distance ends.least ends.greatest)
 
--- the letter of a point
+-- The letter at the start of a point: `L` if the curve joins it to the preceding point, or `M` otherwise.
 abbrev mark : Bool → ℕ
 mark joined = if joined then 76 else 77
 
@@ -47,7 +47,7 @@ mark_free : (joined : Bool) → is_ascii_digit (mark joined) ≡ false
 mark_free true = refl
 mark_free false = refl
 
--- a point after its letter, and what follows
+-- The text of a point after its letter, followed by `rest`.
 abbrev after_mark : ℕ → ℕ → List ℕ → List ℕ
 after_mark k drop rest = decimal k ++ 32 ∷ (decimal drop ++ rest)
 
@@ -99,13 +99,13 @@ points_same rows others curve other_curve (suc n) d f r s small few fits free ot
       last.1,
     )))
 
--- extremes
+-- Lemmas on extremes.
 
 small_by : (t : Bool) (y z : ℤ) → mag y < 2 ^ 63 → mag z < 2 ^ 63 → mag (cond t y z) < 2 ^ 63
 small_by true y z e f = e
 small_by false y z e f = f
 
--- the extremes are signed 64-bit numbers
+-- Both extremes are signed 64-bit numbers.
 record AreSmall (ends : Extremes) : Type 0 where
   pub least : mag ends.least < 2 ^ 63
   pub greatest : mag ends.greatest < 2 ^ 63
@@ -123,7 +123,7 @@ extremes_small quantity (row ∷ rows) known ends e =
     let same : widened (quantity_of quantity row.world) (extremes_of quantity rows) ≡ ends = same_some _ ends e in
     rw same at (widened_small (quantity_of quantity row.world) (extremes_of quantity rows) (known 0 row refl) (extremes_small quantity rows (λ i x there. known (suc i) x there)))
 
--- bytes before `<`
+-- Whether a byte is less than that of `<`.
 abbrev is_low : ℕ → Bool
 is_low b = nat_lt b 60
 
@@ -172,7 +172,7 @@ end_same sheet y ends others r s small fits h =
     let second = note_same x (y + 48) ends.least others.least (codes "\n" ++ r) (codes "\n" ++ s) small.least fits.least first.1 in
     (same_ends ends others second.0 first.0, append_cancel_left (codes "\n") r s second.1)
 
--- a quantity
+-- Two flights have the same curve of a quantity, and the texts after the curves are the same.
 
 pub record SameCurves (quantity : Quantity) (rows others : List Row) (rest other_rest : List ℕ) : Type 0 where
   pub alike : DrawnAlike quantity rows others

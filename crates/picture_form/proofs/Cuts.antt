@@ -21,7 +21,7 @@ fields P d f (c ∷ a) (b ∷ bs) r s free other e g h =
     let tails : a ≡ bs = more.0 in
     (let x : c ∷ a ≡ b ∷ bs = cc in x, more.1)
 
--- the same with the same byte after both
+-- Fields end at the same position if the same byte, which does not occur in them, follows both.
 pub field : (P : ℕ → Bool) (d : ℕ) (a b r s : List ℕ) → P d ≡ false → list_all P a ≡ true → list_all P b ≡ true → a ++ d ∷ r ≡ b ++ d ∷ s → (a ≡ b) × (r ≡ s)
 field P d a b r s free e g h = let both = fields P d d a b r s free free e g h in (both.0, append_cancel_left (d ∷ []) r s both.1)
 
@@ -61,7 +61,7 @@ cut d n (b ∷ t) (c ∷ u) r s e f h =
     let tails : t ≡ u = more.0 in
     (let x : b ∷ t ≡ c ∷ u = cc in x, more.1)
 
--- A text without the byte leaves the count as it is.
+-- A text without the byte does not change the number of occurrences that are still to come.
 pub passed : (d least n : ℕ) (text rest : List ℕ) → d < least → all_over least text ≡ true → left_after d (Some (suc n)) (text ++ rest) ≡ left_after d (Some (suc n)) rest
 passed d least n [] rest h e = refl
 passed d least n (b ∷ text) rest h e =
@@ -70,7 +70,7 @@ passed d least n (b ∷ text) rest h e =
     let k = leb-true least b q.0 in
     ap (λ (same : Bool). left_after d (cond same (Some n) (Some (suc n))) (text ++ rest)) (ne_eqb b d (λ same. omega (arith, same, k, h))) ∙ passed d least n text rest h p.1
 
--- one text after another
+-- If all bytes of two texts are from `least` to 126, so are all bytes of their concatenation.
 pub both_over : (least : ℕ) (a b : List ℕ) → all_over least a ≡ true → all_over least b ≡ true → all_over least (a ++ b) ≡ true
 both_over least a b e f = list_all-append (over least) a b ∙ and_from _ _ e f
 
@@ -81,7 +81,8 @@ pub data Place : Type 0 where
   Inside : Place
   Broken : Place
 
--- the position after a byte; `ok` are the bytes that may follow an angle bracket at the beginning of a line
+-- The position after a byte, given the test `ok` for the bytes that may follow an angle bracket at the beginning of a
+-- line.
 abbrev pub moved : (ℕ → Bool) → Place → ℕ → Place
 moved ok Start b = if b == 60 then Opened else Broken
 moved ok Opened b = if ok b then Inside else Broken
@@ -100,7 +101,7 @@ walk_broken : (ok : ℕ → Bool) (t : List ℕ) → walk ok Broken t ≡ Broken
 walk_broken ok [] = refl
 walk_broken ok (b ∷ t) = walk_broken ok t
 
--- lines after lines
+-- If each of two texts consists of whole lines, their concatenation does as well.
 pub walk_both : (ok : ℕ → Bool) (t u : List ℕ) → walk ok Start t ≡ Start → walk ok Start u ≡ Start → walk ok Start (t ++ u) ≡ Start
 walk_both ok t u e f = walk_append ok Start t u ∙ ap (λ (at : Place). walk ok at u) e ∙ f
 
@@ -152,7 +153,8 @@ is_line ok d t good other e =
     ap (λ (b : Bool). walk ok (cond b Inside Broken) t) good
     ∙ line_inside ok t (ap (λ (b : Bool). left_after 10 (cond b (Some 0) (Some 1)) t) (sym other) ∙ e)
 
--- the beginnings of lines that do not name a lane, and of those that are paths
+-- Tests for the byte after the angle bracket of a line: `no_name` passes for lines that do not name a lane, and
+-- `a_path` for lines that are paths.
 abbrev pub no_name : ℕ → Bool
 no_name b = if b == 116 then false else true
 

@@ -1,4 +1,4 @@
--- Lanes with the same boxes are those of rows that show the same.
+-- If two lanes have the same boxes, their rows show the same.
 use Rattle.std.proofs.Common.{◌≡◌, ℕ, zero, suc, ◌+◌, ◌<◌, ◌≤◌, ◌^◌, Bool, true, false, cond, List, [], ◌∷◌, ◌++◌, Option, Some, None, drop, length, refl, sym, ap, arith, append-nil, append_assoc, ◌∙◌}
 use Rattle.std.specs.Prelude.{◌&&◌, option_and_then, slice_get, if◌then◌else◌}
 use Rattle.std.specs.Option.{option_map_or}
@@ -17,14 +17,14 @@ use Rattle.picture_form.specs.declared.spans.Strip.{Strip}
 use Rattle.picture_form.proofs.ShowsBack.{IsShownIn, is_seen}
 use Rattle.picture_form.proofs.SpansBack.{alike_few, alike_swaps, rects_same, rows_alike, seen_alike, span_of, unseen_alike}
 
--- boxes from a row on
+-- Lemmas on the boxes of the rows from row `k` on.
 
--- the text of the span that a row begins
+-- The text of the span that a row begins, or the empty text if it begins none.
 abbrev pub begun : Parts → Sheet → Strip → ℕ → Option Row → Row → List Row → List ℕ
 begun spec sheet strip k before row rows =
     begun_text spec sheet row strip k (if is_new strip.lane before row then Some (alike_rows strip.lane row rows + 1) else None)
 
--- the spans of rows from row k on
+-- The texts of the spans of the rows from row `k` on.
 abbrev pub spans_from : Parts → Sheet → Strip → ℕ → Option Row → List Row → List ℕ
 spans_from spec sheet strip k before [] = []
 spans_from spec sheet strip k before (row ∷ rows) = begun spec sheet strip k before row rows ++ spans_from spec sheet strip (suc k) (Some row) rows
@@ -62,7 +62,7 @@ spans_whole spec sheet rows strip =
     let none : length rows ≡ 0 + length rows = omega arith in
     ap (texts_below (span_text spec sheet rows strip)) none ∙ from_here spec sheet rows strip rows 0 None refl refl
 
--- A row begins a span that has a box.
+-- Whether a row begins a span that has a box.
 abbrev pub is_drawn : Lane → Option Row → Row → Bool
 is_drawn lane before row = is_new lane before row && is_seen lane row
 
@@ -81,7 +81,7 @@ pub begun_is : (spec : Parts) (sheet : Sheet) (strip : Strip) (k : ℕ) (before 
     ≡ (if is_drawn strip.lane before row then rect_text spec sheet row (span_of strip.lane strip.y k (alike_rows strip.lane row rows)) else [])
 begun_is spec sheet strip k before row rows inside = begun_by strip.lane (is_new strip.lane before row) spec sheet row strip.y k (alike_rows strip.lane row rows) inside
 
--- the number of rows that the previous box is still to show
+-- The number of the following rows that the box of the row `before` still covers.
 
 abbrev pub carry : Lane → Option Row → List Row → ℕ
 carry lane None rows = 0
@@ -121,7 +121,7 @@ carry_nil lane (Some b) = nil_by (is_seen lane b)
     nil_by true = refl
     nil_by false = refl
 
--- a row that is seen and begins no span is shown by the previous box
+-- The row is shown by the box of the preceding row, since it has a box and begins no span.
 record GoesOn (lane : Lane) (before : Option Row) (row : Row) (rows : List Row) : Type 0 where
   pub earlier : Row
   pub is : before ≡ Some earlier
@@ -147,14 +147,15 @@ goes_on spec lane (Some b) row rows inside e seen =
           (seen_alike spec lane b row inside alike ∙ seen) alike seen (rows_alike spec lane b row rows inside alike);
     }
 
--- rows that show the same
+-- Rows that show the same.
 
--- none of the rows has a box
+-- None of the rows has a box in the lane.
 abbrev pub NoneSeen : Lane → List Row → Type 0
 NoneSeen lane [] = Unit {0}
 NoneSeen lane (row ∷ rows) = (is_seen lane row ≡ false) × NoneSeen lane rows
 
--- Rows are shown alike one by one, and the rows past the end of the other list have no boxes.
+-- Each row is shown as the row with the same index in the other list, and the rows past the end of the other list
+-- have no boxes.
 abbrev pub SameRows : Lane → List Row → List Row → Type 0
 SameRows lane [] others = NoneSeen lane others
 SameRows lane (row ∷ rows) [] = NoneSeen lane (row ∷ rows)
@@ -189,7 +190,7 @@ module _ (spec : Parts) (strip : Strip) (sound : IsSpec spec) (inside : IsShownI
   tail_known : (row : Row) (rows : List Row) → Each (IsRowDrawn spec) (row ∷ rows) → Each (IsRowDrawn spec) rows
   tail_known row rows known i x there = known (suc i) x there
 
-  -- a box begins with its own row
+  -- The box of a row from row `k` on is not the first box of the spans from a later row on.
   later : (other_sheet sheet : Sheet) (row : Row) (k n : ℕ) (r : List ℕ) (rows : List Row) (j : ℕ) (before : Option Row) → IsRowDrawn spec row → is_seen strip.lane row ≡ true → k + n < 2 ^ 32
       → Each (IsRowDrawn spec) rows → j + length rows < 2 ^ 32 → k < j → rect_text spec other_sheet row (span_of strip.lane strip.y k n) ++ r ≡ spans_from spec sheet strip j before rows → ⊥
   later other_sheet sheet row k n r [] j before known seen few drawn fits less h = let x = h in cc
@@ -230,7 +231,8 @@ module _ (spec : Parts) (strip : Strip) (sound : IsSpec spec) (inside : IsShownI
       let same : SameBefore strip.lane (Some earlier) (Some other_earlier) = rw (e, f) at first in
       sym (alike_swaps spec strip.lane earlier row other inside a) ∙ alike_swaps spec strip.lane earlier other_earlier other inside same ∙ b
 
-  -- two rows after which no box begins
+  -- Two rows after which no box begins are shown alike, and the boxes that show them cover the same number of
+  -- following rows.
   record BothGoOn (row other : Row) (rows others : List Row) : Type 0 where
     pub alike : are_alike strip.lane row other ≡ true
     pub carried : carry strip.lane (Some row) rows ≡ carry strip.lane (Some other) others
@@ -283,7 +285,7 @@ module _ (spec : Parts) (strip : Strip) (sound : IsSpec spec) (inside : IsShownI
             on.alike on.carried (sym (without sheet k before row rows a) ∙ h ∙ without other_sheet k other_before other others b),
       )))
 
-  -- Lanes with the same text show the same of each row.
+  -- If the lanes of two flights have the same text, each row shows the same in both.
   pub lane_tells : (sheet other_sheet : Sheet) (rows others : List Row) → Each (IsRowDrawn spec) rows → Each (IsRowDrawn spec) others → length rows < 2 ^ 32 → length others < 2 ^ 32
       → spans_text spec sheet rows strip ≡ spans_text spec other_sheet others strip → SameRows strip.lane rows others
   lane_tells sheet other_sheet rows others known drawn few fits h =

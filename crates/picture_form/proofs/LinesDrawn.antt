@@ -44,9 +44,10 @@ use Rattle.trace_text.proofs.Inversion.{if_ok, kept_says, map_some, or_rule_ok, 
 use Rattle.trace_text.proofs.Spelling.{number_spelled}
 use Rattle.picture_form.specs.Laws.{IsReportDrawn, IsRowDrawn}
 
--- elements of lists
+-- Lemmas on the elements of lists.
 
--- an element of a list of which one element was replaced
+-- If element `a` of a list is replaced by `x`, a fact holds for element `i` if it held before and, for `i` equal to
+-- `a`, holds for `x`.
 set_item : {A : Type 0} (Fact : A → Type 0) (none x : A) (xs : List A) (a i : ℕ) → (i ≡ a → Fact x) → Fact (slice_index_or xs i none)
     → Fact (slice_index_or (slice_set xs a x) i none)
 set_item Fact none x [] a i here there = there
@@ -55,7 +56,7 @@ set_item Fact none x (y ∷ xs) zero (suc i) here there = there
 set_item Fact none x (y ∷ xs) (suc a) zero here there = there
 set_item Fact none x (y ∷ xs) (suc a) (suc i) here there = set_item Fact none x xs a i (λ same. here (ap suc same)) there
 
--- numbers
+-- A number that is read as signed decimal is a signed 64-bit number.
 
 signed_small : (text : List ℕ) (z : ℤ) → signed_of text ≡ Some z → mag z < 2 ^ 63
 unfolding signed_of
@@ -64,7 +65,7 @@ signed_small text z h =
     let p = some_says (nat_lt (mag y) (2 ^ 63) && bytes_eq (signed_decimal y) text) y z h in
     rw (← p.1) (ltb-true _ _ (and_parts _ _ p.0).0)
 
--- the world in a row's line
+-- The altitude and the heading in the line of a row are signed 64-bit numbers.
 record IsWorldRead (world : World) : Type 0 where
   altitude : mag world.alt < 2 ^ 63
   heading : mag world.heading < 2 ^ 63
@@ -85,7 +86,7 @@ world_read ws at world h =
     = record { altitude = signed_small (word_at ws at) a.0 a.1; heading = signed_small (word_at ws (at + 2)) c.0 c.1 } in
     rw (← d.2) made
 
--- values of factors are bytes
+-- The values of factors are bytes.
 
 abbrev AreBytes : List ℕ → Type 0
 AreBytes values = (x : ℕ) → slice_index values x < 2 ^ 8
@@ -114,14 +115,15 @@ names_bytes spec ws at values sound h =
     let p = kept_says _ (values_in spec.factors (word_at ws (at + 1))) values h in
     values_bytes spec.factors (pieces_of 44 (word_at ws (at + 1))) 0 (replicate 6 0) values (λ x factor there. (sound.factors x factor there).count.few) zeros_bytes p.1
 
--- rows
+-- Lemmas on rows.
 
 offs_everywhere : (n a : ℕ) → slice_index_or (replicate n act.Off) a act.Off ≡ act.Off
 offs_everywhere zero a = refl
 offs_everywhere (suc n) zero = refl
 offs_everywhere (suc n) (suc a) = offs_everywhere n a
 
--- a row whose first line is read, and the frame that was due
+-- The row whose first line was read can be drawn, and `next`, the number of the frame that was due, is below the
+-- maximum number of frames.
 pub record IsRowRead (spec : Parts) (next : ℕ) (row : Row) : Type 0 where
   pub drawn : IsRowDrawn spec row
   pub due : next < MAX_FRAMES
@@ -172,7 +174,7 @@ line_read spec next line row sound h =
     let w = or_rule_ok NO_FORM (words_in line) (row_of_words spec next) row h in
     words_read (is_stable_form spec w.0) (is_moving_form spec w.0) spec next w.0 row sound w.2
 
--- applications
+-- Lemmas on applications.
 
 proc_there : (spec : Parts) (text : List ℕ) (p : ProcId) → proc_named spec text ≡ Some p → p.0 < length spec.procs
 proc_there spec text p h =
@@ -197,7 +199,7 @@ listed_found : (spec : Parts) (a n : ℕ) (app : AppSpec) (text : List ℕ) (m :
     → mode_from app.kind.0 text app.modes ≡ Some m
 listed_found spec a n app text m same there h = let e : listed_mode spec a text ≡ Some m = rw same at h in rw there at e
 
--- an application can have the act in its line
+-- Application `a` can have the act that its line gives.
 abbrev pub IsShownDone : Parts → ℕ → Done → Type 0
 IsShownDone spec a told = (app : AppSpec) → slice_get spec.apps a ≡ Some app → IsActShown spec app told.act
 
@@ -233,7 +235,7 @@ phase_shown spec a ws phase sides told h app there =
     let same : done (phase_act phase k.0 n.0 p.0) z.0 ≡ told = let e = r.1 in cc in
     rw (← same) (step_shown spec app phase k.0 n.0 p.0 (ltb-true _ _ inside.0) (leb-true _ _ inside.1) (proc_there spec (word_at ws 4) p.0 p.1))
 
--- every application can have an act that names no processor
+-- Every application can have this act, which names no processor.
 abbrev IsBare : Act → Type 0
 IsBare did = (spec : Parts) (app : AppSpec) → IsActShown spec app did
 
@@ -273,7 +275,7 @@ app_shown spec a line told h =
     let w = or_rule_ok NO_FORM (words_in line) (app_in spec a) told h in
     app_by (is_placed_form w.0) (is_bare_form w.0) spec a w.0 told w.2
 
--- a row that can be drawn, with the act of one further application
+-- If a row can be drawn and an application can have an act, the row with this act can be drawn.
 pub app_drawn : (spec : Parts) (row : Row) (a : ℕ) (told : Done) → IsRowDrawn spec row → IsShownDone spec a told → IsRowDrawn spec (with_app row a told.act told.area)
 app_drawn spec row a told drawn shown = record {
   values = drawn.values;
@@ -282,7 +284,7 @@ app_drawn spec row a told drawn shown = record {
   heading = drawn.heading;
 }
 
--- reconfigurations
+-- Lemmas on reconfigurations.
 
 ended_drawn : (ws : List (List ℕ)) (from : ConfId) (to : Option ConfId) (end : ℕ) (given : Option ℕ) (report : Report) → end ≤ MAX_FRAMES
     → report_end ws from to end given ≡ Ok report → IsReportDrawn report

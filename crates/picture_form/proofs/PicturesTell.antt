@@ -1,4 +1,4 @@
--- Flights with the same picture show the same.
+-- If two flights have the same picture, they show the same.
 use Rattle.std.proofs.Common.{◌≡◌, ℕ, zero, suc, ◌+◌, ◌-◌, ◌<◌, ◌≤◌, ◌^◌, Bool, true, false, cond, List, [], ◌∷◌, ◌++◌, Some, drop, length, decimal, refl, sym, ap, arith, append_assoc, le-ltb, ltb-false, ◌∙◌}
 use mathlib.Core.Logic.{inl, inr}
 use Rattle.std.specs.Prelude.{codes, nat_lt}
@@ -48,9 +48,9 @@ fronts_same style n a b g h u m w q z y r s ends other_ends grid other_grid fron
     (ap (λ (rest : List ℕ). (u ++ m) ++ rest) (sym begins) ∙ top ∙ ap (λ (rest : List ℕ). (w ++ q) ++ rest) other_begins) in
     record { front = both.0; rest = begins ∙ ap (λ (rest : List ℕ). 60 ∷ rest) both.1 ∙ sym other_begins }
 
--- lanes one after another
+-- Lemmas on the lanes of a picture, in order.
 
--- lanes, each with its name and what follows
+-- The text of lane `k`: its name, and the text after the name.
 abbrev lanes_with : (ℕ → List ℕ) → (ℕ → List ℕ) → ℕ → List ℕ
 lanes_with name body k = (60 ∷ 116 ∷ name k) ++ body k
 
@@ -76,7 +76,7 @@ lanes_same name body other (suc n) r s mine theirs e =
       append_cancel_left (116 ∷ []) r s last.1,
     )
 
--- the lanes of a sheet
+-- Lemmas on the lanes of a sheet.
 
 inside_by : (a b : Bool) (spec : Parts) (n f p : ℕ) → nat_lt n f ≡ a → nat_lt n (f + p) ≡ b → n < f + p + length spec.apps
     → IsShownIn spec (cond a (InFactor n) (cond b (InProcessor (n - f)) (InApplication (n - (f + p)))))
@@ -109,13 +109,13 @@ lane_low spec rows n sound less =
 seen_by : (a b : Bool) (n f m : ℕ) (row : Row) → a ≡ false → b ≡ false → is_seen (cond a (InFactor n) (cond b (InProcessor f) (InApplication m))) row ≡ true
 seen_by a b n f m row e g = rw (e, g) refl
 
--- the first lane of an application
+-- Every row has a box in the lane of the first application.
 first_app : (spec : Parts) (rows : List Row) (row : Row) → is_seen (lane_of (sheet_of spec rows) (length spec.factors + length spec.procs)) row ≡ true
 first_app spec rows row =
     let at = length spec.factors + length spec.procs in
     seen_by (nat_lt at (length spec.factors)) (nat_lt at at) at (at - length spec.factors) (at - at) row (le-ltb at (length spec.factors) (omega arith)) (le-ltb at at (omega arith))
 
--- the name of a lane without its first two bytes
+-- The text of the name of lane `n` without its first two bytes.
 abbrev name_rest : Parts → Sheet → ℕ → List ℕ
 name_rest spec sheet n =
     (codes "ext class=\"name\" x=\"128\" y=\"" ++ decimal (lane_y sheet n + 12) ++ codes "\">" ++ lane_name spec (lane_of sheet n) ++ codes "</text>") ++ codes "\n"
@@ -123,11 +123,11 @@ name_rest spec sheet n =
 small : (spec : Parts) (rows : List Row) → IsSpec spec → length rows < 2 ^ 32 → IsSmall (sheet_of spec rows)
 small spec rows sound few = record { rows = few; lanes = lanes_few spec rows sound }
 
--- the boxes of a lane of a flight
+-- The text of the boxes of lane `n` of a flight.
 abbrev boxes : Parts → List Row → ℕ → List ℕ
 boxes spec rows n = spans_text spec (sheet_of spec rows) rows (strip_of (sheet_of spec rows) n)
 
--- the reconfigurations of a flight
+-- The text of the reconfigurations of a flight.
 abbrev reports_text : Parts → Sheet → List Report → List ℕ
 reports_text spec sheet reports = texts_below (reconfiguration_boxes spec sheet reports) (length reports)
 
@@ -135,7 +135,7 @@ boxes_lines : (spec : Parts) (rows : List Row) (reports : List Report) (n : ℕ)
 boxes_lines spec rows reports n sound drawn less =
     lane_walk spec (sheet_of spec rows) rows (strip_of (sheet_of spec rows) n) sound (lane_inside spec rows n less) (lane_low spec rows n sound less) drawn.rows_drawn drawn.few
 
--- the parts of two pictures are the same
+-- The parts of the pictures of two flights are the same.
 record SameParts (spec : Parts) (rows others : List Row) (reports reported : List Report) : Type 0 where
   pub top : spans_text spec (sheet_of spec rows) rows conf_strip ++ reports_text spec (sheet_of spec rows) reports
       ≡ spans_text spec (sheet_of spec others) others conf_strip ++ reports_text spec (sheet_of spec others) reported
@@ -177,14 +177,15 @@ reports_same spec rows others reports reported sound mine theirs e =
     (stable_spans_walk a_path spec sheet rows refl sound mine.few) (stable_spans_walk a_path spec other_sheet others refl sound theirs.few)
     (boxes_begin spec sheet (drawn_in sheet.rows reports)) (boxes_begin spec other_sheet (drawn_in other_sheet.rows reported)) whole)
 
--- the curves of a flight on its sheet
+-- If two flights have the same number of rows and the same text below the lanes, they have this text on the same
+-- sheet.
 foot_on : (spec : Parts) (rows others : List Row) → length rows ≡ length others → drop 2 (foot_text (sheet_of spec rows) rows) ≡ drop 2 (foot_text (sheet_of spec others) others)
     → foot_text (sheet_of spec rows) rows ≡ foot_text (sheet_of spec rows) others
 foot_on spec rows others same e =
     ap (λ (rest : List ℕ). 60 ∷ 116 ∷ rest) e
     ∙ ap (λ (frames : ℕ). foot_text (record { rows = frames; factors = length spec.factors; procs = length spec.procs; apps = length spec.apps }) others) (sym same)
 
--- the altitude, followed by the heading and the legend
+-- The text below the curve of the altitude: the curve of the heading, and the legend.
 abbrev below_altitude : Sheet → List Row → List ℕ
 below_altitude sheet rows = heading_text sheet rows ++ legend_text sheet
 

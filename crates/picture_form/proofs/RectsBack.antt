@@ -24,13 +24,14 @@ decimal_digits n small = digits_all (decimal n) (decimal_is_IsNumeral n small).0
 pub decimal_plain : (n : ℕ) → n < 2 ^ 64 → all_over 32 (decimal n) ≡ true
 decimal_plain n small = all_over_less 32 48 (decimal n) (omega arith) (decimal_over n small)
 
--- the same number in two texts that continue alike
+-- If two texts begin with numbers and the same byte, which is not a digit, follows both numbers, the numbers and the
+-- rests of the texts are equal.
 pub same_number : (d k j : ℕ) (r s : List ℕ) → is_ascii_digit d ≡ false → k < 2 ^ 64 → j < 2 ^ 64 → decimal k ++ d ∷ r ≡ decimal j ++ d ∷ s → (k ≡ j) × (r ≡ s)
 same_number d k j r s free p q h =
     let both = field is_ascii_digit d (decimal k) (decimal j) r s free (decimal_digits k p) (decimal_digits j q) h in
     (decimal_injective k j p q both.0, both.1)
 
--- the frames of a span after the first space; n is one less than the number of rows
+-- The text of the frames of a span after its first space, given `n`, which is one less than the number of rows.
 abbrev pub frames_tail : ℕ → ℕ → List ℕ
 frames_tail k zero = codes "frame " ++ decimal k
 frames_tail k (suc n) = codes "frames " ++ (decimal k ++ (codes " to " ++ decimal (k + suc n)))
@@ -62,7 +63,7 @@ frames_same k (suc n) j (suc m) r s p q h =
     let sums : k + suc n ≡ j + suc m = (same_number 60 (k + suc n) (j + suc m) r s refl p q last).0 in
     (start, omega (arith, start, sums))
 
--- The line of a box by its parts.
+-- The line of a box, given its parts.
 abbrev pub rect_of : List ℕ → List ℕ → List ℕ → List ℕ → List ℕ → List ℕ → List ℕ
 rect_of class box name words frames label =
     codes "<rect class=\"" ++ (class ++ (codes "\"" ++ (box ++ (codes "><title>" ++ (name ++ (codes " " ++ (words ++ (frames ++ (codes "</title></rect>" ++ (label ++ codes "\n"))))))))))
@@ -72,7 +73,7 @@ pub rect_grouped : (class box name words frames label : List ℕ)
     ≡ rect_of class box name words frames label
 rect_grouped class box name words frames label = simp append_assoc
 
--- the text after the words of a box
+-- The text after the words of a box.
 abbrev pub after_words : List ℕ → List ℕ → List ℕ
 after_words frames label = frames ++ (codes "</title></rect>" ++ (label ++ codes "\n"))
 

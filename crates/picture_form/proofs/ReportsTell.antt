@@ -1,4 +1,4 @@
--- Pictures with the same boxes of reconfigurations draw the same reconfigurations.
+-- If two pictures have the same boxes of reconfigurations, they draw the same reconfigurations.
 use Rattle.std.proofs.Common.{◌≡◌, ℕ, suc, ◌+◌, ◌<◌, ◌^◌, Bool, true, false, cond, List, [], ◌∷◌, ◌++◌, Option, Some, None, drop, map, length, refl, sym, ap, arith, append-nil, append_assoc, ◌∙◌}
 use Rattle.std.specs.Prelude.{codes, nat_lt, slice_get, slice_index, if◌then◌else◌}
 use Rattle.std.specs.Option.{option_map_or}
@@ -14,12 +14,12 @@ use Rattle.picture_form.proofs.Cuts.{Start, a_path, cut, skip, walk}
 use Rattle.picture_form.proofs.LanesTell.{dropped}
 use Rattle.picture_form.proofs.Sections.{bound_ends, own_ends, own_rect, report_box, report_grouped}
 
--- the boxes of reconfigurations that are drawn
+-- The text of the boxes of the reconfigurations that are drawn.
 abbrev pub boxes_of : Parts → Sheet → List Report → List ℕ
 boxes_of spec sheet [] = []
 boxes_of spec sheet (report ∷ reports) = report_boxes spec sheet report ++ boxes_of spec sheet reports
 
--- all of them are reconfigurations that can be drawn
+-- All reconfigurations of the list can be drawn.
 abbrev pub AllDrawn : List Report → Type 0
 AllDrawn [] = Unit {0}
 AllDrawn (report ∷ reports) = IsReportDrawn report × AllDrawn reports
@@ -62,7 +62,7 @@ boxes_whole spec sheet reports =
     let none : length reports ≡ 0 + length reports = omega arith in
     ap (texts_below (reconfiguration_boxes spec sheet reports)) none ∙ boxes_from spec sheet reports reports 0 refl
 
--- the beginning of boxes, or of the text after them if there are none
+-- A text followed by `<t` begins with an angle bracket, and the byte after the bracket does not begin a path.
 pub record Begins (text : List ℕ) : Type 0 where
   pub letter : ℕ
   pub rest : List ℕ
@@ -87,7 +87,7 @@ boxes_begin spec sheet (report ∷ reports) =
       is = ap (λ (text : List ℕ). (text ++ boxes_of spec sheet reports) ++ 60 ∷ 116 ∷ []) (whole_is spec sheet report) ∙ begins.is;
     }
 
--- boxes after the lines of stable configurations
+-- If two texts of boxes after lines of stable configurations are the same, the boxes are the same.
 pub boxes_same : (lines boxes others more : List ℕ) → walk a_path Start lines ≡ Start → walk a_path Start others ≡ Start → Begins boxes → Begins more → lines ++ boxes ≡ others ++ more → boxes ≡ more
 boxes_same lines boxes others more e f begins other_begins h =
     let whole = sym (append_assoc lines boxes (60 ∷ 116 ∷ [])) ∙ ap (λ (text : List ℕ). text ++ 60 ∷ 116 ∷ []) h ∙ append_assoc others more (60 ∷ 116 ∷ []) in
@@ -141,7 +141,7 @@ titles_same spec sheet other_sheet (report ∷ reports) (other ∷ others) sound
     let more = titles_same spec sheet other_sheet reports others sound few fits known.1 drawn.1 first.behind in
     ap (λ (title : List ℕ). title ∷ map (report_title spec) reports) first.title ∙ ap (λ (titles : List (List ℕ)). report_title spec other ∷ titles) more
 
--- Two flights with the same boxes of reconfigurations draw the same reconfigurations.
+-- If two flights have the same boxes of reconfigurations, the reconfigurations that they draw have the same titles.
 pub reports_tell : (spec : Parts) (sheet other_sheet : Sheet) (reports others : List Report) → IsSpec spec → sheet.rows < 2 ^ 32 → other_sheet.rows < 2 ^ 32 → Each IsReportDrawn reports → Each IsReportDrawn others
     → boxes_of spec sheet (drawn_in sheet.rows reports) ≡ boxes_of spec other_sheet (drawn_in other_sheet.rows others)
     → drawn_titles spec sheet.rows reports ≡ drawn_titles spec other_sheet.rows others

@@ -1,4 +1,4 @@
--- Four pieces appended to a line.
+-- Lemmas on four pieces that are appended to a line.
 use Rattle.std.proofs.Common.{◌≡◌, ℕ, List, ◌++◌, ap, append_assoc, ◌∙◌}
 
 pub route_added : (line one two three four before name given between dash : List ℕ) → one ≡ line ++ before → given ≡ name → two ≡ one ++ given

@@ -1,4 +1,4 @@
--- The parts of a picture are lines.
+-- Each part of a picture consists of whole lines.
 use Rattle.std.proofs.Common.{◌≡◌, ℕ, zero, suc, ◌+◌, ◌-◌, ◌*◌, ◌<◌, ◌≤◌, ◌^◌, min, Bool, true, false, cond, List, [], ◌∷◌, ◌++◌, Option, Some, None, IfSome, drop, length, decimal, refl, ap, append_assoc, arith, div-le_self, mul-le-mul, ◌∙◌}
 use Rattle.std.specs.Prelude.{◌==◌, ◌&&◌, codes, nat_lt, slice_get, if◌then◌else◌}
 use Rattle.std.specs.Option.{option_map_or}
@@ -30,7 +30,7 @@ use Rattle.picture_form.proofs.ShowsBack.{IsShownIn, conf_name_over, plain}
 use Rattle.picture_form.proofs.SpansBack.{alike_few, rect_line, scale_most, span_of, width_small, x_small}
 use Rattle.picture_form.proofs.LanesTell.{begun, begun_is, is_drawn, spans_from, spans_whole}
 
--- a line of its own
+-- Lemmas on texts of one line.
 
 path_line : (ok : ℕ → Bool) (t : List ℕ) → ok 112 ≡ true → left_after 10 (Some 1) (60 ∷ 112 ∷ t) ≡ Some 0 → walk ok Start (60 ∷ 112 ∷ t) ≡ Start
 path_line ok t good e = is_line ok 112 t good refl e
@@ -46,9 +46,9 @@ walk_where : (there : Bool) (text : List ℕ) → walk no_name Start text ≡ St
 walk_where true text e = e
 walk_where false text e = refl
 
--- the size of a sheet
+-- Lemmas on the size of a sheet.
 
--- A sheet has the rows of a flight, and no more lanes than a specification can have.
+-- A sheet has fewer than `2 ^ 32` rows, and at most 22 lanes, which is the maximum that a specification can have.
 pub record IsSmall (sheet : Sheet) : Type 0 where
   pub rows : sheet.rows < 2 ^ 32
   pub lanes : lanes_of sheet ≤ 22
@@ -102,14 +102,14 @@ begin_walk sheet (Some report) small known =
     ∙ passed 10 32 0 (decimal (bottom_of sheet)) _ (omega arith) (decimal_plain (bottom_of sheet) (omega (arith, lanes)))) in
     walk_where (nat_lt report.begin sheet.rows) (begin_line sheet report.begin) (path_line no_name (drop 2 (begin_line sheet report.begin)) refl ends)
 
--- ticks and beginnings
+-- The ticks and the lines at the starts of reconfigurations consist of whole lines that name no lane.
 pub grid_walk : (sheet : Sheet) (reports : List Report) → IsSmall sheet → Each IsReportDrawn reports
     → walk no_name Start (grid_text sheet reports) ≡ Start
 grid_walk sheet reports small known =
     walk_both no_name (ticks_text sheet) (texts_below (begin_text sheet reports) (length reports)) (walk_below (tick_text sheet) (ticks_of sheet) (λ j less. tick_walk sheet j small less))
     (walk_below (begin_text sheet reports) (length reports) (λ n less. begin_walk sheet (slice_get reports n) small (λ report there. known n report there)))
 
--- configurations that are stable
+-- The text of a span in which a configuration is stable consists of whole lines.
 
 stable_walk : (ok : ℕ → Bool) (spec : Parts) (sheet : Sheet) (conf : Option ConfId) (span : Span) → ok 112 ≡ true → IsSpec spec → span.first ≤ 2 ^ 33 → span.rows ≤ 2 ^ 33 → span.y ≤ 6000 → walk ok Start (stable_text spec sheet conf span) ≡ Start
 stable_walk ok spec sheet None span good sound few rows low = refl
@@ -139,7 +139,7 @@ stables_walk ok spec sheet (row ∷ rows) k before good sound few =
 pub stable_spans_walk : (ok : ℕ → Bool) (spec : Parts) (sheet : Sheet) (rows : List Row) → ok 112 ≡ true → IsSpec spec → length rows < 2 ^ 32 → walk ok Start (spans_text spec sheet rows conf_strip) ≡ Start
 stable_spans_walk ok spec sheet rows good sound few = ap (walk ok Start) (spans_whole spec sheet rows conf_strip) ∙ stables_walk ok spec sheet rows 0 None good sound (omega (arith, few))
 
--- boxes of a lane
+-- Lemmas on the boxes of a lane.
 
 boxes_by : (drawn : Bool) (text rest : List ℕ) → (drawn ≡ true → walk no_name Start text ≡ Start) → walk no_name Start rest ≡ Start → walk no_name Start (cond drawn text [] ++ rest) ≡ Start
 boxes_by true text rest e f = walk_both no_name text rest (e refl) f
@@ -162,9 +162,9 @@ pub lane_walk : (spec : Parts) (sheet : Sheet) (rows : List Row) (strip : Strip)
 lane_walk spec sheet rows strip sound inside low known few =
     ap (walk no_name Start) (spans_whole spec sheet rows strip) ∙ boxes_walk spec sheet strip rows 0 None sound inside low known (omega (arith, few))
 
--- reconfigurations
+-- Lemmas on reconfigurations.
 
--- a bound that is given has at most 1000 frames
+-- If a bound is given, it has at most 1000 frames.
 abbrev IsGiven : Option ℕ → Type 0
 IsGiven given = IfSome given (λ (frames : ℕ). frames ≤ 1000)
 
@@ -252,11 +252,11 @@ bound_walk : (sheet : Sheet) (begin : ℕ) (given : Option ℕ) → sheet.rows <
 bound_walk sheet begin None few early = refl
 bound_walk sheet begin (Some bound) few early = box_line (drop 2 (bound_rect sheet begin (Some bound))) (bound_ends sheet begin bound few early)
 
--- the box of a reconfiguration
+-- The attributes of the box of a reconfiguration.
 abbrev pub report_box : Sheet → Report → List ℕ
 report_box sheet report = box_text (x_of sheet report.begin) 48 (rows_width sheet report.begin report.end)
 
--- the line of a reconfiguration without its bound
+-- The line of a reconfiguration without its bound.
 abbrev pub own_rect : Parts → Sheet → Report → List ℕ
 own_rect spec sheet report =
     codes "<rect class=\"reconfiguration\"" ++ (report_box sheet report ++ (codes "><title>" ++ (report_title spec report ++ codes "</title></rect>\n")))

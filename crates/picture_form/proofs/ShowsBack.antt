@@ -36,7 +36,7 @@ use Rattle.picture_form.specs.Spans.{act_label, class_text, label_of, lane_name,
 use Rattle.picture_form.proofs.Cuts.{both_over, field}
 use Rattle.picture_form.proofs.RectsBack.{frames_same, frames_tail}
 
--- names
+-- Lemmas on names.
 
 option_over : {A : Type 0} (name : A → List ℕ) (o : Option A) → ((x : A) → o ≡ Some x → is_name (name x) ≡ true) → all_over 48 (option_map_or name o []) ≡ true
 option_over name None h = refl
@@ -73,14 +73,15 @@ word_over word.Lost = refl
 pub plain : (text : List ℕ) → all_over 48 text ≡ true → all_over 32 text ≡ true
 plain text e = all_over_less 32 48 text (omega arith) e
 
--- A lane of a specification in which rows are shown by their words.
+-- The lane is not that of configurations, and if it is the lane of an application, the specification has the
+-- application.
 abbrev pub IsShownIn : Parts → Lane → Type 0
 IsShownIn spec Configuration = ⊥
 IsShownIn spec (InFactor i) = Unit {0}
 IsShownIn spec (InProcessor p) = Unit {0}
 IsShownIn spec (InApplication a) = a < length spec.apps
 
--- Whether a row has a box in a lane: a processor that is down has none.
+-- Whether a row has a box in a lane. Only a processor that is down has no box.
 abbrev pub is_seen : Lane → Row → Bool
 is_seen Configuration row = true
 is_seen (InFactor i) row = true
@@ -93,7 +94,7 @@ class_over spec (InFactor i) row known = let v = known.values i in decimal_over 
 class_over spec (InProcessor p) row known = refl
 class_over spec (InApplication a) row known = word_over (act_word (act_of row a))
 
--- the act of an application
+-- Lemmas on the act of an application.
 
 mode_over : (spec : Parts) (a : ℕ) (app : AppSpec) (mode : Mode) → IsSpec spec → slice_get spec.apps a ≡ Some app → IsSome (mode_in app.modes mode.0) → all_over 48 (mode_text app.kind.0 mode.0) ≡ true
 mode_over spec a app mode sound there listed =
@@ -145,7 +146,7 @@ label_words_plain spec (InProcessor p) row sound inside known = refl
 label_words_plain spec (InApplication a) row sound inside known = some_item spec.apps a inside (λ app there.
     ap (λ (kind : ℕ). all_over 32 (act_label spec kind (act_of row a))) (kind_is spec a app there) ∙ act_label_plain spec a app (act_of row a) sound there (known.acts a app there))
 
--- words of acts differ
+-- Different acts have different words.
 
 word_names : List (Option (List ℕ))
 word_names = Some (codes "ran") ∷ Some (codes "halting") ∷ Some (codes "preparing") ∷ Some (codes "initialising") ∷ Some (codes "held") ∷ Some (codes "off") ∷ Some (codes "lost") ∷ []
@@ -163,7 +164,8 @@ word_found word.Lost = refl
 words_differ : (what other : ActWord) → word_text what ≡ word_text other → word_number what ≡ word_number other
 words_differ what other e = same_some (word_number what) (word_number other) (sym (word_found what) ∙ ap (number_in word_names) e ∙ word_found other)
 
--- Two boxes show the same of equally many rows from the same row on; `n` and `m` are one less than the numbers of rows.
+-- Two boxes show the same of the same number of rows from the same row on, given `n` and `m`, which are one less than
+-- the numbers of rows.
 pub record SameEnds (k n j m : ℕ) (alike : Bool) : Type 0 where
   pub same : alike ≡ true
   pub first : k ≡ j

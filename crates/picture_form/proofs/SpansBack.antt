@@ -23,7 +23,7 @@ use Rattle.picture_form.proofs.Cuts.{cut, left_after}
 use Rattle.picture_form.proofs.RectsBack.{box_plain, box_quotes, frames_after, frames_plain, frames_tail, label_plain, rect_ends, rect_grouped, rect_of, rect_parts}
 use Rattle.picture_form.proofs.ShowsBack.{IsShownIn, SameEnds, class_over, is_seen, label_words_plain, lane_name_over, plain, shown_same, words_plain}
 
--- positions
+-- Lemmas on positions.
 
 scale_by : (a b c : Bool) → cond a 1 (cond b 2 (cond c 4 8)) ≤ 8
 scale_by true b c = omega arith
@@ -40,9 +40,9 @@ width_small sheet rows few = let m : scale_of sheet.rows * rows ≤ 8 * 2 ^ 33 =
 pub x_small : (sheet : Sheet) (k : ℕ) → k ≤ 2 ^ 33 → x_of sheet k ≤ 2 ^ 37
 x_small sheet k few = let m : scale_of sheet.rows * k ≤ 8 * 2 ^ 33 = mul-le-mul (scale_most sheet.rows) few in omega (arith, m)
 
--- one box
+-- Lemmas on one box.
 
--- the box of n + 1 rows from row k on
+-- The span of `n + 1` rows from row `k` on.
 abbrev pub span_of : Lane → ℕ → ℕ → ℕ → Span
 span_of lane y k n = record { lane = lane; y = y; first = k; rows = suc n }
 
@@ -71,7 +71,7 @@ pub record SameBoxes (k n j m : ℕ) (alike : Bool) (rest other_rest : List ℕ)
   pub ends : SameEnds k n j m alike
   pub behind : rest ≡ other_rest
 
--- Boxes of a lane at the beginning of one text are those of rows that are shown alike.
+-- If two texts begin with boxes of a lane and are the same, the boxes show the same rows alike.
 pub rects_same : (spec : Parts) (lane : Lane) (y : ℕ) (sheet other_sheet : Sheet) (row other : Row) (k n j m : ℕ) (r s : List ℕ) → IsSpec spec → IsShownIn spec lane → IsRowDrawn spec row
     → IsRowDrawn spec other → is_seen lane row ≡ true → is_seen lane other ≡ true → y ≤ 6000 → k + n < 2 ^ 32 → j + m < 2 ^ 32
     → rect_text spec sheet row (span_of lane y k n) ++ r ≡ rect_text spec other_sheet other (span_of lane y j m) ++ s → SameBoxes k n j m (are_alike lane row other) r s
@@ -93,7 +93,7 @@ rects_same spec lane y sheet other_sheet row other k n j m r s sound inside know
       behind = lines.1;
     }
 
--- rows that are shown alike
+-- Lemmas on rows that are shown alike.
 
 proc_is : (p q : Option ProcId) → same_proc p q ≡ true → p ≡ q
 proc_is None None e = refl
@@ -120,7 +120,7 @@ doing_swaps act other third e =
     ∙ ap (λ (n : ℕ). (word_number (act_word other) == word_number (act_word third)) && (n == mode_of_act third) && same_proc (proc_of_act act) (proc_of_act third)) modes
     ∙ ap (λ (p : Option ProcId). (word_number (act_word other) == word_number (act_word third)) && (mode_of_act other == mode_of_act third) && same_proc p (proc_of_act third)) procs
 
--- A third row is shown like both of two rows that are shown alike, or like neither.
+-- If two rows are shown alike, a third row is shown like both of them or like neither.
 pub alike_swaps : (spec : Parts) (lane : Lane) (row other third : Row) → IsShownIn spec lane → are_alike lane row other ≡ true → are_alike lane row third ≡ are_alike lane other third
 alike_swaps spec Configuration row other third inside e = absurd inside
 alike_swaps spec (InFactor i) row other third inside e =

@@ -1,4 +1,4 @@
--- Traces that are read can be drawn.
+-- Every trace that can be read can be drawn.
 use Rattle.std.proofs.Common.{ℕ, ◌≡◌, ◌<◌, ◌≤◌, ◌+◌, ◌-◌, ◌^◌, Bool, true, false, cond, List, [], ◌∷◌, ◌++◌, Option, Result, Ok, Err, length, arith, refl}
 use Rattle.std.specs.Prelude.{◌==◌, ◌&&◌, codes, nat_lt, ⊤}
 use Rattle.std.proofs.lemmas.List.{length-append}
@@ -27,16 +27,17 @@ use Rattle.trace_text.proofs.Inversion.{if_ok}
 use Rattle.picture_form.proofs.LinesDrawn.{app_drawn, app_shown, line_read, report_drawn}
 use Rattle.picture_form.specs.Laws.{IsReportDrawn, IsRowDrawn, TracesAreDrawn}
 
--- line by line
+-- Lemmas on the lines of a trace, in order.
 
--- a row whose applications have been read can be drawn, and has its place in a flight
+-- A row of which some applications were read can be drawn, and the rows before it are fewer than the maximum number
+-- of frames.
 abbrev OpenDrawn : Parts → List Row → Expected → Type 0
 OpenDrawn spec rows Rows = ⊤
 OpenDrawn spec rows (Apps a row) = IsRowDrawn spec row × (length rows < MAX_FRAMES)
 OpenDrawn spec rows Reports = ⊤
 OpenDrawn spec rows Over = ⊤
 
--- the contents of the lines so far can be drawn
+-- The contents of the lines that were read so far can be drawn.
 record Drawn (spec : Parts) (s : ReadingState) : Type 0 where
   rows : Each (IsRowDrawn spec) s.rows
   reports : Each IsReportDrawn s.reports
@@ -111,7 +112,7 @@ line_step : (spec : Parts) (s t : ReadingState) (line : List ℕ) → IsSpec spe
 line_step spec s t line sound drawn h =
     standing_step spec s t s.standing line sound drawn drawn.begun (if_ok (is_plain line) (standing_line spec s s.standing line) BROKEN_LINE t h).1
 
--- a trace that is read to its end can be drawn
+-- A flight whose trace was read to its end can be drawn.
 record DrawnWhole (spec : Parts) (flown : Flown) : Type 0 where
   rows : Each (IsRowDrawn spec) flown.rows
   reports : Each IsReportDrawn flown.reports

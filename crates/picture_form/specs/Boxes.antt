@@ -18,7 +18,7 @@ unfoldable pub placed_text : List ℕ → ℕ → ℕ → List ℕ → List ℕ
 placed_text class x y text =
     codes "<text class=\"" ++ class ++ codes "\"" ++ place_text x y ++ codes ">" ++ text ++ codes "</text>"
 
--- A label in a box, or the empty text if the box is too narrow. A letter counts as 7 pixels wide.
+-- A label in a box, or the empty text if the box is too narrow. Each letter counts as 7 pixels.
 abbrev pub label_text : ℕ → ℕ → ℕ → List ℕ → List ℕ
 label_text x y width label = if nat_le (7 * length label + 3) width then placed_text (codes "value") (x + 3) (y + 12) label else []
 

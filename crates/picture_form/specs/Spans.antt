@@ -38,7 +38,8 @@ class_text (lane.Factor i) row = codes "v" ++ decimal (slice_index row.env.facto
 class_text (lane.Processor p) row = codes "up"
 class_text (lane.Application a) row = word_text (act_word (act_of row a))
 
--- The mode and the processor of an act, each preceded by a space. What the act does not have is left out.
+-- The mode and the processor of an act, each preceded by a space. A mode or a processor that the act does not have is
+-- left out.
 abbrev pub mode_and_proc : Parts → ℕ → Act → List ℕ
 mode_and_proc spec kind (act.Ran mode proc) = codes " " ++ mode_text kind mode.0 ++ codes " " ++ proc_name spec proc.0
 mode_and_proc spec kind (act.Halting k n proc) = codes " " ++ proc_name spec proc.0
@@ -83,8 +84,8 @@ rect_text spec sheet row span =
     ++ lane_name spec span.lane ++ codes " " ++ words_text spec span.lane row ++ frames_text span.first span.rows ++ codes "</title></rect>"
     ++ span_label sheet span (label_of spec span.lane row) ++ codes "\n"
 
--- A line below a span in which a configuration is stable, with the configuration's name, or the empty text if none is
--- stable.
+-- A line below a span in which a configuration is stable, with the configuration's name. The text is empty if no
+-- configuration is stable.
 abbrev pub stable_text : Parts → Sheet → Option ConfId → Span → List ℕ
 stable_text spec sheet None span = []
 stable_text spec sheet (Some c) span =

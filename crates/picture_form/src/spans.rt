@@ -199,7 +199,8 @@ fn add_words(line: &mut Line, spec: &Spec, lane: Lane, row: &Row)
     }
 }
 
-// Appends the mode and the processor of an act, each preceded by a space. What the act does not have is left out.
+// Appends the mode and the processor of an act, each preceded by a space. A mode or a processor that the act does not
+// have is left out.
 fn add_mode_and_proc(line: &mut Line, spec: &Spec, kind: KindId, act: &Act)
     requires { length line.old + 34 ≤ MAX_LINE_BYTES }
     ensures text { line.new ≡ line.old ++ mode_and_proc spec.now kind.0 act.now }

@@ -1,4 +1,4 @@
--- Each answer with status 0 is assured.
+-- Each answer of the command with status 0 gives the assurance of its form.
 use Rattle.std.proofs.Common.{◌≡◌, ℕ, List}
 use Rattle.std.specs.Prelude.{Option, Some, None}
 use Rattle.form_base.specs.Assurance.{IsAssuring}

@@ -1,4 +1,5 @@
--- If nothing fails and a mission is read, its flight is answered, or the allocator was out of memory.
+-- If nothing fails and the files hold a mission, the answer is the flight of the mission, or the allocator was out of
+-- memory.
 use Rattle.std.proofs.Common.{◌≡◌, ℕ, ◌<◌, ◌≤◌, List, [], ◌∷◌, length, refl, sym, ◌∙◌, ap, inl, inr, ◌⊎◌, arith}
 use Rattle.std.proofs.lemmas.Bool.Decides.{nat_tests}
 use Rattle.std.specs.Prelude.{Bool, true, false, Option, Some, None, IfSome, IsTrue, Result, Ok, Err, cond, nat_le}
@@ -27,12 +28,13 @@ use Rattle.flight_forms.specs.Missions.{UnlessRefused, mission_refusal, refusal_
 use Rattle.flight_forms.specs.Texts.{flight_text}
 use Rattle.scram_cli.specs.Laws.{EndsAnswered, HasRoomFor, HoldsMission, MissionsAreAnswered}
 
--- a value is read from at most the limit of bytes
+-- If a value is read from bytes, there are at most as many bytes as the limit allows.
 short_by : {A E : Type 0} (few : Bool) (read : Result A E) (fault : E) (value : A) → cond few read (Err fault) ≡ Ok value → few ≡ true
 short_by true read fault value is = refl
 short_by false read fault value is = absurd (let e = is in cc)
 
--- the file was read with the map's bytes, and the answer uses it; no count fell meanwhile
+-- The file was read with the bytes that the map has for it, and the answer to these bytes is given. The fault count
+-- did not fall meanwhile.
 record RestAnswers (map : FileMap) (Answers : Answer) (before after : FilesState) (status : ℕ) (text : List ℕ) : Type 0 where
   rest : History
   between : FilesState
@@ -40,7 +42,7 @@ record RestAnswers (map : FileMap) (Answers : Answer) (before after : FilesState
   agrees : Agrees map rest
   answers : Answers between after rest status text
 
--- the file is there and not too long, and no count rose, so the answer is that of its bytes
+-- If the file exists, is not too long, and no fault count rose, the answer is the one to the file's bytes.
 
 bytes_answered : (limit : ℕ) (name : List ℕ) (A : List ℕ → Answer) (map : FileMap) (bytes : List ℕ) (before after : FilesState) (reads : History)
     (status : ℕ) (text : List ℕ) → file_at name map ≡ Some bytes → Agrees map reads → AnswersBytes limit name A before after reads status text
@@ -79,7 +81,7 @@ file_answered limit long name A map bytes start before after reads status text f
 file_answered limit long name A map bytes start before after reads status text file few quiet count agrees (inr is) =
     not_unread limit long name map bytes start before after reads status text file few quiet count agrees is
 
--- a document that encodes a value is answered by the value
+-- If a document encodes a value, the answer to the document is the answer to this value.
 
 said_spec : (spec : Parts) (Then : Parts → Answer) (bytes : List ℕ) (before after : FilesState) (reads : History) (status : ℕ) (text : List ℕ) → spec_of bytes ≡ Ok spec
     → AnswersDocument SaysSpecification BreaksSpecification Then bytes before after reads status text → Then spec before after reads status text
@@ -98,7 +100,7 @@ said_script spec script Then bytes before after reads status text reading (inl i
     rw same at is.2
 said_script spec script Then bytes before after reads status text reading (inr is) = absurd (let read = is.1.is in cc)
 
--- the flight is answered if nothing is refused
+-- If neither the specification nor the script is refused, the answer is the flight of their mission.
 
 script_none : (outside : Option Outside) (A : ℕ → List ℕ → Type 0) (status : ℕ) (text : List ℕ) → outside ≡ None → UnlessRefused (script_refusal outside) A status text → A status text
 script_none (Some outside) A status text is gives = absurd (let e = is in cc)
@@ -109,7 +111,7 @@ refused_none : (spec : Parts) (script : ScriptParts) (shown : Option Shown) (A :
 refused_none spec script (Some shown) A status text is nowhere gives = absurd (let e = is in cc)
 refused_none spec script None A status text is nowhere answers = script_none (first_outside spec script) A status text nowhere answers
 
--- the one answer if the files hold a mission
+-- If the files hold a mission and no fault count rose, the only answer of `run` is the trace of the mission.
 mission_answered : (specification script : List ℕ) (map : FileMap) (mission : MissionParts) (before after : FilesState) (reads : History) (status : ℕ) (text : List ℕ)
     → HoldsMission map specification script mission → Unrisen before.faults after.faults → Agrees map reads
     → RunAnswers specification script before after reads status text → Gives (ANSWERED, flight_text Trace mission) status text
@@ -142,7 +144,7 @@ has_room specification script map mission before old holds room = record {
   memory = room.memory;
 }
 
--- the text that was written is the answer, or the allocator was out of memory, if no count rose
+-- If no fault count rose, the text that was written is the answer, or the line that reports out of memory.
 shown_whole : (old new : SinkState) (code status : ℕ) (text : List ℕ) → Unrisen old.faults new.faults
     → ((code ≡ status) × WentOut old new text) ⊎ ((code ≡ UNWRITTEN_OUTPUT) × StoppedIn old new text) → (code ≡ status) × WentOut old new text
 shown_whole old new code status text quiet (inl is) = is

@@ -1,8 +1,9 @@
--- Lists of few words.
+-- Lemmas on lists of few words.
 use Rattle.std.proofs.Common.{ℕ, ◌≡◌, ◌<◌, List, [], ◌∷◌, length, arith, refl}
 use Rattle.scram_cli.specs.Forms.{form_of, form_of_few}
 
--- fewer than three words are not those of `choose`
+-- Fewer than three words never have the form `choose`. Therefore, their form is found among the forms of at most six
+-- words.
 pub few_words : (words : List (List ℕ)) → length words < 3 → form_of_few words ≡ form_of words
 few_words [] low = refl
 few_words (a ∷ []) low = refl

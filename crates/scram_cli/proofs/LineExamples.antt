@@ -1,4 +1,4 @@
--- Worked lines, computed and compared with what is printed.
+-- Examples of lines, which are computed and compared with the text that is printed.
 use Rattle.std.proofs.Common.{◌≡◌, refl, ℕ, List, [], ◌∷◌, pos}
 use Rattle.std.specs.Prelude.{Option, Some, None, codes, replicate}
 use Rattle.std.specs.Fmt.{digits}
@@ -30,7 +30,7 @@ two_valued name = record { name = name; values = codes "ok" ∷ codes "failed" �
 abbrev proc : List ℕ → Proc
 proc name = record { name = name; capacity = 100 }
 
--- the names of a mission, and its failure assumption
+-- A specification with these factors and bounds, two processors, one application and two configurations.
 abbrev named : List Factor → List Bound → Parts
 named factors bounds = record {
   procs = proc (codes "p0") ∷ proc (codes "p1") ∷ [];
@@ -53,7 +53,7 @@ named factors bounds = record {
 abbrev alternators : Parts
 alternators = named (two_valued (codes "alternator1") ∷ two_valued (codes "alternator2") ∷ []) []
 
--- a cycle of needs
+-- The line for needs that have a cycle.
 cycle : specification_line (record {
   rule = 21;
   path = codes ".apps";
@@ -63,7 +63,7 @@ cycle : specification_line (record {
 unfolding digits
 cycle = refl
 
--- the whole document
+-- The line for a rule that the whole document breaks.
 whole : specification_line (record { rule = 1; path = []; cycle = record { items = [] }; names = record { items = [] } })
     ≡ codes "refused: specification rule 1 at .\n"
 unfolding digits
@@ -73,7 +73,7 @@ script : script_line (record { rule = 11; path = codes ".changes.1" }) ≡ codes
 unfolding digits
 script = refl
 
--- a processor is down, and nothing else is shown
+-- The line for an environment in which a processor is down, without a further part.
 down : shown_line alternators (record {
   condition = 5;
   conf = Some (conf_id 0);
@@ -83,7 +83,7 @@ down : shown_line alternators (record {
 unfolding digits
 down = refl
 
--- an alternator has failed, and a further configuration is shown
+-- The line for an environment in which an alternator has failed, with a further configuration.
 failed : shown_line alternators (record {
   condition = 7;
   conf = Some (conf_id 0);
@@ -93,7 +93,7 @@ failed : shown_line alternators (record {
 unfolding digits
 failed = refl
 
--- without factors, with both processors down
+-- The line for an environment without factors in which both processors are down.
 both_down : shown_line (named [] []) (record {
   condition = 5;
   conf = Some (conf_id 1);
@@ -135,17 +135,17 @@ halts : outside_line (record { frame = 30; kind = kind.Halts }) ≡ codes "refus
 unfolding digits
 halts = refl
 
--- four sets of values, with no processor or one of two down
+-- There are 12 states: four sets of values of the factors, each with both processors up or with one of them down.
 accepted : accepted_line alternators ≡ codes "accepted: configurations 2 states 12 bounds 0\n"
 unfolding digits
 accepted = refl
 
--- a number with a leading zero, in the first line
+-- The line for a trace in whose first line a number has a leading zero.
 trace : trace_line (record { line = 1; rule = 5 }) ≡ codes "refused: trace rule 5 at line 1\n"
 unfolding digits
 trace = refl
 
--- a file that is too long
+-- The line for a trace in a file that is too long.
 long : trace_line (record { line = 0; rule = 9 }) ≡ codes "refused: trace rule 9 at line 0\n"
 unfolding digits
 long = refl
@@ -157,13 +157,13 @@ broken = refl
 reconfiguration : Option ConfId → ℕ → ℕ → Report
 reconfiguration to begin end = record { from = conf_id 0; to = to; begin = begin; end = end }
 
--- an unfinished reconfiguration counts
+-- An unfinished reconfiguration is counted among the reconfigurations.
 holds : (row : Row) → holds_line (record { rows = replicate 11 row; reports = reconfiguration None 10 11 ∷ [] })
     ≡ codes "holds: frames 11 reconfigurations 1\n"
 unfolding digits
 holds row = refl
 
--- without rows the start configuration is shown, and an unfinished reconfiguration does not count as the longest
+-- If there are no rows, the start configuration is shown. An unfinished reconfiguration is not the longest one.
 flown : fly_line 18 alternators [] (reconfiguration (Some (conf_id 1)) 10 15 ∷ reconfiguration (Some (conf_id 0)) 50 57 ∷ reconfiguration None 60 99 ∷ [])
     ≡ codes "fly 18 frames 0 reconfigurations 3 longest 7 final full\n"
 unfolding digits reconfiguration

@@ -1,4 +1,4 @@
--- The modes and the acts of a flight's rows name things that exist.
+-- The modes and the acts in the rows of a flight name only items of the specification.
 use Rattle.std.proofs.Common.{◌≡◌, ◌∙◌, ℕ, suc, ◌<◌, ◌≤◌, ◌-◌, Bool, true, false, cond, List, [], ◌∷◌, length, arith, refl, sym, subst}
 use Rattle.std.specs.Prelude.{◌==◌, ⊤, nat_lt, Option, Some, None, IsSome, option_and_then, slice_get}
 use Rattle.std.specs.Option.{option_map_or}
@@ -33,7 +33,7 @@ use Rattle.frame_model.specs.States.{act_of_order, act_on}
 use Rattle.frame_model.specs.Tasks.{halting_order, initialising_order, off_task, preparing_order, task_at, task_for, task_in}
 use Rattle.trace_text.specs.Flights.{IsActShown, IsModeShown, IsMove}
 
--- the chosen configuration exists
+-- The configuration that the rules choose belongs to the specification.
 
 target_by : (t : Bool) (spec : Parts) (one other : ConfId) → IsIn spec.confs one → IsIn spec.confs other → IsIn spec.confs (cond t one other)
 target_by true spec one other h k = h
@@ -79,7 +79,7 @@ decision_shown spec frame (Moving from halting to since) settled arrived v sound
     mode_by arrived spec (stable_decision spec to frame v) (moving_decision spec frame from halting to since settled t) (stable_shown spec to frame v sound move.target low)
     (mode_by (t.0 == to.0) spec (Moving from halting to since) (turn_to spec frame from halting to since settled t) move (turn_shown spec frame from halting to since settled t move chosen low))
 
--- places
+-- Lemmas on places.
 
 placed_in : (spec : Parts) → IsSpec spec → (c a : ℕ) (found : Option Conf) → slice_get spec.confs c ≡ found → (place : Place) → option_and_then (λ (conf : Conf). place_in conf a) found ≡ Some place →
     IsPlace spec.procs spec.apps a place
@@ -89,7 +89,7 @@ placed_in spec sound c a (Some conf) there place is = (sound.confs c conf there)
 pub placed : (spec : Parts) → IsSpec spec → (c : ConfId) (a : ℕ) (place : Place) → place_of spec c a ≡ Some place → IsPlace spec.procs spec.apps a place
 placed spec sound c a place is = placed_in spec sound c.0 a (slice_get spec.confs c.0) refl place is
 
--- the cost of a mode
+-- Lemmas on the listed modes and the numbers of frames of their phases.
 
 listed_by : (t : Bool) (kind : ℕ) (listed : ModeSpec) (more : Option ModeSpec) (found : ModeSpec) → IsModeSpec kind listed → (more ≡ Some found → IsModeSpec kind found) →
     cond t (Some listed) more ≡ Some found → IsModeSpec kind found
@@ -101,7 +101,7 @@ mode_listed kind [] m found sound is = absurd (let e = is in cc)
 mode_listed kind (listed ∷ modes) m found sound is =
     listed_by (listed.mode.0 == m) kind listed (mode_in modes m) found (sound 0 listed refl) (mode_listed kind modes m found (λ i x there. sound (suc i) x there)) is
 
--- the phases of a mode take at most 16 frames
+-- Each phase of a mode takes at most 16 frames.
 pub record AreShort (listed : ModeSpec) : Type 0 where
   pub halt : listed.halt ≤ 16
   pub prepare : listed.prepare ≤ 16
@@ -125,9 +125,9 @@ time_by (Some listed) time h = h listed refl
 pub time_short : (spec : Parts) → IsSpec spec → (c : ConfId) (a : ℕ) (time : ModeSpec → ℕ) → ((listed : ModeSpec) → AreShort listed → time listed ≤ 16) → option_map_or time (mode_of spec c a) 0 ≤ 16
 time_short spec sound c a time h = time_by (mode_of spec c a) time (λ listed is. h listed (place_short spec sound a (place_of spec c a) listed is))
 
--- orders
+-- Lemmas on orders.
 
--- an order that names a frame of a phase names one of its frames
+-- If an order has a frame of a phase, the frame is less than the length of the phase, which is at most 16 frames.
 abbrev pub IsOrderShown : Order → Type 0
 IsOrderShown order.Run = ⊤
 IsOrderShown (order.Halt k n) = (k < n) × (n ≤ 16)
@@ -153,7 +153,7 @@ initialising_shown offset time age short =
     order_by (nat_lt age offset) order.Hold (cond (nat_lt (age - offset) time) (order.Init (age - offset) time) order.Hold) (λ e. tt)
     (order_by (nat_lt (age - offset) time) (order.Init (age - offset) time) order.Hold (λ e. (ltb-true (age - offset) time e, short)) tt)
 
--- the act of application a: it is off, or an order names it at its place
+-- The task of application `a` is either to be off or an order at the application's place.
 pub data IsTold (spec : Parts) (a : ℕ) (told : order_tasks.Task) : Type 0 where
   Nothing : told ≡ off_task → IsTold spec a told
   Told : (o : Order) (place : Place) → told ≡ task_at o place → IsOrderShown o → IsPlace spec.procs spec.apps a place → IsTold spec a told
@@ -168,7 +168,7 @@ task_told spec sound (phase.Halting c age) a = told_for spec sound c a _ (place_
 task_told spec sound (phase.Preparing c age) a = told_for spec sound c a _ (place_of spec c a) refl (preparing_shown _ age (time_short spec sound c a (λ (listed : ModeSpec). listed.prepare) (λ listed short. short.prepare)))
 task_told spec sound (phase.Initialising c age) a = told_for spec sound c a _ (place_of spec c a) refl (initialising_shown _ _ age (time_short spec sound c a (λ (listed : ModeSpec). listed.init) (λ listed short. short.init)))
 
--- acts
+-- Lemmas on acts.
 
 order_act : (spec : Parts) (a : ℕ) (app : AppSpec) (o : Order) (place : Place) → slice_get spec.apps a ≡ Some app → IsOrderShown o → IsPlace spec.procs spec.apps a place →
     IsActShown spec app (act_of_order o place.mode place.proc)

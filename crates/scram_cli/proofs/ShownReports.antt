@@ -1,4 +1,5 @@
--- The reconfigurations that rows show are within the flight, and the text that is printed for a flight is read.
+-- The reconfigurations that the rows show are within the flight, and the text that is printed for a flight can be
+-- read.
 use Rattle.std.proofs.Common.{◌≡◌, ℕ, zero, suc, ◌<◌, ◌≤◌, ◌+◌, Bool, true, false, cond, List, [], ◌∷◌, ◌++◌, length, arith, refl, subst}
 use Rattle.std.specs.Prelude.{IfSome, Option, Some, None, option_map}
 use Rattle.scram_types.specs.declared.rows.Row.{Row}
@@ -23,7 +24,7 @@ use Rattle.trace_props.proofs.Sizes.{few_reports}
 use Rattle.scram_cli.specs.Laws.{PrintedMissionsAreRead}
 use Rattle.scram_cli.proofs.ShownRows.{rows_shown}
 
--- a configuration that a row runs exists
+-- The configuration that a row runs belongs to the specification.
 
 found_low : (test : ℕ → Bool) (i n : ℕ) → IfSome (least_from test i n) (λ (j : ℕ). j < i + n)
 found_low test i zero = tt
@@ -44,7 +45,8 @@ runs_known spec (Some j) h = omega (arith, h)
 running_known : (spec : Parts) (acts : List Act) → IfSome (running spec acts) (IsIn spec.confs)
 running_known spec acts = runs_known spec (least_from (λ c. runs spec acts (conf_id c)) 0 (length spec.confs)) (found_low (λ c. runs spec acts (conf_id c)) 0 (length spec.confs))
 
--- the reading before the row of frame f
+-- The configuration `c` that is being left belongs to the specification, and the reconfiguration began before frame
+-- `f`.
 pub record IsLeft (spec : Parts) (f : ℕ) (c : ConfId) (begin : ℕ) : Type 0 where
   pub known : IsIn spec.confs c
   pub past : begin < f
@@ -65,7 +67,7 @@ read_shown : (spec : Parts) (f : ℕ) (reading : Reading) (acts : List Act) → 
 read_shown spec f (Steady c) acts known = left_by (runs spec acts c) spec f c known
 read_shown spec f (Leaving c begin) acts left = arrive_shown spec f c begin (running spec acts) left (running_known spec acts)
 
--- lists whose items have a property
+-- Lemmas on lists whose items have a property.
 
 each_append : {A : Type 0} (P : A → Type 0) (xs ys : List A) → Each P xs → Each P ys → Each P (xs ++ ys)
 each_append P [] ys h k i x there = k i x there

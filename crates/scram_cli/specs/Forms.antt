@@ -57,7 +57,7 @@ flight_of_three command specification further =
     else (if bytes_eq command (codes "faults") then option_map (λ (count : FaultCount). Faults specification count) (fault_count further)
     else (if bytes_eq command (codes "flights") then Some (Flights specification further) else None)))
 
--- The look at a trace that a command names, or `None` if it names none.
+-- The look at a trace that a command names, or `None` if there is no such look.
 abbrev pub look_of : List ℕ → Option Look
 look_of command =
     if bytes_eq command (codes "props") then Some Props
@@ -86,8 +86,8 @@ abbrev pub form_of_four : List ℕ → List ℕ → List ℕ → List ℕ → Op
 form_of_four command specification script schedule =
     if bytes_eq command (codes "replay") then Some (Flight (Replay specification script schedule)) else None
 
--- The halt that three words spell in decimal, or `None` if they spell none. The unit is 0 or 1, the frame at most
--- 19,999, and the number of steps at most 31.
+-- The halt that three words spell in decimal, or `None` if they do not spell one. The unit is 0 or 1, the frame is at
+-- most 19,999, and the number of steps is at most 31.
 abbrev pub unit_halt : List ℕ → List ℕ → List ℕ → Option UnitHalt
 unit_halt unit frame step =
     option_and_then
@@ -174,7 +174,8 @@ question_files (Fill specification) = specification ∷ []
 question_files (Choices specification) = specification ∷ []
 question_files (Choose specification conf state) = specification ∷ []
 
--- The names of the files of a form, in the order in which the files are read. Words that have no form have none.
+-- The names of the files of a form, in the order in which the files are read. The list is empty for words that have
+-- no form.
 abbrev pub files_of : Option (Form (List ℕ)) → List (List ℕ)
 files_of None = []
 files_of (Some (Flight flight)) = flight_files flight

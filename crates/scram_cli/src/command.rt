@@ -105,7 +105,7 @@ fn send_answer<R: AllocGlobal + Threads + Wait + Sync, F: Files, K: Sink>(
     }
 }
 
-// Answers the words without flushing the sink, which may still hold back printed text.
+// Answers the words without flushing the sink, which may hold back printed text afterwards.
 fn answer_words<R: AllocGlobal + Threads + Wait + Sync, F: Files, K: Sink>(
     rt: &R,
     words: &[String],

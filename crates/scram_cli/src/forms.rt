@@ -103,8 +103,8 @@ pub enum SpecificationForm<N> {
     Explain {
         specification: N,
     },
-    /// Prints why the specification or a script for it is refused. If they make a mission, prints the idle parts of the
-    /// specification.
+    /// Prints why the specification or a script for it is refused. If the two form a mission, prints the idle parts
+    /// of the specification.
     ExplainScript {
         specification: N,
         script: N,
@@ -113,7 +113,8 @@ pub enum SpecificationForm<N> {
     Fill {
         specification: N,
     },
-    /// Prints the configuration that each rule chooses, from where and in how many environments.
+    /// Prints the configuration that each rule chooses, with the configurations from which and the number of
+    /// environments in which the rule chooses it.
     Choices {
         specification: N,
     },

@@ -27,7 +27,8 @@ use std::thread::Threads;
 ///
 /// # Errors
 ///
-/// Out of memory for the bytes that standard output holds back. Then nothing was read or printed.
+/// Returns an error if there is no memory for the bytes that standard output holds back. In this case, nothing was
+/// read or printed.
 pub fn run_program<'a, R: AllocGlobal + rt::Files + Print + Threads + Wait + Sync>(
     rt: &'a R,
     words: &[String],

@@ -1,4 +1,4 @@
--- An answer with status 0 gives the assurance.
+-- Each answer of `check` or `bounds` with status 0 gives the assurance of its form.
 use Rattle.std.proofs.Common.{◌≡◌, ℕ, List, [], refl}
 use Rattle.std.specs.Prelude.{Option, Some, None}
 use Rattle.scram_types.specs.Specification.{IsSpec, Parts}

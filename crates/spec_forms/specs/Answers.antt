@@ -31,7 +31,8 @@ CheckAnswers specification = AsksSpecification specification (λ (spec : Parts).
 abbrev pub BoundsAnswers : List ℕ → Answer
 BoundsAnswers specification = AsksSpecification specification (λ (spec : Parts). WithoutFiles (Gives (bounds_answer spec (state_refusal spec))))
 
--- If `check` ends with status 0, it has read no other file, the specification is accepted, and the text says so.
+-- If `check` ends with status 0, it has read no other file, the specification is accepted, and the text is the line
+-- of an accepted specification.
 abbrev pub AssuresCheck : List ℕ → History → List ℕ → Type 0
 AssuresCheck specification =
     OfSpecification specification (λ (spec : Parts) (reads : History) (text : List ℕ). (reads ≡ []) × Accepts spec × (text ≡ accepted_line spec))

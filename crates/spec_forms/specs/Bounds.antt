@@ -6,7 +6,7 @@ use Rattle.coverage_check.specs.Timing.{asked_bounds, is_bound_asked}
 use Rattle.form_base.specs.Texts.{texts_below}
 use Rattle.spec_forms.specs.Lines.{bound_line}
 
--- The line of the bound from `i` to `j` if it is required, or the empty text.
+-- The line of the bound from `i` to `j` if it is required, or the empty text otherwise.
 abbrev pub bound_text_of : Parts → ℕ → ℕ → List ℕ
 bound_text_of spec i j = if is_bound_asked spec (conf_id i) j then bound_line spec (conf_id i) (conf_id j) else []
 

@@ -1,4 +1,4 @@
-//! The form `check`, which says whether a specification is accepted.
+//! The form `check`, which reports whether a specification is accepted.
 
 ghost use Rattle.std.specs.Prelude.{◌∷◌, [], List, ℕ};
 ghost use Rattle.coverage_check.specs.Acceptance.{first_refusal};

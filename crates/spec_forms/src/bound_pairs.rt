@@ -86,7 +86,7 @@ fn find_bounds(alloc: Global, spec: Spec) -> Result<Asked, Refusal>
 ///
 /// # Errors
 ///
-/// Out of memory.
+/// Returns an error if memory runs out.
 pub fn find_asked(alloc: Global, spec: &Spec) -> Result<[u16; 12], NoMemory>
     ensures { IfOk result (λ sets. AreAskedBounds spec.now sets) }
 {
@@ -155,7 +155,7 @@ fn put_bound<K: Sink>(
     }
 }
 
-/// Returns whether a bound from `from` to `to` is required. The set of targets for which one is required is `set`.
+/// Returns `true` if a bound from `from` to `to` is required. The set of targets for which one is required is `set`.
 pub fn is_asked(spec: &Spec, set: u16, from: ConfId, to: ConfId) -> bool
     requires set { set ≡ asked_bounds spec.now from }
     requires to { to.0 < length spec.now.confs }

@@ -19,7 +19,7 @@ use Rattle.flight_facts.specs.declared.extremes.Extremes.{Extremes}
 use Rattle.flight_facts.specs.declared.extremes.Quantity.TheVariants.{Altitude, Climb, Bank}
 use Rattle.form_base.specs.Lines.{counts_text}
 
--- Whether a report has no target, since the flight ended before its reconfiguration did.
+-- Whether a report has no target, which is the case if the flight ended before the reconfiguration did.
 abbrev pub has_no_target : Option ConfId → Bool
 has_no_target None = true
 has_no_target (Some to) = false
@@ -32,7 +32,7 @@ count_unfinished reports = count_by (λ (report : Report). has_no_target report.
 abbrev pub flight_line : List Row → List Report → List ℕ
 flight_line rows reports = codes "flight" ++ counts_text rows reports ++ codes " unfinished " ++ decimal (count_unfinished reports) ++ codes "\n"
 
--- The line of a reconfiguration, where `earlier` is the preceding reconfiguration if there is one.
+-- The line of a reconfiguration, given `earlier`, which is the preceding reconfiguration if there is one.
 abbrev pub reconfiguration_line : Parts → List Row → Option Report → Report → List ℕ
 reconfiguration_line spec rows earlier report =
     codes "reconfiguration " ++ conf_name spec report.from.0 ++ target_text spec report report.to ++ codes " margin " ++ margin_of spec report

@@ -21,7 +21,7 @@ use Rattle.trace_text.specs.RowReading.{row_read}
 use Rattle.trace_text.specs.TraceReading.{ReadingState, after_app, after_line, at_end, before_first, begins, closing, fault_at, go_on, is_plain, standing_line, trace_from, trace_of, with_app, with_done, with_end, with_report, with_row}
 use Rattle.trace_text.specs.Pieces.{is_filled}
 
--- at most one further row, and at most one further report
+-- A step of the reading adds at most one row and at most one report.
 abbrev AddsOne : ReadingState → ReadingState → Type 0
 AddsOne s t = (length t.rows ≤ length s.rows + 1) × (length t.reports ≤ length s.reports + 1)
 
@@ -80,7 +80,7 @@ adds_standing spec s Over line = tt
 adds_line : (spec : Parts) (s : ReadingState) (line : List ℕ) → Adds s (after_line spec s line)
 adds_line spec s line = either s (is_plain line) (standing_line spec s s.standing line) (Err 1) (adds_standing spec s s.standing line) tt
 
--- at most this number of rows and of reports
+-- If a flight was read, it has at most `rows` rows and at most `reports` reports.
 abbrev UpTo : ℕ → ℕ → Result Flown TraceFault → Type 0
 UpTo rows reports (Ok flown) = (length flown.rows ≤ rows) × (length flown.reports ≤ reports)
 UpTo rows reports (Err fault) = ⊤
@@ -130,7 +130,7 @@ up_to_bytes spec bytes false short =
     wider (0 + length (pieces_of 10 bytes)) (0 + length (pieces_of 10 bytes)) 33554433 33554433 (trace_from spec 1 before_first (pieces_of 10 bytes))
     (omega (arith, few)) (omega (arith, few)) (up_to_lines spec 1 before_first (pieces_of 10 bytes))
 
--- the rows and reports of a trace can be counted with 32 bits
+-- A trace that can be read has fewer than `2 ^ 32` rows and fewer than `2 ^ 32` reports.
 pub counted : (spec : Parts) (bytes : List ℕ) (flown : Flown) → trace_of spec bytes ≡ Ok flown → (length flown.rows < 2 ^ 32) × (length flown.reports < 2 ^ 32)
 counted spec bytes flown reads =
     let known : UpTo 33554433 33554433 (Ok flown) = rw reads at (up_to_bytes spec bytes (nat_lt MAX_TRACE_BYTES (length bytes)) refl) in

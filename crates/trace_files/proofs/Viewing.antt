@@ -1,4 +1,4 @@
--- An answer with status 0 by a view is assured.
+-- Each answer with status 0 of a form that shows a view gives the assurance of the form.
 use Rattle.std.proofs.Common.{◌≡◌, ℕ, List, [], sym}
 use Rattle.std.specs.Prelude.{◌≢◌}
 use Rattle.scram_types.specs.Specification.{Parts}

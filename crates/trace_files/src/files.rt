@@ -30,7 +30,12 @@ pub struct Flight {
     pub flown: Flown,
 }
 
-/// Reads a specification and a trace from their files, or returns the refusal of the first that cannot be read.
+/// Reads a specification and a trace from their files.
+///
+/// # Errors
+///
+/// Returns the refusal of the first file that cannot be read, is too long or breaks a rule. Returns the out-of-memory
+/// refusal if memory runs out.
 pub fn read_flight<F: Files>(
     alloc: Global,
     named: TraceFiles<'_>,

@@ -1,4 +1,4 @@
--- An answer with status 0 is assured.
+-- Each answer of `props` with status 0 gives the assurance of the form.
 use Rattle.std.proofs.Common.{◌≡◌, ℕ, List, [], sym}
 use Rattle.std.specs.Prelude.{◌≢◌, Option, Some, None}
 use Rattle.scram_types.specs.declared.rows.Flown.{Flown}

@@ -1,4 +1,4 @@
--- From a judgement to the printed text.
+-- Lemmas that give the printed text from a judgement.
 use Rattle.std.proofs.Common.{◌≡◌, ℕ, List, ap, subst, sym, ◌∙◌, inl, inr, arith}
 use Rattle.std.specs.Prelude.{◌⊎◌}
 use Rattle.scram_types.specs.declared.rows.Flown.{Flown}

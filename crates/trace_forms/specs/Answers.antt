@@ -35,7 +35,8 @@ abbrev pub PropsAnswers : List ℕ → List ℕ → Answer
 PropsAnswers specification trace =
     AsksSpecification specification (λ (spec : Parts). AsksTrace spec trace (λ (flown : Flown). WithoutFiles (IsJudgement spec flown)))
 
--- If `props` ends with status 0, the properties hold for the trace, the text says so, and no further file was read.
+-- If `props` ends with status 0, the properties hold for the trace, the text is the line that reports this, and no
+-- further file was read.
 abbrev pub AssuresProps : List ℕ → List ℕ → History → List ℕ → Type 0
 AssuresProps specification trace =
     OfSpecification specification (λ (spec : Parts). OfDocument (SaysTrace spec) trace (λ (flown : Flown) (reads : History) (text : List ℕ).

@@ -46,7 +46,8 @@ pub fn props_form<F: Files, K: Sink>(
     }
 }
 
-/// Reads the specification and the trace, and returns the judgement of the trace, or the refusal if one cannot be read.
+/// Reads the specification and the trace, and returns the judgement of the trace, or the refusal of the first file
+/// that cannot be read.
 fn read_judgement<F: Files>(
     alloc: Global,
     named: TraceFiles<'_>,
