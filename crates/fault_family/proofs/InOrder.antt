@@ -21,7 +21,7 @@ use Rattle.fault_family.specs.declared.faults.FaultKind.TheVariants.{Change, Hal
 use Rattle.fault_family.specs.Families.{extended, may_follow}
 use Rattle.fault_family.specs.Faults.{detail, precedes, rank, subject}
 use Rattle.fault_family.specs.Laws.{ComesFirst, Contains, FamiliesAreOrdered, here, further}
-use Rattle.fault_family.specs.NextFaults.{candidates, factor_changes, faults_in, frames_after, frames_behind, gaps, proc_halts, kinds_of, numbers_below, restarts_of, factor_value_count}
+use Rattle.fault_family.specs.NextFaults.{candidates, factor_changes, faults_in, frames_after, frames_allowed_after, gaps, proc_halts, kinds_of, numbers_below, restarts_of, factor_value_count}
 use Rattle.fault_family.specs.Scripts.{is_within, script_of_faults}
 use Rattle.fault_family.proofs.Joined.{stands_in_part, stands_listed, stands_mapped, stands_one, stands_part, stands_where}
 use Rattle.fault_family.proofs.Members.{GoesOn, goes_on}
@@ -189,7 +189,7 @@ module _ (spec : Parts) (accepts : Accepts spec) (some : 1 ≤ spec.window) wher
       let end = stands_one (spec.window + 1) y far in
       omega (arith, long, below, same, end))
 
-  frames_rise : (last : Option Fault) → EachLater (λ (x y : ℕ). x < y) (frames_behind spec last)
+  frames_rise : (last : Option Fault) → EachLater (λ (x y : ℕ). x < y) (frames_allowed_after spec last)
   frames_rise None = later_one (λ (x y : ℕ). x < y) 1
   frames_rise (Some last) = later_mapped (λ (x y : ℕ). x < y) (λ (x y : ℕ). x < y) (λ gap. last.frame + gap) (λ x y less. omega (arith, less)) (gaps spec) gaps_rise
 

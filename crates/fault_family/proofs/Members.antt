@@ -18,7 +18,7 @@ use Rattle.fault_family.specs.declared.faults.FaultKind.{FaultKind}
 use Rattle.fault_family.specs.declared.faults.FaultKind.TheVariants.{Change, Halt, Restart}
 use Rattle.fault_family.specs.Families.{extended, may_follow}
 use Rattle.fault_family.specs.Laws.{Contains, FamiliesHaveMembers, Follow, IsChangeKind, IsKind, IsNear}
-use Rattle.fault_family.specs.NextFaults.{candidates, factor_changes, faults_in, frames_after, frames_behind, gaps, proc_halts, kinds_of, numbers_below, restarts_of, factor_value_count}
+use Rattle.fault_family.specs.NextFaults.{candidates, factor_changes, faults_in, frames_after, frames_allowed_after, gaps, proc_halts, kinds_of, numbers_below, restarts_of, factor_value_count}
 use Rattle.fault_family.specs.Scripts.{is_within, script_of_faults}
 use Rattle.fault_family.proofs.Joined.{in_part_stands, listed_stands, mapped_stands, stands_in_part, stands_left, stands_listed, stands_mapped, stands_one, stands_part, stands_right, stands_where}
 
@@ -104,7 +104,7 @@ module _ (spec : Parts) where
   far_gap_stands : Contains (gaps spec) (spec.window + 1)
   far_gap_stands = stands_right (numbers_below (greatest_bound spec.bounds + 2)) ((spec.window + 1) ∷ []) (spec.window + 1) (0, refl)
 
-  is_near : (last : Option Fault) (frame : ℕ) → Contains (frames_behind spec last) frame → IsNear spec last frame
+  is_near : (last : Option Fault) (frame : ℕ) → Contains (frames_allowed_after spec last) frame → IsNear spec last frame
   is_near None frame stands = sym (stands_one 1 frame stands)
   is_near (Some last) frame stands =
       let found = stands_mapped (λ gap. last.frame + gap) (gaps spec) frame stands in
@@ -114,7 +114,7 @@ module _ (spec : Parts) where
         | inr far ↦ inr (omega (arith, at, far))
       ]
 
-  near_is : (last : Option Fault) (frame : ℕ) → IsNear spec last frame → Contains (frames_behind spec last) frame
+  near_is : (last : Option Fault) (frame : ℕ) → IsNear spec last frame → Contains (frames_allowed_after spec last) frame
   near_is None frame is = (0, ap Some (sym is))
   near_is (Some last) frame (inl near) =
       let gap = frame - last.frame in

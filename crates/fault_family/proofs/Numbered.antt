@@ -9,7 +9,7 @@ use Rattle.scram_types.specs.Specification.{Parts}
 use Rattle.coverage_check.specs.Timing.{greatest_bound}
 use Rattle.fault_family.specs.declared.faults.Fault.{Fault}
 use Rattle.fault_family.specs.declared.faults.FaultKind.{FaultKind}
-use Rattle.fault_family.specs.NextFaults.{candidates, frames_after, frames_behind, gaps, kinds_of, numbers_below}
+use Rattle.fault_family.specs.NextFaults.{candidates, frames_after, frames_allowed_after, gaps, kinds_of, numbers_below}
 use Rattle.fault_family.proofs.Cells.{are_rows, cell, length_mapped, length_rows}
 
 length_gaps : (spec : Parts) → length (gaps spec) ≡ greatest_bound spec.bounds + 3
@@ -27,10 +27,10 @@ far_gap spec i far =
     let here : i ≡ length (numbers_below (greatest_bound spec.bounds + 2)) = omega (arith, near, far) in
     rw here (next_part (numbers_below (greatest_bound spec.bounds + 2)) [] (spec.window + 1))
 
-pub length_behind : (spec : Parts) (o : Option Fault) (last : Fault) → o ≡ Some last → length (frames_behind spec o) ≡ greatest_bound spec.bounds + 3
+pub length_behind : (spec : Parts) (o : Option Fault) (last : Fault) → o ≡ Some last → length (frames_allowed_after spec o) ≡ greatest_bound spec.bounds + 3
 length_behind spec o last is = rw is (length_mapped (λ gap. last.frame + gap) (gaps spec) ∙ length_gaps spec)
 
-pub behind : (spec : Parts) (o : Option Fault) (last : Fault) (i gap : ℕ) → o ≡ Some last → slice_get (gaps spec) i ≡ Some gap → slice_get (frames_behind spec o) i ≡ Some (last.frame + gap)
+pub behind : (spec : Parts) (o : Option Fault) (last : Fault) (i gap : ℕ) → o ≡ Some last → slice_get (gaps spec) i ≡ Some gap → slice_get (frames_allowed_after spec o) i ≡ Some (last.frame + gap)
 behind spec o last i gap is there = rw is (slice_get-map (λ gap. last.frame + gap) (gaps spec) i ∙ rw there refl)
 
 pub length_candidates : (spec : Parts) (before : List Fault) → length (candidates spec before) ≡ length (frames_after spec before) * length (kinds_of spec)

@@ -45,13 +45,13 @@ abbrev pub gaps : Parts → List ℕ
 gaps spec = numbers_below (greatest_bound spec.bounds + 2) ++ (spec.window + 1) ∷ []
 
 -- The frames in which a fault may come after an optional last fault. Without a last fault the only frame is frame 1.
-abbrev pub frames_behind : Parts → Option Fault → List ℕ
-frames_behind spec None = 1 ∷ []
-frames_behind spec (Some last) = map (λ gap. last.frame + gap) (gaps spec)
+abbrev pub frames_allowed_after : Parts → Option Fault → List ℕ
+frames_allowed_after spec None = 1 ∷ []
+frames_allowed_after spec (Some last) = map (λ gap. last.frame + gap) (gaps spec)
 
 -- The frames in which a fault may come after a list of faults. If the list is empty, the only frame is frame 1.
 abbrev pub frames_after : Parts → List Fault → List ℕ
-frames_after spec before = frames_behind spec (last_of before)
+frames_after spec before = frames_allowed_after spec (last_of before)
 
 -- The faults in a frame, one for each kind, in order.
 abbrev pub faults_in : Parts → ℕ → List Fault

@@ -20,10 +20,10 @@ all_below P bounds zero each = tt
 all_below P bounds (suc n) each = all_append P (bounds_below bounds n) (bounds n) (all_below P bounds n (λ k less. each k (omega (arith, less)))) (each n (omega arith))
 
 -- If two bounds have different keys, they are for different pairs.
-abbrev Tells : (Bound → ℕ) → Type 0
-Tells key = (x y : Bound) → key x < key y → is_for x.from.0 x.to.0 y ≡ false
+abbrev Separates : (Bound → ℕ) → Type 0
+Separates key = (x y : Bound) → key x < key y → is_for x.from.0 x.to.0 y ≡ false
 
-apart_below : (key : Bound → ℕ) → Tells key → (bounds : ℕ → List Bound) (n : ℕ) → ((k : ℕ) → Apart (bounds k)) → ((k : ℕ) → AllByRecursion (λ (x : Bound). key x ≡ k) (bounds k))
+apart_below : (key : Bound → ℕ) → Separates key → (bounds : ℕ → List Bound) (n : ℕ) → ((k : ℕ) → Apart (bounds k)) → ((k : ℕ) → AllByRecursion (λ (x : Bound). key x ≡ k) (bounds k))
     → Apart (bounds_below bounds n)
 apart_below key tells bounds zero apart keyed = tt
 apart_below key tells bounds (suc n) apart keyed =
@@ -41,10 +41,10 @@ gives_below bounds (suc n) k i j less some = gives_append (bounds_below bounds n
   | inr same ↦ or_right (gives (bounds_below bounds n) i j) (gives (bounds n) i j) (subst (λ (m : ℕ). gives (bounds m) i j ≡ true) same some)
 ]
 
-other_source : Tells (λ (x : Bound). x.from.0)
+other_source : Separates (λ (x : Bound). x.from.0)
 other_source x y less = rw (differ_test y.from.0 x.from.0 (λ e. omega (arith, less, e))) refl
 
-other_target : Tells (λ (x : Bound). x.to.0)
+other_target : Separates (λ (x : Bound). x.to.0)
 other_target x y less = right_false (y.from.0 == x.from.0) (y.to.0 == x.to.0) (differ_test y.to.0 x.to.0 (λ e. omega (arith, less, e)))
 
 -- Lemmas on a list of one bound or none.

@@ -1,4 +1,4 @@
+pub mod DemandedEnvs
 pub mod Firsts
 pub mod Somewhere
-pub mod Speaking
 pub mod Told

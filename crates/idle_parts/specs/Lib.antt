@@ -1,9 +1,9 @@
 pub mod Choices
 pub mod Chosen
+pub mod DemandedEnvs
 pub mod Laws
 pub mod Lines
 pub mod Places
 pub mod Somewhere
-pub mod Speaking
 pub mod Texts
 pub mod Wants

@@ -6,7 +6,7 @@ ghost use Rattle.choice_table.specs.Environments.{in_scope};
 ghost use Rattle.scram_types.specs.Bits.{bits_below, has_bit};
 ghost use Rattle.scram_types.specs.Searches.{any_below};
 ghost use Rattle.scram_types.specs.Specification.{IsDemand};
-ghost use Rattle.idle_parts.specs.Speaking.{spoken_env, wanted_value};
+ghost use Rattle.idle_parts.specs.DemandedEnvs.{demanded_env, demanded_value};
 ghost use Rattle.idle_parts.specs.Wants.{is_demand_idle, is_factor_idle, is_factor_wanted, is_placed_monitor, is_supply_read, any_wants_factor};
 
 use crate::places::is_app_placed;
@@ -96,18 +96,18 @@ fn speaks_in_scope(spec: &Spec, demand: &Demand, env: &Env) -> bool
 // Returns the environment in which each factor has the value that a demand requires, and each processor is up unless
 // the demand requires it to be down.
 fn make_spoken(spec: &Spec, demand: &Demand) -> Env
-    ensures { result ≡ spoken_env spec.now demand.now }
+    ensures { result ≡ demanded_env spec.now demand.now }
 {
     let wants = demand.wants.items();
     Env {
         up: others_up(spec, demand.down),
         factors: [
-            wanted_value(wants, 0),
-            wanted_value(wants, 1),
-            wanted_value(wants, 2),
-            wanted_value(wants, 3),
-            wanted_value(wants, 4),
-            wanted_value(wants, 5),
+            demanded_value(wants, 0),
+            demanded_value(wants, 1),
+            demanded_value(wants, 2),
+            demanded_value(wants, 3),
+            demanded_value(wants, 4),
+            demanded_value(wants, 5),
         ],
     }
 }
@@ -125,8 +125,8 @@ fn others_up(spec: &Spec, down: u8) -> u8
     up
 }
 
-fn wanted_value(wants: &[Want], factor: u8) -> u8
-    ensures { result ≡ wanted_value wants.now factor }
+fn demanded_value(wants: &[Want], factor: u8) -> u8
+    ensures { result ≡ demanded_value wants.now factor }
 {
     for want in wants {
         if want.factor.0 == factor {

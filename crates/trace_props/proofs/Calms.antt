@@ -25,9 +25,9 @@ timed_in plan course f (Leaving c s) (Moving from halting to since) h = (h.first
 
 -- A reconfiguration under way began with a change of the environment and has seen no other, and its target is chosen
 -- again. This holds if a window has at most one change.
-abbrev pub AloneIn : Plan → Course → ℕ → CourseMode → Type 0
-AloneIn plan course f (Stable c) = Unit {0}
-AloneIn plan course f (Moving from halting to since) =
+abbrev pub SeesOneChange : Plan → Course → ℕ → CourseMode → Type 0
+SeesOneChange plan course f (Stable c) = Unit {0}
+SeesOneChange plan course f (Moving from halting to since) =
     (p : ℕ) × (since ≡ suc p) × (course_changes_at plan course.env (suc p) ≡ true) × (course_changes_upto plan course.env f ≡ course_changes_upto plan course.env since) × (plan.choose to (course.env f) ≡ to)
 
 module _ (plan : Plan) (course : Course) (accepted : IsAcceptedPlan plan) (within : IsCourseWithin plan course) where
@@ -68,25 +68,25 @@ module _ (plan : Plan) (course : Course) (accepted : IsAcceptedPlan plan) (withi
       let all : course_changes_upto plan course.env f ≡ course_changes_upto plan course.env (suc p) = rw is at counted in
       absurd (omega arith))
 
-  alone_step : (f : ℕ) → suc f ≤ course.frames → plan.changes ≡ 0 → (m : CourseMode) → TimedIn plan course f m → AloneIn plan course f m → AloneIn plan course (suc f) (course_decision_after plan course f m)
+  alone_step : (f : ℕ) → suc f ≤ course.frames → plan.changes ≡ 0 → (m : CourseMode) → TimedIn plan course f m → SeesOneChange plan course f m → SeesOneChange plan course (suc f) (course_decision_after plan course f m)
   alone_step f inside none (Stable c) h alone =
-      by_test (AloneIn plan course (suc f)) (nat_eq (plan.choose c (course.env (suc f))) c) _ _
+      by_test (SeesOneChange plan course (suc f)) (nat_eq (plan.choose c (course.env (suc f))) c) _ _
       (λ e. tt)
       (λ e. (f, refl, changed_when plan course accepted within f c h.0 (differ _ _ e), refl, accepted.stays c (course.env (suc f)) h.1 (within.scope (suc f) inside)))
   alone_step f inside none (Moving from halting to since) h alone =
       let calm = no_other h.0 f alone.0 from halting to since inside none h.1 alone.1 alone.2 alone.3 in
       let same = same_env f calm in
       let rests : plan.choose to (course.env (suc f)) ≡ to = rw same at alone.4 in
-      by_decision (AloneIn plan course (suc f)) f from halting to since
+      by_decision (SeesOneChange plan course (suc f)) f from halting to since
       (kept_in plan course accepted within h.0 f from halting to since h.1 calm)
-      (stays_stable (AloneIn plan course (suc f)) f to tt rests)
+      (stays_stable (SeesOneChange plan course (suc f)) f to tt rests)
       (alone.0, alone.1, alone.2, count_same plan course.env f calm ∙ alone.3, rests)
 
-  alone : IsCourseFlown plan course → plan.changes ≡ 0 → (f : ℕ) → f ≤ course.frames → AloneIn plan course f (course_mode_at plan course f)
+  alone : IsCourseFlown plan course → plan.changes ≡ 0 → (f : ℕ) → f ≤ course.frames → SeesOneChange plan course f (course_mode_at plan course f)
   alone flown none zero inside = stays_at_start
     where
-      stays_at_start : AloneIn plan course 0 (course_stable_decision 0 plan.start (plan.choose plan.start (course.env 0)))
-      stays_at_start = by_test (AloneIn plan course 0) (nat_eq (plan.choose plan.start (course.env 0)) plan.start) _ _ (λ e. tt) (λ e. absurd (differ _ _ e (rw within.opens accepted.starts)))
+      stays_at_start : SeesOneChange plan course 0 (course_stable_decision 0 plan.start (plan.choose plan.start (course.env 0)))
+      stays_at_start = by_test (SeesOneChange plan course 0) (nat_eq (plan.choose plan.start (course.env 0)) plan.start) _ _ (λ e. tt) (λ e. absurd (differ _ _ e (rw within.opens accepted.starts)))
   alone flown none (suc f) inside =
       alone_step f inside none (course_mode_at plan course f) (timed flown f (omega arith)) (alone flown none f (omega arith))
 
@@ -96,7 +96,7 @@ module _ (plan : Plan) (course : Course) (accepted : IsAcceptedPlan plan) (withi
       → course_mode_at plan course f ≡ Moving from halting to since → plan.choose to (course.env f) ≢ to → 2 ≤ plan_further plan
   put_off flown f first from halting to since inside d moded away = elim (further_cases plan) [
     | inl e ↦ elim (none_or_more plan.changes) [
-      | inl none ↦ absurd (away (subst (AloneIn plan course f) moded (alone flown none f inside)).4)
+      | inl none ↦ absurd (away (subst (SeesOneChange plan course f) moded (alone flown none f inside)).4)
       | inr more ↦ omega (arith, e.1)
     ]
     | inr e ↦
@@ -114,9 +114,9 @@ followed f since halted p i h pj ij q x t b s settled old short slow twice enoug
 
 -- A moving mode dates from frame `s` or before, or its target is chosen again and it ends less than `b` frames after
 -- `s`.
-abbrev pub SoonIn : Plan → Course → ℕ → ℕ → ℕ → CourseMode → Type 0
-SoonIn plan course s b f (Stable c) = Unit {0}
-SoonIn plan course s b f (Moving from halting to since) =
+abbrev pub EndsSoon : Plan → Course → ℕ → ℕ → ℕ → CourseMode → Type 0
+EndsSoon plan course s b f (Stable c) = Unit {0}
+EndsSoon plan course s b f (Moving from halting to since) =
     (since ≤ s) ⊎ ((plan.choose to (course.env f) ≡ to) × (since + plan_halting plan halting + plan.preparing to + plan.initialising to < s + b))
 
 -- The environment does not change after frame `s` and up to frame `t`, and no bound is greater than `b`.
@@ -138,14 +138,14 @@ module _ (plan : Plan) (course : Course) (accepted : IsAcceptedPlan plan) (withi
   short (Some h) to aimed known = let slow = accepted.slow h (known h refl) in let lasts = accepted.lasts h (known h refl) in omega arith
 
   module _ (s b t : ℕ) (calm : IsCalmFrom plan course s b t) where
-    soon_at : (f : ℕ) (m : CourseMode) → f ≡ s → TimedIn plan course f m → SoonIn plan course s b f m
+    soon_at : (f : ℕ) (m : CourseMode) → f ≡ s → TimedIn plan course f m → EndsSoon plan course s b f m
     soon_at f (Stable c) is h = tt
     soon_at f (Moving from halting to since) is h = let now = h.1.now in inl (omega arith)
 
     -- If a reconfiguration ends in a target that is not chosen again, then the next reconfiguration ends in time.
     follows_soon : (f first from : ℕ) (halting : Option ℕ) (to since : ℕ) → suc f ≤ course.frames → course.env f ≡ course.env (suc f) → course_mode_at plan course f ≡ Moving from halting to since
         → Deadlines plan course first f from halting to since → since ≤ s → plan.choose to (course.env (suc f)) ≢ to
-        → SoonIn plan course s b (suc f) (Moving to (Some to) (plan.choose to (course.env (suc f))) (suc f))
+        → EndsSoon plan course s b (suc f) (Moving to (Some to) (plan.choose to (course.env (suc f))) (suc f))
     follows_soon f first from halting to since inside same moded d old away =
         let scope = within.scope (suc f) inside in
         let served = accepted.bounded to (course.env (suc f)) d.to_in scope (inl away) in
@@ -160,14 +160,14 @@ module _ (plan : Plan) (course : Course) (accepted : IsAcceptedPlan plan) (withi
         )
 
     soon_step : (f : ℕ) → suc f ≤ course.frames → course_changes_at plan course.env (suc f) ≡ false → (m : CourseMode) → course_mode_at plan course f ≡ m
-        → TimedIn plan course f m → SoonIn plan course s b f m → SoonIn plan course s b (suc f) (course_decision_after plan course f m)
+        → TimedIn plan course f m → EndsSoon plan course s b f m → EndsSoon plan course s b (suc f) (course_decision_after plan course f m)
     soon_step f inside still (Stable c) moded h soon =
-        stays_stable plan course accepted within (SoonIn plan course s b (suc f)) f c tt (rw (same_env plan course accepted within f still) at h.0)
+        stays_stable plan course accepted within (EndsSoon plan course s b (suc f)) f c tt (rw (same_env plan course accepted within f still) at h.0)
     soon_step f inside still (Moving from halting to since) moded h soon =
         let same = same_env plan course accepted within f still in
-        by_decision plan course accepted within (SoonIn plan course s b (suc f)) f from halting to since
+        by_decision plan course accepted within (EndsSoon plan course s b (suc f)) f from halting to since
         (kept_in plan course accepted within h.0 f from halting to since h.1 still)
-        (by_test (SoonIn plan course s b (suc f)) (nat_eq (plan.choose to (course.env (suc f))) to) _ _
+        (by_test (EndsSoon plan course s b (suc f)) (nat_eq (plan.choose to (course.env (suc f))) to) _ _
         (λ e. tt)
         (λ e. elim soon [
           | inl old ↦ follows_soon f h.0 from halting to since inside same moded h.1 old (differ _ _ e)
@@ -178,14 +178,14 @@ module _ (plan : Plan) (course : Course) (accepted : IsAcceptedPlan plan) (withi
           | inr rests ↦ inr (rw same at rests.0, rests.1)
         ])
 
-    soon : (f : ℕ) → s ≤ f → f ≤ t → t ≤ course.frames → SoonIn plan course s b f (course_mode_at plan course f)
+    soon : (f : ℕ) → s ≤ f → f ≤ t → t ≤ course.frames → EndsSoon plan course s b f (course_mode_at plan course f)
     soon zero late early inside = soon_at 0 (course_mode_at plan course 0) (omega arith) (timed plan course accepted within flown 0 (omega arith))
     soon (suc f) late early inside = elim (at_or_below s f late) [
       | inl before ↦ soon_step f (omega arith) (calm.still f before (omega arith)) (course_mode_at plan course f) refl (timed plan course accepted within flown f (omega arith)) (soon f before (omega arith) inside)
       | inr is ↦ soon_at (suc f) (course_mode_at plan course (suc f)) (sym is) (timed plan course accepted within flown (suc f) (omega arith))
     ]
 
-    rest_at : (m : CourseMode) → t ≤ course.frames → t ≡ s + b → TimedIn plan course t m → SoonIn plan course s b t m → IsAtRest plan course t m
+    rest_at : (m : CourseMode) → t ≤ course.frames → t ≡ s + b → TimedIn plan course t m → EndsSoon plan course s b t m → IsAtRest plan course t m
     rest_at (Stable c) inside is h soon = record { conf = c; known = h.1; moded = refl; chosen = h.0 }
     rest_at (Moving from halting to since) inside is h soon = elim soon [
       | inl old ↦

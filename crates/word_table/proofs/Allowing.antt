@@ -19,7 +19,7 @@ use Rattle.word_table.specs.declared.actors.Actor.{Actor}
 use Rattle.word_table.specs.declared.actors.Actor.TheVariants.{Runs, Stopped, Kernel}
 use Rattle.word_table.specs.declared.actors.View.{View}
 use Rattle.word_table.specs.Actors.{Waits, actor_at, awaited, begun, halted_actor, mission_flight, next_frame, one_more, restart_or, tried}
-use Rattle.word_table.specs.Plays.{AwaitsEnd, AwaitsRelease, GoesWhereItWaits, Has, Sat, StepsIf, TellsNote, TellsStart, can_note, confirms, each_actor, finishes_frame, halts, looks, may_start, notes, reads, starts, stores, word_due}
+use Rattle.word_table.specs.Plays.{AwaitsEnd, AwaitsRelease, MovesIfWaiting, Has, Sat, StepsIf, IsAfterNote, IsAfterStart, can_note, confirms, each_actor, finishes_frame, halts, looks, may_start, notes, reads, starts, stores, word_due}
 use Rattle.word_table.specs.Rule.{Ruled}
 use Rattle.word_table.proofs.Seating.{IsSound, kernel_by, kernel_stands, loaded, set_same, shown, stands, stepped_by}
 
@@ -136,8 +136,8 @@ module _ (mission : MissionParts) (slots id : ℕ) (me : Sat) (y : IsSound (miss
       (wait : awaited m (actor_at p x) ≡ f) (go : begun m (actor_at p x) ≡ Runs p f 1) (awaits : AwaitsRelease m 0 (actor_at p x ∷ [])) where
     start_told : (w : View) (n : ℕ) (b : Bool) → nat_lt f n ≡ b → MatchBool b (Has (w, me.1) (each_actor (begun m) me.0)) (Has (w, me.1) (tried me.0)) → starts (step slots 0 0 0 none) me n (w, me.1)
     start_told w n b is told =
-        subst (λ (o : Option MissionParts). IfSome o (λ mission. TellsStart (mission_flight mission) 0 n me.0 (w, me.1))) (sym planned)
-        (subst (λ (actors : List Actor). GoesWhereItWaits (AwaitsRelease m 0 actors) (may_start m actors n) (begun m) me.0 (w, me.1)) (sym alone) ((λ waits. rw (wait, is) told), λ none. absurd (none awaits)))
+        subst (λ (o : Option MissionParts). IfSome o (λ mission. IsAfterStart (mission_flight mission) 0 n me.0 (w, me.1))) (sym planned)
+        (subst (λ (actors : List Actor). MovesIfWaiting (AwaitsRelease m 0 actors) (may_start m actors n) (begun m) me.0 (w, me.1)) (sym alone) ((λ waits. rw (wait, is) told), λ none. absurd (none awaits)))
 
     start_by : (s : State (Unit {0}) View) (r : Ruled m mission s) → get_elem? s.views id ≡ some me.0 → (b : Bool) → nat_lt f (slice_index s.words 0) ≡ b
         → (w : View) × (a : Act (Unit {0})) × Valid s.homes me.1 a × Ruled m mission (stepped s 0 (slice_index s.words 0) id me.1 w a) × starts (step slots 0 0 0 none) me (slice_index s.words 0) (w, carried_after me.1 a)
@@ -173,10 +173,10 @@ module _ (mission : MissionParts) (slots id : ℕ) (me : Sat) (y : IsSound (miss
   -- A load of an end word by the kernel is a note or a try.
   module _ (k p : ℕ) (l : p < m.procs) (flown : k < m.frames) (alone : me.0.actors ≡ Kernel k p ∷ []) (planned : me.0.mission ≡ Some mission) where
     note_told : (i : ℕ) → i ≡ index_of (EndWord p) → (w : View) (n : ℕ) (b : Bool) → may_note m p k n ≡ b → MatchBool b (Has (w, me.1) (each_actor one_more me.0)) (Has (w, me.1) (tried me.0))
-        → IfSome me.0.mission (λ mission. TellsNote (mission_flight mission) i n me.0 (w, me.1))
+        → IfSome me.0.mission (λ mission. IsAfterNote (mission_flight mission) i n me.0 (w, me.1))
     note_told i place w n b is told =
-        subst (λ (o : Option MissionParts). IfSome o (λ mission. TellsNote (mission_flight mission) i n me.0 (w, me.1))) (sym planned)
-        (subst (λ (actors : List Actor). GoesWhereItWaits (AwaitsEnd m i actors) (can_note m actors n) one_more me.0 (w, me.1)) (sym alone) ((λ waits. rw is told), λ none. absurd (none (flown, l, place))))
+        subst (λ (o : Option MissionParts). IfSome o (λ mission. IsAfterNote (mission_flight mission) i n me.0 (w, me.1))) (sym planned)
+        (subst (λ (actors : List Actor). MovesIfWaiting (AwaitsEnd m i actors) (can_note m actors n) one_more me.0 (w, me.1)) (sym alone) ((λ waits. rw is told), λ none. absurd (none (flown, l, place))))
 
     note_by : (i : ℕ) (s : State (Unit {0}) View) (r : Ruled m mission s) → i ≡ index_of (EndWord p) → get_elem? s.views id ≡ some me.0 → (b : Bool) → may_note m p k (slice_index s.words i) ≡ b
         → (w : View) × (a : Act (Unit {0})) × Valid s.homes me.1 a × Ruled m mission (stepped s i (slice_index s.words i) id me.1 w a) × notes (step slots i 0 0 none) me (slice_index s.words i) (w, carried_after me.1 a)

@@ -49,9 +49,9 @@ one_last list width p marks images mark image long longer low before last q most
         rw (at_mark, at_image) (before q (omega (arith, most, d)))
 
 -- If the marks and images from index `p` on are zero, those from index `p + 1` on stay zero when entry `p` is set.
-pub nobodys_left : (p : ℕ) (marks : List ℕ) (images : List (List ℤ)) (mark : ℕ) (image : List ℤ) → ((q : ℕ) → p ≤ q → q < 8 → AreZero (slice_index marks q) (slice_index_or images q []))
+pub unused_stay_zero : (p : ℕ) (marks : List ℕ) (images : List (List ℤ)) (mark : ℕ) (image : List ℤ) → ((q : ℕ) → p ≤ q → q < 8 → AreZero (slice_index marks q) (slice_index_or images q []))
     → (q : ℕ) → p + 1 ≤ q → q < 8 → AreZero (slice_index (slice_set marks p mark) q) (slice_index_or (slice_set images p image) q [])
-nobodys_left p marks images mark image before q least most =
+unused_stay_zero p marks images mark image before q least most =
     let other : ¬ (q ≡ p) = λ same. omega (arith, same, least) in
     let was = before q (omega (arith, least)) most in (
       get_or-set_other marks p q mark 0 other ∙ was.0,

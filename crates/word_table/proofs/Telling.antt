@@ -9,7 +9,7 @@ use Rattle.word_table.specs.declared.actors.Actor.{Actor}
 use Rattle.word_table.specs.declared.actors.Actor.TheVariants.{Kernel, Runs}
 use Rattle.word_table.specs.declared.actors.View.{View}
 use Rattle.word_table.specs.Actors.{Waits, actor_at, awaited, begun, frame_awaited, mission_flight, one_more, with_actor, with_actors}
-use Rattle.word_table.specs.Plays.{AwaitsEnd, AwaitsRelease, GoesOrTries, GoesWhereItWaits, Has, IsFound, Sat, ShowsWord, StepsIf, TellsNote, TellsStart, can_note, each_actor, may_start, word_due}
+use Rattle.word_table.specs.Plays.{AwaitsEnd, AwaitsRelease, GoesOrTries, MovesIfWaiting, Has, IsFound, Sat, ShowsWord, StepsIf, IsAfterNote, IsAfterStart, can_note, each_actor, may_start, word_due}
 
 pub third : {A B C : Type 0} → A × B × C → C
 third t = t.2
@@ -59,15 +59,15 @@ awaits_at m p (At f n) waits = (refl, waits)
 awaits_at m p (Halted h) waits = (refl, waits)
 
 module _ (mission : MissionParts) (v : View) (after : Sat) (n p : ℕ) (x : Place) (planned : v.mission ≡ Some mission) (alone : v.actors ≡ actor_at p x ∷ []) (waits : Waits (mission_flight mission) p x)
-    (told : IfSome v.mission (λ mission. TellsStart (mission_flight mission) 0 n v after)) where
+    (told : IfSome v.mission (λ mission. IsAfterStart (mission_flight mission) 0 n v after)) where
   abbrev m : Flight
   m = mission_flight mission
 
   start_told : GoesOrTries (nat_lt (frame_awaited m p x) n) (begun m) v after
   start_told =
-      let by_mission : TellsStart m 0 n v after = subst (λ (o : Option MissionParts). IfSome o (λ mission. TellsStart (mission_flight mission) 0 n v after)) planned told in
-      let by_actors : GoesWhereItWaits (AwaitsRelease m 0 (actor_at p x ∷ [])) (nat_lt (awaited m (actor_at p x)) n) (begun m) v after =
-      subst (λ (l : List Actor). GoesWhereItWaits (AwaitsRelease m 0 l) (may_start m l n) (begun m) v after) alone by_mission in
+      let by_mission : IsAfterStart m 0 n v after = subst (λ (o : Option MissionParts). IfSome o (λ mission. IsAfterStart (mission_flight mission) 0 n v after)) planned told in
+      let by_actors : MovesIfWaiting (AwaitsRelease m 0 (actor_at p x ∷ [])) (nat_lt (awaited m (actor_at p x)) n) (begun m) v after =
+      subst (λ (l : List Actor). MovesIfWaiting (AwaitsRelease m 0 l) (may_start m l n) (begun m) v after) alone by_mission in
       subst (λ f. GoesOrTries (nat_lt f n) (begun m) v after) (awaited_at m p x) (by_actors.0 (awaits_at m p x waits))
 
   pub start_made : frame_awaited m p x < n → after ≡ (with_actor v (Runs p (frame_awaited m p x) 1), [])
@@ -81,15 +81,15 @@ module _ (mission : MissionParts) (v : View) (after : Sat) (n p : ℕ) (x : Plac
       both (a, b) is empty = rw (is, empty) refl
 
 pub note_told : (mission : MissionParts) (v : View) (after : Sat) (i n k p : ℕ) → v.mission ≡ Some mission → v.actors ≡ Kernel k p ∷ [] → AwaitsEnd (mission_flight mission) i (Kernel k p ∷ [])
-    → IfSome v.mission (λ mission. TellsNote (mission_flight mission) i n v after) → GoesOrTries (may_note (mission_flight mission) p k n) one_more v after
+    → IfSome v.mission (λ mission. IsAfterNote (mission_flight mission) i n v after) → GoesOrTries (may_note (mission_flight mission) p k n) one_more v after
 note_told mission v after i n k p planned alone awaits told =
-    let by_mission : TellsNote (mission_flight mission) i n v after = subst (λ (o : Option MissionParts). IfSome o (λ mission. TellsNote (mission_flight mission) i n v after)) planned told in
-    let by_actors : GoesWhereItWaits (AwaitsEnd (mission_flight mission) i (Kernel k p ∷ [])) (may_note (mission_flight mission) p k n) one_more v after =
-    subst (λ (l : List Actor). GoesWhereItWaits (AwaitsEnd (mission_flight mission) i l) (can_note (mission_flight mission) l n) one_more v after) alone by_mission in
+    let by_mission : IsAfterNote (mission_flight mission) i n v after = subst (λ (o : Option MissionParts). IfSome o (λ mission. IsAfterNote (mission_flight mission) i n v after)) planned told in
+    let by_actors : MovesIfWaiting (AwaitsEnd (mission_flight mission) i (Kernel k p ∷ [])) (may_note (mission_flight mission) p k n) one_more v after =
+    subst (λ (l : List Actor). MovesIfWaiting (AwaitsEnd (mission_flight mission) i l) (can_note (mission_flight mission) l n) one_more v after) alone by_mission in
     by_actors.0 awaits
 
 pub note_made : (mission : MissionParts) (v : View) (after : Sat) (i n k p : ℕ) → v.mission ≡ Some mission → v.actors ≡ Kernel k p ∷ [] → AwaitsEnd (mission_flight mission) i (Kernel k p ∷ [])
-    → may_note (mission_flight mission) p k n ≡ true → IfSome v.mission (λ mission. TellsNote (mission_flight mission) i n v after) → after.0.actors ≡ Kernel k (suc p) ∷ []
+    → may_note (mission_flight mission) p k n ≡ true → IfSome v.mission (λ mission. IsAfterNote (mission_flight mission) i n v after) → after.0.actors ≡ Kernel k (suc p) ∷ []
 note_made mission v after i n k p planned alone awaits may told =
     let has = by_true (may_note (mission_flight mission) p k n) one_more v after may (note_told mission v after i n k p planned alone awaits told) in
     ap (λ (w : View). w.actors) has.0 ∙ rw alone refl

@@ -76,16 +76,16 @@ GoesOrTries ready go v after = MatchBool ready (Has after (each_actor go v)) (Ha
 
 -- If the first actor waits for the word, the actors move by `go` or the view counts another try. Otherwise the seat
 -- stays as it is.
-abbrev pub GoesWhereItWaits : Type 0 → Bool → (Actor → Actor) → View → Sat → Type 0
-GoesWhereItWaits waits ready go v after = (waits → GoesOrTries ready go v after) × (¬ waits → Has after v)
+abbrev pub MovesIfWaiting : Type 0 → Bool → (Actor → Actor) → View → Sat → Type 0
+MovesIfWaiting waits ready go v after = (waits → GoesOrTries ready go v after) × (¬ waits → Has after v)
 
 -- The seat after a load at place `i` that found `n` and starts a frame if it can.
-abbrev pub TellsStart : Flight → ℕ → ℕ → View → Sat → Type 0
-TellsStart m i n v after = GoesWhereItWaits (AwaitsRelease m i v.actors) (may_start m v.actors n) (begun m) v after
+abbrev pub IsAfterStart : Flight → ℕ → ℕ → View → Sat → Type 0
+IsAfterStart m i n v after = MovesIfWaiting (AwaitsRelease m i v.actors) (may_start m v.actors n) (begun m) v after
 
 -- The seat after a load at place `i` that found `n` and notes a processor if it can.
-abbrev pub TellsNote : Flight → ℕ → ℕ → View → Sat → Type 0
-TellsNote m i n v after = GoesWhereItWaits (AwaitsEnd m i v.actors) (can_note m v.actors n) one_more v after
+abbrev pub IsAfterNote : Flight → ℕ → ℕ → View → Sat → Type 0
+IsAfterNote m i n v after = MovesIfWaiting (AwaitsEnd m i v.actors) (can_note m v.actors n) one_more v after
 
 -- The word that the first actor stores next, if its next step is a store into a bank or of one of the kernel's words.
 abbrev pub word_due : Flight → List Actor → ℕ
@@ -108,12 +108,12 @@ looks s me n after = Has after (each_actor one_more me.0) × ShowsWord me.0 s.wo
 
 -- A load of the release for which a processor waits is a start or a try. Any other load leaves the seat as it is.
 abbrev pub starts : Stepped → Sat → ℕ → Sat → Type 0
-starts s me n after = IfSome me.0.mission (λ mission. TellsStart (mission_flight mission) s.word n me.0 after)
+starts s me n after = IfSome me.0.mission (λ mission. IsAfterStart (mission_flight mission) s.word n me.0 after)
 
 -- A load of the end word for which the kernel waits is a note or a try. Any other load leaves the seat as it is. In
 -- each case, the word found is one that the seat may find.
 abbrev pub notes : Stepped → Sat → ℕ → Sat → Type 0
-notes s me n after = IfSome me.0.mission (λ mission. TellsNote (mission_flight mission) s.word n me.0 after) × ShowsWord me.0 s.word n
+notes s me n after = IfSome me.0.mission (λ mission. IsAfterNote (mission_flight mission) s.word n me.0 after) × ShowsWord me.0 s.word n
 
 -- A store into a bank, of a mark, or of one of the kernel's words is a step of the actor.
 abbrev pub stores : Stepped → Sat → ℕ → Sat → Type 0

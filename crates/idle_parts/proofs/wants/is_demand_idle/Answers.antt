@@ -3,7 +3,7 @@ use Rattle.std.specs.Prelude.{◌&&◌, not}
 use Rattle.scram_types.specs.Specification.{IsSpec}
 use Rattle.choice_table.specs.Demands.{applies_in}
 use Rattle.choice_table.specs.Environments.{in_scope}
-use Rattle.idle_parts.proofs.Speaking.{spoken_somewhere}
+use Rattle.idle_parts.proofs.DemandedEnvs.{spoken_somewhere}
 use Rattle.idle_parts.proofs.wants.is_demand_idle.Goals as goal
 
 pub returns : goal.returns

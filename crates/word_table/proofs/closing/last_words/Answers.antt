@@ -7,7 +7,7 @@ use Rattle.std.specs.Mem.Slots.{slots_items}
 use Rattle.fail_stop.specs.Events.{BankWord, MarkWord}
 use Rattle.fail_stop.specs.Listed.{index_of}
 use Rattle.word_table.specs.Closing.{IsStoredImage}
-use Rattle.word_table.proofs.Closings.{index_is, nobodys_left, one_last}
+use Rattle.word_table.proofs.Closings.{index_is, unused_stay_zero, one_last}
 use Rattle.word_table.proofs.closing.last_words.Goals as goal
 
 pub loop-p-init : goal.loop-p-init
@@ -33,5 +33,5 @@ loop-p-preserved c =
             mark_is = sym (index_is (slots_items c.args.closed.now.words) (index_of (MarkWord at.p)) mark (subst (λ k. get_elem? (slots_items c.args.closed.now.words) k ≡ some mark) own c.word-mark.ensures));
             image_is = subst (λ k. IsStoredImage (slots_items c.args.closed.now.words) c.args.width k c.stored_image.result) place c.stored_image.ensures;
           };
-      past = nobodys_left at.p at.marks at.images mark c.stored_image.result at.invariant.past;
+      past = unused_stay_zero at.p at.marks at.images mark c.stored_image.result at.invariant.past;
     }

@@ -24,12 +24,12 @@ use Rattle.choice_table.proofs.Members.{sets_by_members}
 use Rattle.cube_cover.proofs.Bits.{has_and, has_none}
 use Rattle.cube_cover.proofs.Scopes.{has_digits}
 use Rattle.idle_parts.specs.Somewhere.{passes_somewhere}
-use Rattle.idle_parts.specs.Speaking.{spoken_env, wanted_value}
+use Rattle.idle_parts.specs.DemandedEnvs.{demanded_env, demanded_value}
 use Rattle.idle_parts.proofs.Somewhere.{passes_found, passes_in}
 
 -- Lemmas on the values of the factors in this environment.
 
-value_at : (spec : Parts) (demand : Demand) (x : ℕ) → x < 6 → factor_in (spoken_env spec demand) x ≡ wanted_value demand.wants x
+value_at : (spec : Parts) (demand : Demand) (x : ℕ) → x < 6 → factor_in (demanded_env spec demand) x ≡ demanded_value demand.wants x
 value_at spec demand zero h = refl
 value_at spec demand (suc zero) h = refl
 value_at spec demand (suc (suc zero)) h = refl
@@ -38,7 +38,7 @@ value_at spec demand (suc (suc (suc (suc zero)))) h = refl
 value_at spec demand (suc (suc (suc (suc (suc zero))))) h = refl
 value_at spec demand (suc (suc (suc (suc (suc (suc x)))))) h = absurd (omega arith)
 
-none_past : (spec : Parts) (demand : Demand) (x : ℕ) → 6 ≤ x → factor_in (spoken_env spec demand) x ≡ 0
+none_past : (spec : Parts) (demand : Demand) (x : ℕ) → 6 ≤ x → factor_in (demanded_env spec demand) x ≡ 0
 none_past spec demand zero h = absurd (omega arith)
 none_past spec demand (suc zero) h = absurd (omega arith)
 none_past spec demand (suc (suc zero)) h = absurd (omega arith)
@@ -53,7 +53,7 @@ each_rest {A} Fact x xs each = λ i y e. each (suc i) y e
 -- The value of factor `x` that a demand requires, or 0 if it requires none, is the index of a value of the factor.
 
 value_within : (factors : List Factor) (x : ℕ) (factor : Factor) → slice_get factors x ≡ Some factor → 0 < length factor.values
-    → (wants : List Want) → Each (IsWant factors) wants → wanted_value wants x < length factor.values
+    → (wants : List Want) → Each (IsWant factors) wants → demanded_value wants x < length factor.values
 value_within factors x factor there some [] each = some
 value_within factors x factor there some (want ∷ wants) each = by_bool (want.factor.0 == x)
     (λ here.
@@ -62,7 +62,7 @@ value_within factors x factor there some (want ∷ wants) each = by_bool (want.f
     rw (here) (subst (λ (f : Factor). want.value < length f.values) same is.value))
     (λ other. rw (other) (value_within factors x factor there some wants (each_rest (IsWant factors) want wants each)))
 
-value_past : (factors : List Factor) (x : ℕ) → length factors ≤ x → (wants : List Want) → Each (IsWant factors) wants → wanted_value wants x ≡ 0
+value_past : (factors : List Factor) (x : ℕ) → length factors ≤ x → (wants : List Want) → Each (IsWant factors) wants → demanded_value wants x ≡ 0
 value_past factors x past [] each = refl
 value_past factors x past (want ∷ wants) each = by_bool (want.factor.0 == x)
     (λ here.
@@ -75,7 +75,7 @@ value_past factors x past (want ∷ wants) each = by_bool (want.factor.0 == x)
 -- If some environment has each value that a demand requires, all requirements for one factor have the value of the
 -- first of them.
 value_same : (v : Env) (wants : List Want) (i : ℕ) (want : Want) → list_all (has_wanted v) wants ≡ true → slice_get wants i ≡ Some want
-    → wanted_value wants want.factor.0 ≡ want.value
+    → demanded_value wants want.factor.0 ≡ want.value
 value_same v [] i want all there = absurd (cc)
 value_same v (first ∷ wants) zero want all there =
     let same : first ≡ want = same_some first want there in
@@ -115,7 +115,7 @@ all_down_by set v few each = equal_test (bit_and set v.up) 0
 
 module _ (spec : Parts) (made : IsSpec spec) (demand : Demand) (is : IsDemand spec.procs spec.apps spec.confs spec.factors demand) where
   abbrev spoken : Env
-  spoken = spoken_env spec demand
+  spoken = demanded_env spec demand
 
   up_is : (p : ℕ) → p < length spec.procs → is_up_in spoken p ≡ not (has_bit demand.down p)
   up_is p low = has_bits (λ q. not (has_bit demand.down q)) (length spec.procs) p low

@@ -7,15 +7,15 @@ use Rattle.scram_types.specs.declared.specification.Demand.{Demand}
 use Rattle.scram_types.specs.declared.specification.Want.{Want}
 
 -- The value of the first requirement for factor `x`, or 0 if there is none.
-abbrev pub wanted_value : List Want → ℕ → ℕ
-wanted_value [] x = 0
-wanted_value (want ∷ wants) x = if want.factor.0 == x then want.value else wanted_value wants x
+abbrev pub demanded_value : List Want → ℕ → ℕ
+demanded_value [] x = 0
+demanded_value (want ∷ wants) x = if want.factor.0 == x then want.value else demanded_value wants x
 
 -- The environment in which each factor has the value that a demand requires, and each processor is up unless the demand
 -- requires it to be down.
-abbrev pub spoken_env : Parts → Demand → Env
-spoken_env spec demand = record {
+abbrev pub demanded_env : Parts → Demand → Env
+demanded_env spec demand = record {
   up = bits_below (λ p. not (has_bit demand.down p)) (length spec.procs);
-  factors = wanted_value demand.wants 0 ∷ wanted_value demand.wants 1 ∷ wanted_value demand.wants 2 ∷ wanted_value demand.wants 3
-      ∷ wanted_value demand.wants 4 ∷ wanted_value demand.wants 5 ∷ [];
+  factors = demanded_value demand.wants 0 ∷ demanded_value demand.wants 1 ∷ demanded_value demand.wants 2 ∷ demanded_value demand.wants 3
+      ∷ demanded_value demand.wants 4 ∷ demanded_value demand.wants 5 ∷ [];
 }
