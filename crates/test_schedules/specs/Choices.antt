@@ -48,14 +48,14 @@ first_from next procs begin = either_found (first_in next begin (procs + 1 - beg
 
 -- The place after the given place of the last event's actor. It is the first place if that actor is the kernel, or if
 -- there has been no event.
-abbrev pub place_after : ℕ → Option ℕ → ℕ
-place_after procs None = 0
-place_after procs (Some place) = if nat_lt place procs then suc place else 0
+abbrev pub place_in_turn : ℕ → Option ℕ → ℕ
+place_in_turn procs None = 0
+place_in_turn procs (Some place) = if nat_lt place procs then suc place else 0
 
 -- The place that a rule asks first, given the number of processors, the place of the last event's actor, and a number
 -- from the generator.
 abbrev pub begin_by : Rule → ℕ → Option ℕ → ℕ → ℕ
-begin_by InTurns procs last word = place_after procs last
+begin_by InTurns procs last word = place_in_turn procs last
 begin_by LeastFirst procs last word = 0
 begin_by GreatestFirst procs last word = 0
 begin_by KernelFirst procs last word = procs

@@ -3,7 +3,7 @@
 ghost use Rattle.std.specs.Prelude.{◌≡◌, ℕ, ◌+◌, ◌-◌, ◌≤◌, ◌<◌, IfSome, None, if◌then◌else◌, length, option_map};
 ghost use Rattle.event_core.specs.Cores.{IsNextIn, core_places, core_words, core_flight};
 ghost use Rattle.fail_stop.specs.Ends.{IsOver};
-ghost use Rattle.test_schedules.specs.Choices.{begin_of, chooser_after, chosen, first_chooser, first_from, first_in, generator_after, is_backwards, next_in_order, place_after, seed_of};
+ghost use Rattle.test_schedules.specs.Choices.{begin_of, chooser_after, chosen, first_chooser, first_from, first_in, generator_after, is_backwards, next_in_order, place_in_turn, seed_of};
 
 use bank_words::Event;
 use event_core::Core;
@@ -58,7 +58,7 @@ impl Chooser {
         ensures generator { self.new.generator ≡ generator_after self.old.rule self.old.generator }
     {
         match self.rule {
-            Rule::InTurns => place_after(procs, self.last),
+            Rule::InTurns => place_in_turn(procs, self.last),
             Rule::LeastFirst => 0,
             Rule::GreatestFirst => 0,
             Rule::KernelFirst => procs,
@@ -103,9 +103,9 @@ fn seed_of(rule: Rule) -> u64
 
 // Returns the place after the given place of the last event's actor. It is the first place if that actor is the
 // kernel, or if there has been no event.
-fn place_after(procs: usize, last: Option<usize>) -> usize
+fn place_in_turn(procs: usize, last: Option<usize>) -> usize
     requires { procs ≤ 8 }
-    ensures place { result ≡ place_after procs last }
+    ensures place { result ≡ place_in_turn procs last }
     ensures low { result ≤ procs }
 {
     match last {
