@@ -5,10 +5,10 @@ ghost use Rattle.frame_model.specs.Flights.{rows_of};
 
 use crate::summaries::print_summary;
 use coverage_check::Mission;
-use scram_types::{Flown, Row};
+use scram_types::Row;
 use std::io;
 use std::rt::HostRuntime;
-use telemetry_tap::{Publisher, Tap, Watch};
+use telemetry_tap::{Publisher, Summary, Tap, Watch};
 use test_kit::{fly_alone, given, mission_of_texts, uav_text};
 
 /// Publishes the first `count` rows of a mission of `uav` with this script, and prints the summaries that the readers
@@ -16,22 +16,39 @@ use test_kit::{fly_alone, given, mission_of_texts, uav_text};
 pub fn note(rt: &HostRuntime, count: u32, script: &str) -> io::Result<()> {
     let text = uav_text(rt.alloc())?;
     let mission = mission_of_texts(rt.alloc(), text.as_str(), script)?;
-    let flown = fly_alone(rt.alloc(), &mission)?;
-    note_rows(rt, count, &mission, &flown)
+    let noted = note_mission(rt, count, &mission);
+    drop(mission);
+    noted
 }
 
-fn note_rows(rt: &HostRuntime, count: u32, mission: &Mission, flown: &Flown) -> io::Result<()>
-    requires { flown.now.rows ≡ rows_of mission.now.spec mission.now.script }
+fn note_mission(rt: &HostRuntime, count: u32, mission: &Mission) -> io::Result<()> {
+    let flown = fly_alone(rt.alloc(), mission)?;
+    let noted = note_rows(rt, count, mission, flown.rows.items());
+    drop(flown);
+    noted
+}
+
+fn note_rows(rt: &HostRuntime, count: u32, mission: &Mission, rows: &[Row]) -> io::Result<()>
+    requires { rows.now ≡ rows_of mission.now.spec mission.now.script }
 {
     let (tap, writer, mut readers) = given(Tap::open(rt.alloc(), mission, 1))?;
     let mut publisher = Publisher { tap: &tap, writer };
-    hand_rows(flown.rows.items(), count, &mut publisher);
-    if let Some(reader) = readers.first_mut() {
-        print_summary(rt, "before", &tap.read(reader))?;
-    }
+    hand_rows(rows, count, &mut publisher);
+    let before = match readers.first_mut() {
+        Some(reader) => Some(tap.read(reader)),
+        None => None,
+    };
     let Publisher { tap, mut writer } = publisher;
     let mut reader = tap.note(&mut writer);
-    print_summary(rt, "note", &tap.read(&mut reader))
+    print_summaries(rt, before, tap.read(&mut reader))
+}
+
+/// Prints the summary that the first reader read, if there is a reader, and the summary that a note holds.
+fn print_summaries(rt: &HostRuntime, before: Option<Summary>, note: Summary) -> io::Result<()> {
+    if let Some(before) = before {
+        print_summary(rt, "before", &before)?;
+    }
+    print_summary(rt, "note", &note)
 }
 
 /// Hands the first `count` rows to a watch that has taken none. If there are fewer rows, hands all of them.

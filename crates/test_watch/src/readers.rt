@@ -32,6 +32,14 @@ struct Seen {
     frames: u32,
 }
 
+/// The result of a flight beside two readers: what was flown, and the result of each reader that had a thread.
+#[derive(Drop)]
+struct Watched {
+    flown: Flown,
+    one: Option<Seen>,
+    other: Option<Seen>,
+}
+
 /// Flies the mission generated from a number while two readers read, and compares each summary that they see with the
 /// flight on one thread.
 pub fn fly<R: AllocGlobal + Threads + Wait + Sync>(
@@ -40,9 +48,9 @@ pub fn fly<R: AllocGlobal + Threads + Wait + Sync>(
     number: u32,
 ) -> io::Result<()> {
     let mission = generated_mission(rt.alloc(), number)?;
-    let flown = fly_alone(rt.alloc(), &mission)?;
-    let summaries = list_summaries(rt.alloc(), &mission, &flown)?;
-    fly_read(rt, threads, &mission, &flown, &summaries)
+    let compared = fly_mission(rt, threads, &mission);
+    drop(mission);
+    compared
 }
 
 /// Returns the mission generated from a number.
@@ -57,7 +65,11 @@ fn generated_mission(alloc: Global, number: u32) -> io::Result<Mission> {
 /// Returns the text of the mission generated from a number, with a line for its specification and one for its script.
 fn generated_text(alloc: Global, number: u32) -> io::Result<String> {
     match generate(alloc, number) {
-        Ok((spec, script)) => text_of(alloc, &spec, &script),
+        Ok((spec, script)) => {
+            let text = text_of(alloc, &spec, &script);
+            drop((spec, script));
+            text
+        }
         Err(_) => Err(ErrorKind::OutOfMemory.into()),
     }
 }
@@ -72,31 +84,78 @@ fn text_of(alloc: Global, spec: &Spec, script: &Script) -> io::Result<String>
     }
 }
 
-fn fly_read<R: AllocGlobal + Threads + Wait + Sync>(
+fn fly_mission<R: AllocGlobal + Threads + Wait + Sync>(
+    rt: &HostRuntime,
+    threads: &R,
+    mission: &Mission,
+) -> io::Result<()> {
+    let flown = fly_alone(rt.alloc(), mission)?;
+    let compared = fly_beside(rt, threads, mission, &flown);
+    drop(flown);
+    compared
+}
+
+/// Flies a mission while two readers read, and compares the result with that of the flight on one thread.
+fn fly_beside<R: AllocGlobal + Threads + Wait + Sync>(
     rt: &HostRuntime,
     threads: &R,
     mission: &Mission,
     flown: &Flown,
-    summaries: &[Summary],
 ) -> io::Result<()> {
-    let boxes = empty_boxes(rt.alloc())?;
-    let flight = given(WordFlight::open(rt.alloc(), mission, boxes))?;
-    let (tap, writer, mut readers) = given(Tap::open(rt.alloc(), mission, 2))?;
-    let Some(one) = readers.pop() else {
-        unreachable!()
-    };
-    let Some(other) = readers.pop() else {
-        unreachable!()
-    };
-    let station = Station {
-        tap: &tap,
-        summaries,
-    };
-    let publisher = Publisher { tap: &tap, writer };
-    let (watched, one, other) = read_beside(threads, station, flight, publisher, (one, other));
-    println!(rt; "as on one thread: {}", is_same(&watched, flown))?;
-    print_seen(rt, "one", one)?;
-    print_seen(rt, "other", other)
+    let summaries = list_summaries(rt.alloc(), mission, flown)?;
+    let watched = fly_read(threads, mission, &summaries)?;
+    let printed = print_watched(rt, &watched, flown);
+    drop(watched);
+    printed
+}
+
+fn fly_read<R: AllocGlobal + Threads + Wait + Sync>(
+    threads: &R,
+    mission: &Mission,
+    summaries: &[Summary],
+) -> io::Result<Watched> {
+    let boxes = empty_boxes(threads.alloc())?;
+    match WordFlight::open(threads.alloc(), mission, boxes) {
+        Ok(flight) => read_flight(threads, mission, summaries, flight),
+        Err(_) => Err(ErrorKind::OutOfMemory.into()),
+    }
+}
+
+fn read_flight<'a, R: AllocGlobal + Threads + Wait + Sync>(
+    threads: &R,
+    mission: &'a Mission,
+    summaries: &[Summary],
+    flight: WordFlight<'a>,
+) -> io::Result<Watched>
+    requires { flight.mission ≡ mission.entry }
+{
+    match Tap::open(threads.alloc(), mission, 2) {
+        Ok((tap, writer, mut readers)) => {
+            let Some(one) = readers.pop() else {
+                unreachable!()
+            };
+            let Some(other) = readers.pop() else {
+                unreachable!()
+            };
+            let station = Station {
+                tap: &tap,
+                summaries,
+            };
+            let publisher = Publisher { tap: &tap, writer };
+            Ok(read_beside(threads, station, flight, publisher, (one, other)))
+        }
+        Err(_) => {
+            drop(flight);
+            Err(ErrorKind::OutOfMemory.into())
+        }
+    }
+}
+
+/// Prints whether a flight is that on one thread, and the results of its readers.
+fn print_watched(rt: &HostRuntime, watched: &Watched, flown: &Flown) -> io::Result<()> {
+    println!(rt; "as on one thread: {}", is_same(&watched.flown, flown))?;
+    print_seen(rt, "one", watched.one)?;
+    print_seen(rt, "other", watched.other)
 }
 
 /// Prints the result of a reader.
@@ -120,15 +179,14 @@ struct Station<'t, 'a> {
     summaries: &'t [Summary],
 }
 
-/// Flies a mission while two readers read. Returns the result of the flight, and the result of each reader that has a
-/// thread.
+/// Flies a mission while two readers read.
 fn read_beside<'a, W: Watch, R: Threads + Wait + Sync>(
     rt: &R,
     station: Station<'_, 'a>,
     flight: WordFlight<'a>,
     watch: W,
     readers: (Reader, Reader),
-) -> (Flown, Option<Seen>, Option<Seen>)
+) -> Watched
     requires watched { W.watched watch ≡ flight.mission.now }
     requires taken { W.taken watch ≡ 0 }
     requires one { IsReaderOf station.tap.now readers.0 }
@@ -139,7 +197,7 @@ fn read_beside<'a, W: Watch, R: Threads + Wait + Sync>(
     thread::scope(
         thread::scope_env(),
         rt,
-        |scope| -> (Flown, Option<Seen>, Option<Seen>)
+        |scope| -> Watched
             requires watched { W.watched watch ≡ flight.mission.now }
             requires taken { W.taken watch ≡ 0 }
             requires one { IsReaderOf tap.now one }
@@ -165,7 +223,7 @@ fn read_beside<'a, W: Watch, R: Threads + Wait + Sync>(
                 Ok(handle) => Some(handle.join(rt)),
                 Err(_) => None,
             };
-            (flown, one, other)
+            Watched { flown, one, other }
         },
     )
 }
