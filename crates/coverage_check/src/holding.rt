@@ -54,13 +54,13 @@ fn refuse_invariant_of(spec: &Spec, covers: &[Cover; 12], k: u32, inv: &Invarian
 
 fn breaks_from(spec: &Spec, cover: &Cover, inv: &Invariant, i: u8) -> bool
     requires { IsCover spec.now (conf_id i) cover.now }
-    ensures { result ≡ breaks_from spec.now inv.now (record { 0 = i }) }
+    ensures { result ≡ breaks_from spec.now inv.now (conf_id i) }
 {
     speaks_of(inv.from, i) && !holds_from(spec, cover, inv, i)
 }
 
 fn speaks_of(from: Option<ConfId>, i: u8) -> bool
-    ensures { result ≡ has_source from (record { 0 = i }) }
+    ensures { result ≡ has_source from (conf_id i) }
 {
     match from {
         Some(from) => from.0 == i,
@@ -70,7 +70,7 @@ fn speaks_of(from: Option<ConfId>, i: u8) -> bool
 
 fn holds_from(spec: &Spec, cover: &Cover, inv: &Invariant, i: u8) -> bool
     requires { IsCover spec.now (conf_id i) cover.now }
-    ensures { result ≡ holds_from spec.now inv.now (record { 0 = i }) }
+    ensures { result ≡ holds_from spec.now inv.now (conf_id i) }
 {
     holds_leaving(spec, inv, spec.place_of(ConfId(i), inv.app))
         && holds_reached(spec, cover, inv, i)
@@ -80,7 +80,7 @@ fn holds_from(spec: &Spec, cover: &Cover, inv: &Invariant, i: u8) -> bool
 // possible targets.
 fn holds_reached(spec: &Spec, cover: &Cover, inv: &Invariant, i: u8) -> bool
     requires { IsCover spec.now (conf_id i) cover.now }
-    ensures { result ≡ holds_reached spec.now inv.now (record { 0 = i }) }
+    ensures { result ≡ holds_reached spec.now inv.now (conf_id i) }
 {
     for j in 0..count_confs(spec) {
         if !holds_on_way(spec, cover, inv, i, j) {
@@ -94,7 +94,7 @@ fn holds_on_way(spec: &Spec, cover: &Cover, inv: &Invariant, i: u8, j: u8) -> bo
     requires known { IsSpec spec.now }
     requires cover { IsCover spec.now (conf_id i) cover.now }
     requires inside { j < length spec.now.confs }
-    ensures { result ≡ holds_on_way spec.now inv.now (record { 0 = i }) j }
+    ensures { result ≡ holds_on_way spec.now inv.now (conf_id i) j }
 {
     !is_in(cover.targets, j) || holds_reaching(spec, inv, spec.place_of(ConfId(j), inv.app))
 }

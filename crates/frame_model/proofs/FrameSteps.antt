@@ -1,4 +1,5 @@
--- The effect of a frame, composed of the effects of its parts.
+-- Lemmas that the acts, areas and keepers made in a frame, and the row and the system made of them, are those that the
+-- definitions give.
 use Rattle.std.proofs.Common.{◌≡◌, ◌∙◌, ℕ, suc, ◌+◌, refl, ap, arith, List}
 use Rattle.std.specs.Prelude.{ℤ, Bool, Option}
 use Rattle.scram_types.specs.declared.ids.ProcId.{ProcId}

@@ -18,7 +18,7 @@ use Rattle.trace_props.specs.declared.breaks.Property.TheVariants as property
 use Rattle.form_base.specs.Lines.{shown_line, specification_line}
 use Rattle.spec_forms.specs.Lines.{accepted_line}
 use Rattle.flight_forms.specs.Lines.{fly_line, outside_line, script_line}
-use Rattle.trace_files.specs.Lines.{trace_line}
+use Rattle.trace_files.specs.Lines.{broken_trace_line}
 use Rattle.trace_forms.specs.Lines.{broken_line, holds_line}
 
 abbrev conf : List ℕ → Conf
@@ -141,12 +141,12 @@ unfolding digits
 accepted = refl
 
 -- The line for a trace in whose first line a number has a leading zero.
-trace : trace_line (record { line = 1; rule = 5 }) ≡ codes "refused: trace rule 5 at line 1\n"
+trace : broken_trace_line (record { line = 1; rule = 5 }) ≡ codes "refused: trace rule 5 at line 1\n"
 unfolding digits
 trace = refl
 
 -- The line for a trace in a file that is too long.
-long : trace_line (record { line = 0; rule = 9 }) ≡ codes "refused: trace rule 9 at line 0\n"
+long : broken_trace_line (record { line = 0; rule = 9 }) ≡ codes "refused: trace rule 9 at line 0\n"
 unfolding digits
 long = refl
 

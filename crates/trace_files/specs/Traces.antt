@@ -8,7 +8,7 @@ use Rattle.trace_text.specs.declared.trace_reading.TraceFault.{TraceFault}
 use Rattle.trace_text.specs.TraceReading.{trace_of}
 use Rattle.form_base.specs.declared.status.TheConstants.{BROKEN_TRACE}
 use Rattle.form_base.specs.Answers.{Answer, AnswersDocument, AnswersFile}
-use Rattle.trace_files.specs.Lines.{trace_line}
+use Rattle.trace_files.specs.Lines.{broken_trace_line}
 
 -- The bytes are the trace `flown` of missions of a specification, with fewer than `2 ^ 32` rows and reports.
 pub record SaysTrace (spec : Parts) (flown : Flown) (bytes : List ℕ) : Type 0 where
@@ -20,11 +20,11 @@ pub record SaysTrace (spec : Parts) (flown : Flown) (bytes : List ℕ) : Type 0 
 pub record BreaksTrace (spec : Parts) (refusal : ℕ × List ℕ) (bytes : List ℕ) : Type 0 where
   pub fault : TraceFault
   pub is : trace_of spec bytes ≡ Err fault
-  pub line : refusal ≡ (BROKEN_TRACE, trace_line fault)
+  pub line : refusal ≡ (BROKEN_TRACE, broken_trace_line fault)
 
 -- The status and the line with which a trace of too many bytes is refused.
 abbrev pub long_trace : ℕ × List ℕ
-long_trace = (BROKEN_TRACE, trace_line (record { line = 0; rule = WRONG_END }))
+long_trace = (BROKEN_TRACE, broken_trace_line (record { line = 0; rule = WRONG_END }))
 
 -- The answer to the name of a trace's file, given `Then`, which gives the answer to the trace in the file.
 abbrev pub AsksTrace : Parts → List ℕ → (Flown → Answer) → Answer

@@ -5,9 +5,9 @@ ghost use Rattle.scram_types.specs.declared.limits.TheConstants.{MAX_TRACE_BYTES
 ghost use Rattle.form_base.specs.Refusals.{told};
 ghost use Rattle.form_base.specs.declared.status.TheConstants.{BROKEN_TRACE};
 ghost use Rattle.trace_files.specs.Traces.{BreaksTrace, SaysTrace, long_trace};
-ghost use Rattle.trace_files.specs.Lines.{trace_line};
+ghost use Rattle.trace_files.specs.Lines.{broken_trace_line};
 
-use crate::lines::make_trace_line;
+use crate::lines::make_broken_trace_line;
 use form_base::loads::Document;
 use form_base::refusals::{Refusal, Refused};
 use scram_types::limits::MAX_TRACE_BYTES;
@@ -22,9 +22,9 @@ pub struct Trace<'a> {
 }
 
 fn refuse(fault: TraceFault) -> Refusal
-    ensures { told result ≡ (BROKEN_TRACE, trace_line fault) }
+    ensures { told result ≡ (BROKEN_TRACE, broken_trace_line fault) }
 {
-    Refusal::new(Refused::Trace, make_trace_line(fault))
+    Refusal::new(Refused::Trace, make_broken_trace_line(fault))
 }
 
 impl Document<Flown> for Trace<'_> {

@@ -1,14 +1,14 @@
 //! The line that refuses a trace, made without allocating.
 
 ghost use Rattle.std.specs.Prelude.{◌≡◌};
-ghost use Rattle.trace_files.specs.Lines.{trace_line};
+ghost use Rattle.trace_files.specs.Lines.{broken_trace_line};
 
 use trace_text::TraceFault;
 use trace_text::lines::Line;
 
 /// Returns the line that refuses a trace, with the rule that the trace breaks and the line of the trace.
-pub fn make_trace_line(fault: TraceFault) -> Line
-    ensures { result ≡ trace_line fault }
+pub fn make_broken_trace_line(fault: TraceFault) -> Line
+    ensures { result ≡ broken_trace_line fault }
 {
     let mut line = Line::new();
     line.text(b"refused: trace rule ");
