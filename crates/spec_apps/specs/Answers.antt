@@ -49,7 +49,7 @@ ShowsCycle unranked NoMemory = ⊤
 abbrev pub plain_fault : DocFault → SpecError
 plain_fault fault = Fault (record { rule = fault.rule; path = fault.path; cycle = record { items = [] }; names = record { items = [] } })
 
--- The error of a part of a document that was not read, without a cycle.
+-- The specification error for an error in reading a part of a document. Its cycle is empty.
 abbrev pub plain_error : DocError → SpecError
 plain_error (doc.Fault fault) = plain_fault fault
 plain_error doc.NoMemory = NoMemory
