@@ -45,7 +45,7 @@ ShowsCycle unranked (Fault fault) =
     CycleAmong unranked fault.cycle.items × NamedAmong unranked fault.cycle.items fault.names.items
 ShowsCycle unranked NoMemory = ⊤
 
--- The error of a broken rule, without a cycle.
+-- The specification error for a broken rule. Its cycle is empty.
 abbrev pub plain_fault : DocFault → SpecError
 plain_fault fault = Fault (record { rule = fault.rule; path = fault.path; cycle = record { items = [] }; names = record { items = [] } })
 
