@@ -211,7 +211,8 @@ impl<'a> Core<'a> {
         ensures script { self.new.script ≡ self.old.script }
         ensures next { IfOk result (λ _. IsNextIn self.old event) }
         ensures happens { IfOk result (λ _. HappensIn self.old event self.new) }
-        ensures fewer { IfOk result (λ _. events_left (core_flight self.new) (core_places self.new) < events_left (core_flight self.old) (core_places self.old)) }
+        ensures fewer { IfOk result (λ _. events_left (core_flight self.new) (core_places self.new)
+            < events_left (core_flight self.old) (core_places self.old)) }
         ensures history { IfOk result (λ _. self.new.history ≡ self.old.history ++ event ∷ []) }
         ensures illegal { IfErr result (RefusesEvent self.old event) }
         ensures same { IfErr result (λ _. self.new ≡ self.old) }

@@ -52,7 +52,8 @@ fn draft_frame(
     requires facts { IsSpec setup.now.spec.now }
     requires known { p.0 < length setup.now.spec.now.procs }
     requires few { p.0 < 8 }
-    requires stands { (place : Place) × IsFlyerAt (flight_by setup.now) p.0 place flyer.old × (frame_to_make ((flight_by setup.now).restart p.0) place ≡ Some frame) }
+    requires stands { (place : Place) × IsFlyerAt (flight_by setup.now) p.0 place flyer.old
+        × (frame_to_make ((flight_by setup.now).restart p.0) place ≡ Some frame) }
     requires snap { IsSnapshot setup.now.spec.now setup.now.script.now frame snap.now }
     ensures words { (i : ℕ) → slice_index_or result i 0 ≡ word_in (draft_words setup.now.spec.now setup.now.script.now p.0 frame) i }
     ensures flyer { IsFlyerAt (flight_by setup.now) p.0 (after_frame frame ((flight_by setup.now).halt p.0 frame)) flyer.new }

@@ -133,7 +133,8 @@ fn word_where_next(core: &Core, spec: &Spec, flyers: &mut Flyers, event: Event) 
     requires spec { core.now.spec ≡ spec.now }
     requires fits { FlyBy core.now flyers.old }
     ensures word { IsNextIn core.now event → IsWordIn core.now event result }
-    ensures fits { IsNextIn core.now event → FlyersFit core.now.spec core.now.script (proc_after (core_flight core.now) (core_places core.now) event) flyers.new }
+    ensures fits { IsNextIn core.now event
+        → FlyersFit core.now.spec core.now.script (proc_after (core_flight core.now) (core_places core.now) event) flyers.new }
 {
     if core.next_of_actor(event) == Some(event) {
         flyers.word(core, spec, event)
