@@ -17,7 +17,7 @@ pub enum Actor {
 pub struct View {
     pub mission: Option<Mission>,
     pub tries: u64,
-    /// A clause reads this array as a list, which may have any length.
+    /// The actors of the seat. In contracts, this field is a list, which may have any length.
     pub actors: [Actor; 0],
 }
 
