@@ -10,7 +10,7 @@ use Rattle.scram_types.specs.declared.orders.KMode.{KMode}
 use Rattle.scram_types.specs.declared.orders.KMode.TheVariants.{Stable, Moving}
 use Rattle.flight_facts.specs.Differences.{difference_text, have_changed}
 
--- Whether a reconfiguration is under way.
+-- Whether a mode of the kernel is that of a reconfiguration under way.
 abbrev pub is_under_way : KMode → Bool
 is_under_way (Stable c) = false
 is_under_way (Moving from halting to since) = true
