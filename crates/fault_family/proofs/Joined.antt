@@ -1,4 +1,4 @@
--- Lemmas on the elements of joined lists, each of which is an element of one of the lists.
+-- Lemmas on the elements that joined and mapped lists contain.
 use Rattle.std.proofs.Common.{◌≡◌, ◌∙◌, ℕ, zero, suc, ◌+◌, ◌<◌, Bool, true, false, List, [], ◌∷◌, ◌++◌, length, map, arith, ap, refl, sym, subst}
 use mathlib.Core.Logic.{inl, inr}
 use Rattle.std.specs.Prelude.{◌⊎◌, Some, flat_map, option_map, slice_get, if◌then◌else◌}
