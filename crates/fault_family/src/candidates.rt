@@ -139,7 +139,7 @@ pub fn candidate_count(spec: &Spec, kinds: &[FaultKind], before: &[Fault]) -> u3
 }
 
 /// Returns candidate `k`, counted from 0. The candidates are the faults of each kind in each frame in which a fault
-/// may come after the faults `before`, ordered by frame, then by kind.
+/// may come after the faults `before`, frame by frame, and in each frame in the order of the kinds.
 pub fn candidate(spec: &Spec, kinds: &[FaultKind], before: &[Fault], k: u32) -> Fault
     requires kinds { kinds.now ≡ kinds_of spec.now }
     requires few { length kinds.now ≤ 48 }

@@ -29,14 +29,14 @@ impl Default for FaultKind {
     }
 }
 
-/// A list of at most [`MAX_FAULTS`] faults, in order.
+/// A fault, with the frame in which it comes.
 #[derive(Clone, Copy, Debug, Default, PartialEq, Eq)]
 pub struct Fault {
     pub frame: u32,
     pub kind: FaultKind,
 }
 
-/// At most [`MAX_FAULTS`] faults, in order.
+/// A list of at most [`MAX_FAULTS`] faults, in order.
 #[derive(Drop)]
 pub struct Faults {
     faults: ArrayVec<Fault, MAX_FAULTS>,
