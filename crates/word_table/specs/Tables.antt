@@ -75,7 +75,7 @@ AreOpening seats = (p : ℕ) (seat : Seat) → slice_get seats p ≡ Some seat �
 abbrev pub has_halted_by : Flight → ℕ → ℕ → Bool
 has_halted_by m p k = not (m.up p k && is_none (m.halt p k))
 
--- The number of frames that the mark of a processor at a place covers.
+-- The number `n` such that the mark of a processor at a place is its mark after the first `n` frames.
 abbrev pub frames_marked : MissionParts → Place → ℕ
 frames_marked mission place = marked (mission_flight mission) place
 
