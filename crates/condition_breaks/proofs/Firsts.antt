@@ -29,8 +29,9 @@ mapped_below f answer zero = refl
 mapped_below f answer (suc n) =
     mapped_both f (first_below answer n) (answer n) ∙ ap (λ o. option_or o (option_map f (answer n))) (mapped_below f answer n)
 
--- If the first element of each list is shown by an answer, the first element of the concatenated lists is shown by
--- the first answer that is present.
+-- For each number below `n`, let the answer be the value of `f` at the first element of the number's list, or `None`
+-- if the list is empty. Then the value of `f` at the first element of the concatenated lists is the first answer that
+-- is not `None`.
 pub gathered_shown : {A B : Type 0} (f : A → B) (items : ℕ → List A) (answer : ℕ → Option B) (n : ℕ)
     → ((k : ℕ) → k < n → option_map f (slice_get (items k) 0) ≡ answer k) → option_map f (slice_get (gathered_below items n) 0) ≡ first_below answer n
 gathered_shown f items answer n same =

@@ -1,4 +1,5 @@
--- The environments found for the demands give the places at which the demands are missed.
+-- The places at which demands are missed, made from the first environments found for the demands, are those of the
+-- definition.
 use Rattle.std.proofs.Common.{ℕ, ◌<◌, ◌≡◌, ◌∙◌, List, [], ap, arith, length, sym}
 use Rattle.std.specs.Prelude.{Option, option_and_then, option_map}
 use Rattle.std.specs.Option.{option_map_or, option_to_list}

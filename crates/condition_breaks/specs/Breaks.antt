@@ -76,7 +76,7 @@ unmet_break spec asked c = option_to_list (option_map (λ (v : Env). broken.Unme
 abbrev pub unmet_breaks : Parts → Requirement → List Break
 unmet_breaks spec asked = gathered_below (unmet_break spec asked) (length spec.confs)
 
--- The place of A8 if the start configuration is left at once, or the empty list.
+-- The place of A8 if the table leaves the start configuration in the opening environment, or the empty list.
 abbrev pub start_breaks : Parts → List Break
 start_breaks spec = one_if (leaves_start spec) broken.StartLeft
 
@@ -93,21 +93,23 @@ bound_breaks_from spec i = gathered_below (bound_break spec i) (length spec.conf
 abbrev pub bound_breaks : Parts → List Break
 bound_breaks spec = gathered_below (bound_breaks_from spec) (length spec.confs)
 
--- The place of A10 if the window is too short, or the empty list.
+-- The place of A10 if the window is not longer than the greatest bound, or the empty list.
 abbrev pub window_breaks : Parts → List Break
 window_breaks spec = one_if (has_short_window spec) broken.WindowShort
 
--- The place of invariant `k`, with the given way and the smallest interval that contains all ranges that the invariant
--- has to contain.
+-- The place of A11 for invariant `k` on a given way. It has the smallest interval that contains all ranges that the
+-- invariant has to contain, among them the range on the way.
 abbrev pub unheld : Parts → ℕ → Invariant → Way → Break
 unheld spec k inv taken =
     broken.Unheld (record { invariant = k; way = taken; needed = hull_of spec inv (interval (range_on spec inv taken)) (all_ways spec) })
 
--- The place of invariant `k`, or `None` if it contains all ranges that it has to contain.
+-- The place of A11 for invariant `k`, with the first way whose range it does not contain, or `None` if it contains
+-- all ranges that it has to contain.
 abbrev pub unheld_of : Parts → ℕ → Invariant → Option Break
 unheld_of spec k inv = option_map (unheld spec k inv) (first_unheld spec inv (all_ways spec))
 
--- The place of the invariant of this number, or `None` if there is no such invariant or it contains all its ranges.
+-- The place of A11 for invariant `k`, or `None` if there is no invariant `k` or it contains all ranges that it has to
+-- contain.
 abbrev pub unheld_at : Parts → ℕ → Option Break
 unheld_at spec k = option_map_or (unheld_of spec k) (slice_get spec.invariants k) None
 
@@ -119,11 +121,11 @@ invariant_break spec k = option_to_list (unheld_at spec k)
 abbrev pub invariant_breaks : Parts → List Break
 invariant_breaks spec = gathered_below (invariant_break spec) (length spec.invariants)
 
--- The place of precondition `k`, or `None` if it cannot fail when its configuration is entered.
+-- The place of A12 for precondition `k`, or `None` if it cannot fail when its configuration is entered.
 abbrev pub unentered_of : Parts → ℕ → Precondition → Option Break
 unentered_of spec k pre = shown_if (breaks_entering spec pre) (broken.PreconditionMissed k)
 
--- The place of the precondition of this number, or `None` if there is no such precondition or it cannot fail.
+-- The place of A12 for precondition `k`, or `None` if there is no precondition `k` or it cannot fail.
 abbrev pub unentered_at : Parts → ℕ → Option Break
 unentered_at spec k = option_map_or (unentered_of spec k) (slice_get spec.preconditions k) None
 
@@ -141,8 +143,8 @@ abbrev pub demand_break_of : Parts → ℕ → ℕ → Demand → List Break
 demand_break_of spec c k demand =
     option_to_list (option_map (λ (v : Env). broken.DemandMissed (conf_id c) k v) (first_missed_env spec demand (conf_id c)))
 
--- The place of A13 for configuration `c` and the demand of this number if there is such a demand and the table misses
--- it, or the empty list.
+-- The place of A13 for configuration `c` and demand `k`, or the empty list if there is no demand `k` or the table
+-- does not miss it from `c`.
 abbrev pub demand_break : Parts → ℕ → ℕ → List Break
 demand_break spec c k = option_map_or (demand_break_of spec c k) (slice_get spec.demands k) []
 
@@ -154,8 +156,8 @@ demand_breaks_in spec c = gathered_below (demand_break spec c) (length spec.dema
 abbrev pub demand_breaks : Parts → List Break
 demand_breaks spec = gathered_below (demand_breaks_in spec) (length spec.confs)
 
--- The place for configuration `c` and demand `k`, or `None` if the demand is not missed or does not exist. `found`
--- has for each demand the first environment in which it is missed.
+-- The place of A13 for configuration `c` and demand `k`, or `None` if the demand is not missed or does not exist.
+-- `found` has for each demand the first environment in which it is missed, or `None` if it is not missed.
 abbrev pub missed_at : List (Option Env) → ℕ → ℕ → Option Break
 missed_at found c k =
     option_and_then (λ (first : Option Env). option_map (λ (v : Env). broken.DemandMissed (conf_id c) k v) first) (slice_get found k)

@@ -1,4 +1,5 @@
--- Faults of single configurations: needed applications that are off, and a configuration that is given twice.
+-- Tests of single configurations: whether a needed application is off, and whether an earlier configuration is the
+-- same.
 use Rattle.std.specs.Prelude.{ℕ, Bool, false, not, ◌&&◌, ◌==◌, List, slice_get, Option}
 use Rattle.std.specs.List.{list_any}
 use Rattle.std.specs.Option.{option_map_or}

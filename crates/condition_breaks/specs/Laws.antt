@@ -25,7 +25,7 @@ use Rattle.condition_breaks.specs.declared.breaks.Way.{Way}
 use Rattle.condition_breaks.specs.Breaks.{breaks, unheld_at}
 use Rattle.condition_breaks.specs.Ranges.{all_ways, range_on}
 
--- The refusal that shows the precondition of this number.
+-- The refusal that shows precondition `k`, with its configuration if the precondition exists.
 abbrev pub missed_shown : Parts → ℕ → Shown
 missed_shown spec k =
     option_map_or (λ (pre : Precondition). shown_at 12 pre.conf.0 (other.Item k)) (slice_get spec.preconditions k) (shown_nowhere 12 (other.Item k))
@@ -45,11 +45,12 @@ shown_of spec (broken.Unheld found) = shown_at 11 found.way.from.0 (other.Item f
 shown_of spec (broken.PreconditionMissed k) = missed_shown spec k
 shown_of spec (broken.DemandMissed c k v) = shown_in 13 c.0 v (other.Demand k)
 
--- The refusal that shows the first of these places, or `None` if there is none.
+-- The refusal that shows the first place of a list, or `None` if the list is empty.
 abbrev pub first_shown : Parts → List Break → Option Shown
 first_shown spec found = option_map (shown_of spec) (slice_get found 0)
 
--- The refusal by the condition of this number if the number is 9 to 13, or `None`.
+-- The refusal by condition A9 to A13 with the given number, or `None` if the condition holds or the number is not 9
+-- to 13.
 abbrev pub later_refusal_by : Parts → ℕ → Option Shown
 later_refusal_by spec condition =
     if condition == 9 then bound_refusal spec else
@@ -58,7 +59,8 @@ later_refusal_by spec condition =
     if condition == 12 then precondition_refusal spec else
     if condition == 13 then demand_refusal spec else None
 
--- The refusal by the condition of this number if the number is 5 to 13, or `None`.
+-- The refusal by condition A5 to A13 with the given number, or `None` if the condition holds or the number is not 5
+-- to 13.
 abbrev pub choice_refusal_by : Parts → ℕ → Option Shown
 choice_refusal_by spec condition =
     if condition == 5 then requirement_refusal spec requirement.HasRule else

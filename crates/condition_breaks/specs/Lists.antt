@@ -1,7 +1,7 @@
 -- The concatenation of lists, and lists of at most one element.
 use Rattle.std.specs.Prelude.{ℕ, zero, suc, Bool, List, [], ◌∷◌, ◌++◌, if◌then◌else◌}
 
--- The lists of the numbers below `n`, concatenated.
+-- The lists `items k` of all numbers `k` below `n`, concatenated in order.
 abbrev pub gathered_below : {A : Type 0} → (ℕ → List A) → ℕ → List A
 gathered_below items zero = []
 gathered_below items (suc n) = gathered_below items n ++ items n

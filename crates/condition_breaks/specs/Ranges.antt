@@ -42,8 +42,8 @@ all_ways spec = gathered_below (ways_from spec) (length spec.confs)
 abbrev pub interval : ℤ × ℤ → Extremes
 interval ends = record { least = ends.0; greatest = ends.1 }
 
--- The range of an invariant's variable in a place, over all acts in the place's mode. The status has the range from 1
--- to 4. The range is zero if the application is off.
+-- The range of an invariant's variable in a place, over all acts in the place's mode. The range is from 1 to 4 if the
+-- variable is the status, and from 0 to 0 if the application is off.
 abbrev pub range_asked : Parts → Invariant → Option Place → ℤ × ℤ
 range_asked spec inv None = (pos 0, pos 0)
 range_asked spec inv (Some place) = if inv.variable == 0 then (pos 1, pos 4) else during (kind_of_app spec inv.app.0) 1 place.mode.0 inv.variable
@@ -76,8 +76,8 @@ abbrev pub hull_of : Parts → Invariant → Extremes → List Way → Extremes
 hull_of spec inv held [] = held
 hull_of spec inv held (taken ∷ ways) = hull_of spec inv (hull_on spec inv held taken) ways
 
--- The range that a precondition has to contain in a place. It is the range after the init phase, or zero if the
--- application is off.
+-- The range that a precondition has to contain in a place: the range of its variable after the init phase, or the
+-- range from 0 to 0 if the application is off.
 abbrev pub range_entering : Parts → Precondition → Option Place → ℤ × ℤ
 range_entering spec pre None = (pos 0, pos 0)
 range_entering spec pre (Some place) = after_init (kind_of_app spec pre.app.0) place.mode.0 pre.variable

@@ -4,25 +4,25 @@ use coverage_check::choosing::Requirement;
 use flight_facts::extremes::Extremes;
 use scram_types::{AppId, ConfId, Env, ProcId};
 
-/// A place at which a condition of acceptance does not hold. The places of one condition are ordered by the numbers of
-/// their parts, lexicographically from left to right.
+/// A place at which a condition of acceptance does not hold. The places of one condition are in the lexicographic
+/// order of the numbers in their fields, from left to right.
 #[derive(Clone, Copy, Debug, PartialEq, Eq)]
 pub enum Break {
     /// In a configuration, an application is on and an application that it needs is off.
     NeedOff(ConfId, AppId, AppId),
-    /// More environments are in scope than a search of the table covers.
+    /// More environments are in scope than acceptance searches.
     ManyStates,
     /// A configuration has no application on.
     NothingOn(ConfId),
-    /// A configuration is the same as an earlier configuration. The second part is the first such configuration.
+    /// A configuration is the same as an earlier configuration. The second field is the first such configuration.
     SameAgain(ConfId, ConfId),
     /// A configuration loads a processor beyond its capacity.
     Overloaded(ConfId, ProcId),
     /// A configuration does not meet a requirement in an environment, which is the first such environment in scope.
     Unmet(Requirement, ConfId, Env),
-    /// The start configuration is left at once.
+    /// The table leaves the start configuration in the opening environment.
     StartLeft,
-    /// A bound from one configuration to another is required, and no sufficient bound is given.
+    /// A bound from the first configuration to the second is required, and no sufficient bound is given.
     BoundLacking(ConfId, ConfId),
     /// The window is not longer than the greatest bound.
     WindowShort,

@@ -57,7 +57,7 @@ fn unmet_in(asked: Requirement, c: ConfId, unmet: Option<Env>) -> Option<Break>
     }
 }
 
-// Appends the place of A8 if the start configuration is left at once.
+// Appends the place of A8 if the table leaves the start configuration in the opening environment.
 pub(crate) fn add_start_breaks(breaks: &mut Vec<Break>, spec: &Spec) -> Result<(), NoMemory>
     ensures { OnOk result (breaks.new.items ≡ breaks.old.items ++ start_breaks spec.now) }
 {

@@ -21,8 +21,9 @@ pub fn each_is_broken()
     ensures { EachIsBroken }
 {}
 
-/// States that if a condition does not hold somewhere, the condition's list has a place for this. One place
-/// represents all configurations equal to one, all environments, or all sources of an invariant.
+/// States that if a condition does not hold somewhere, the condition's list has a place for this. One place of A3
+/// stands for all earlier configurations that are the same, one place of A5, A6, A7 or A13 for all environments, and
+/// one place of A11 for all configurations from which the invariant may be broken.
 pub fn none_is_left_out()
     ensures { NoneIsLeftOut }
 {}

@@ -80,8 +80,8 @@ pub fn interval(least: i64, greatest: i64) -> Extremes
     Extremes { least, greatest }
 }
 
-// Returns the range of an invariant's variable in a place, over all acts in the place's mode, or zero if the
-// application is off.
+// Returns the range of an invariant's variable in a place, over all acts in the place's mode. The range is from 1 to
+// 4 if the variable is the status, and from 0 to 0 if the application is off.
 fn range_asked(spec: &Spec, inv: &Invariant, place: Option<Place>) -> Extremes
     ensures { result ≡ interval (range_asked spec.now inv.now place) }
 {
@@ -172,8 +172,8 @@ fn hull(held: &Extremes, range: &Extremes) -> Extremes
     }
 }
 
-/// Returns the range that a precondition has to contain in a place. It is the range after the init phase, or zero if
-/// the application is off.
+/// Returns the range that a precondition has to contain in a place: the range of its variable after the init phase,
+/// or the range from 0 to 0 if the application is off.
 pub fn range_entering(spec: &Spec, pre: &Precondition, place: Option<Place>) -> Extremes
     ensures { result ≡ interval (range_entering spec.now pre.now place) }
 {

@@ -66,7 +66,7 @@ fn is_asked(spec: &Spec, set: u16, i: ConfId, j: ConfId) -> bool
     is_in(set, j.0)
 }
 
-// Appends the place of A10 if the window is too short.
+// Appends the place of A10 if the window is not longer than the greatest bound.
 pub(crate) fn add_window_breaks(breaks: &mut Vec<Break>, spec: &Spec) -> Result<(), NoMemory>
     ensures { OnOk result (breaks.new.items ≡ breaks.old.items ++ window_breaks spec.now) }
 {

@@ -1,4 +1,5 @@
--- The facts that make a specification and a script a mission.
+-- An accepted specification and a script that fits it are a mission if the script never leaves the failure
+-- assumption.
 use Rattle.std.proofs.Common.{◌≡◌, None}
 use Rattle.scram_types.specs.Scripts.{ScriptParts}
 use Rattle.scram_types.specs.Specification.{Parts}

@@ -73,7 +73,7 @@ module _ (spec : Parts) (made : IsSpec spec) where
         chosen = same_conf (choose spec i (numbered spec found.0)) j (equal _ j.0 (and_right (is_number_in_scope spec found.0) _ found.2));
       }
 
-  -- The bits of all possible targets are those of the configurations that are possible targets.
+  -- The set `targets spec i` contains exactly the possible targets of configuration `i`, and no other bits.
   pub are_targets : (i : ConfId) → i.0 < length spec.confs → AreTargets spec i (targets spec i)
   are_targets i known = record {
     only = λ j inside bit. target_tested i j (sym (has_bits (is_target spec i) (length spec.confs) j.0 inside) ∙ bit);
@@ -134,7 +134,8 @@ module _ (spec : Parts) (made : IsSpec spec) where
       (below_none (passing_env_at spec test) (environments spec) (number_of spec v) none (number_inside v belongs)) in
       ap test (sym same) ∙ and_false (is_number_in_scope spec (number_of spec v)) _ here (ap (in_scope spec) same ∙ scope)
 
-  -- The first environment found for a demand gives the refusal for the demand.
+  -- If `found` has for each demand the first environment in which it is missed, the refusal that is taken from
+  -- `found` for demand `k` is the one that the definition gives.
   pub miss_is : (c : ℕ) (found : List (Option Env)) → AreMisses spec (conf_id c) found → (k : ℕ) → k < length spec.demands → miss_shown found c k ≡ demand_refusal_at spec c k
   miss_is c found are k low =
       some_item spec.demands k low (λ demand there.

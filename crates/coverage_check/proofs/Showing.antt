@@ -1,4 +1,4 @@
--- The value that is shown if something is broken.
+-- Lemmas on `shown_if`, which shows a value if a test holds, and on the first value that is shown.
 use Rattle.std.proofs.Common.{◌≡◌, ℕ, ◌<◌, Bool, true, false, refl, ap, sym, ◌∙◌}
 use Rattle.std.specs.Prelude.{Some, None}
 use Rattle.scram_types.specs.Searches.{first_below}

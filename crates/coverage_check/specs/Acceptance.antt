@@ -26,21 +26,21 @@ use Rattle.coverage_check.specs.Timing.{bound_refusal, further, greatest_bound, 
 use Rattle.coverage_check.specs.Holding.{breaks_entering, breaks_from, holds_entering, holds_leaving, holds_reaching, invariant_refusal, precondition_refusal}
 use Rattle.coverage_check.specs.Demands.{demand_refusal}
 
--- The first refusal by A1 to A4, or `None`.
+-- The first refusal by A1 to A4, or `None` if these conditions hold.
 abbrev pub form_refusal : Parts → Option Shown
 form_refusal spec = option_or (need_refusal spec) (option_or (state_refusal spec) (option_or (shape_refusal spec) (load_refusal spec)))
 
--- The first refusal by A5 to A8, or `None`.
+-- The first refusal by A5 to A8, or `None` if these conditions hold.
 abbrev pub choice_refusal : Parts → Option Shown
 choice_refusal spec =
     option_or (requirement_refusal spec requirement.HasRule) (option_or (requirement_refusal spec requirement.CanRun)
     (option_or (requirement_refusal spec requirement.Stays) (start_refusal spec)))
 
--- The first refusal by A9 and A10, or `None`.
+-- The first refusal by A9 and A10, or `None` if these conditions hold.
 abbrev pub time_refusal : Parts → Option Shown
 time_refusal spec = option_or (bound_refusal spec) (window_refusal spec)
 
--- The first refusal by A11 and A12, or `None`.
+-- The first refusal by A11 and A12, or `None` if these conditions hold.
 abbrev pub range_refusal : Parts → Option Shown
 range_refusal spec = option_or (invariant_refusal spec) (precondition_refusal spec)
 

@@ -1,4 +1,4 @@
--- The refusals of acceptance.
+-- The errors of acceptance.
 use Rattle.std.specs.Prelude.{◌≡◌, Some}
 use Rattle.scram_types.specs.Specification.{Parts}
 use Rattle.coverage_check.specs.declared.acceptance.AcceptError.{AcceptError}

@@ -28,28 +28,32 @@ number_of_requirement requirement.HasRule = 5
 number_of_requirement requirement.CanRun = 6
 number_of_requirement requirement.Stays = 7
 
--- The target to show in the refusal, if the requirement is on a target.
+-- The part of a refusal for configuration `c` besides the configuration and the environment: the target that is
+-- chosen from `c` if the requirement is on the target, or `Nothing` if it is that a rule fits.
 abbrev pub target_shown : Parts → Requirement → ConfId → Env → Other
 target_shown spec requirement.HasRule c v = other.Nothing
 target_shown spec requirement.CanRun c v = other.Conf (choose spec c v)
 target_shown spec requirement.Stays c v = other.Conf (choose spec c v)
 
--- The first environment in scope in which configuration `c` does not meet a requirement, or `None`.
+-- The first environment in scope, by number, in which configuration `c` does not meet a requirement, or `None` if `c`
+-- meets it in each environment in scope.
 abbrev pub first_unmet_env : Parts → Requirement → ConfId → Option Env
 first_unmet_env spec asked c = first_passing_env spec (is_unmet spec asked c)
 
--- The first environment that a cover has for a requirement, or `None`.
+-- The environment of a cover that belongs to a requirement: the first in which the requirement is not met, or `None`
+-- if it is met.
 abbrev pub unmet_of_cover : Cover → Requirement → Option Env
 unmet_of_cover cover requirement.HasRule = cover.unfit
 unmet_of_cover cover requirement.CanRun = cover.not_runnable
 unmet_of_cover cover requirement.Stays = cover.unsettled
 
--- The refusal for the first environment in which configuration `c` does not meet a requirement, or `None`.
+-- The refusal for the first environment in scope in which configuration `c` does not meet a requirement, or `None` if
+-- `c` meets it in each environment in scope.
 abbrev pub requirement_refusal_of : Parts → Requirement → ℕ → Option Shown
 requirement_refusal_of spec asked c =
     option_map (λ (v : Env). shown_in (number_of_requirement asked) c v (target_shown spec asked (conf_id c) v)) (first_unmet_env spec asked (conf_id c))
 
--- The refusal for the first configuration that does not meet a requirement, or `None`.
+-- The refusal for the first configuration that does not meet a requirement, or `None` if each configuration meets it.
 abbrev pub requirement_refusal : Parts → Requirement → Option Shown
 requirement_refusal spec asked = first_below (requirement_refusal_of spec asked) (length spec.confs)
 
@@ -57,7 +61,7 @@ requirement_refusal spec asked = first_below (requirement_refusal_of spec asked)
 abbrev pub leaves_start : Parts → Bool
 leaves_start spec = not ((choose spec spec.start (opening_env spec)).0 == spec.start.0)
 
--- A8: the refusal if the table leaves the start configuration in the opening environment, or `None`.
+-- A8: the refusal if the table leaves the start configuration in the opening environment, or `None` if it does not.
 abbrev pub start_refusal : Parts → Option Shown
 start_refusal spec =
     shown_if (leaves_start spec) (shown_in 8 spec.start.0 (opening_env spec) (other.Conf (choose spec spec.start (opening_env spec))))

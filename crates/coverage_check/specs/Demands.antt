@@ -13,29 +13,31 @@ use Rattle.coverage_check.specs.declared.shown.Other.TheVariants as other
 use Rattle.coverage_check.specs.Search.{first_passing_env}
 use Rattle.coverage_check.specs.Showing.{shown_in}
 
--- The first environment in scope in which the table misses a demand from configuration `c`, or `None`.
+-- The first environment in scope in which the table misses a demand from configuration `c`, or `None` if it misses it
+-- in none.
 abbrev pub first_missed_env : Parts → Demand → ConfId → Option Env
 first_missed_env spec demand c = first_passing_env spec (misses spec demand c)
 
--- The refusal for the first environment in which the table misses demand `k` from configuration `c`, or `None`.
+-- The refusal for the first environment in which the table misses demand `k` from configuration `c`, or `None` if it
+-- misses it in none. The demand is `demand`.
 abbrev pub demand_refusal_of : Parts → ℕ → ℕ → Demand → Option Shown
 demand_refusal_of spec c k demand = option_map (λ (v : Env). shown_in 13 c v (other.Demand k)) (first_missed_env spec demand (conf_id c))
 
--- The refusal for the first environment in which the table misses the demand of this index from configuration `c`.
--- `None` if the table misses it nowhere, or if there is no such demand.
+-- The refusal for the first environment in which the table misses demand `k` from configuration `c`, or `None` if it
+-- misses it in none or there is no demand `k`.
 abbrev pub demand_refusal_at : Parts → ℕ → ℕ → Option Shown
 demand_refusal_at spec c k = option_map_or (demand_refusal_of spec c k) (slice_get spec.demands k) None
 
--- The refusal for the first demand that the table misses from configuration `c`, or `None`.
+-- The refusal for the first demand that the table misses from configuration `c`, or `None` if it misses none.
 abbrev pub demand_refusal_in : Parts → ℕ → Option Shown
 demand_refusal_in spec c = first_below (demand_refusal_at spec c) (length spec.demands)
 
--- The refusal for demand `k` and configuration `c`, or `None`, from a list of the first environments found for the
--- demands.
+-- The refusal for demand `k` and configuration `c`, given the list `found`, which has for each demand the first
+-- environment in which it is missed from `c`. `None` if demand `k` is not missed or the list has no entry `k`.
 abbrev pub miss_shown : List (Option Env) → ℕ → ℕ → Option Shown
 miss_shown found c k =
     option_and_then (λ (least : Option Env). option_map (λ (v : Env). shown_in 13 c v (other.Demand k)) least) (slice_get found k)
 
--- A13: the refusal for the first configuration from which the table misses a demand, or `None`.
+-- A13: the refusal for the first configuration from which the table misses a demand, or `None` if it misses none.
 abbrev pub demand_refusal : Parts → Option Shown
 demand_refusal spec = first_below (demand_refusal_in spec) (length spec.confs)

@@ -70,35 +70,40 @@ abbrev pub is_overloaded : Parts → ConfId → ℕ → Bool
 is_overloaded spec c p = nat_lt (capacity_of spec p) (load_below spec c p (length spec.apps))
 
 -- The refusal for the first application that is on in configuration `c` while an application that it needs is off, or
--- `None`.
+-- `None` if there is no such application.
 abbrev pub need_refusal_in : Parts → ℕ → Option Shown
 need_refusal_in spec c = first_below (λ a. shown_if (lacks_need spec (conf_id c) a) (shown_at 1 c (other.App (app_id a)))) (length spec.apps)
 
 -- A1: the refusal for the first configuration in which an application is on while an application that it needs is
--- off, or `None`.
+-- off, or `None` if there is no such configuration.
 abbrev pub need_refusal : Parts → Option Shown
 need_refusal spec = first_below (need_refusal_in spec) (length spec.confs)
 
--- A2: the refusal if too many environments are in scope, or `None`.
+-- A2: the refusal if too many environments are in scope, or `None` if there are not too many.
 abbrev pub state_refusal : Parts → Option Shown
 state_refusal spec = shown_if (has_too_many_states spec) (shown_nowhere 2 (other.Count (states spec)))
 
--- The refusal if a configuration is the same as an earlier one, or `None`.
+-- The refusal for configuration `c` with the first earlier configuration that is the same, or `None` if there is no
+-- such configuration.
 abbrev pub twin_refusal_of : Parts → ℕ → Option Shown
 twin_refusal_of spec c = first_below (λ d. shown_if (is_same spec (conf_id c) (conf_id d)) (shown_at 3 c (other.Conf (conf_id d)))) c
 
--- The refusal if a configuration is empty or the same as an earlier one, or `None`.
+-- The refusal for configuration `c` if it has no application on or is the same as an earlier one, or `None` if
+-- neither is the case.
 abbrev pub shape_refusal_of : Parts → ℕ → Option Shown
 shape_refusal_of spec c = if is_empty spec (conf_id c) then Some (shown_at 3 c other.Nothing) else twin_refusal_of spec c
 
--- A3: the refusal of the first configuration that is empty or the same as an earlier one, or `None`.
+-- A3: the refusal for the first configuration that has no application on or is the same as an earlier one, or `None`
+-- if there is no such configuration.
 abbrev pub shape_refusal : Parts → Option Shown
 shape_refusal spec = first_below (shape_refusal_of spec) (length spec.confs)
 
--- The refusal for the first processor that a configuration overloads, or `None`.
+-- The refusal for the first processor that configuration `c` loads beyond its capacity, or `None` if there is no such
+-- processor.
 abbrev pub load_refusal_in : Parts → ℕ → Option Shown
 load_refusal_in spec c = first_below (λ p. shown_if (is_overloaded spec (conf_id c) p) (shown_at 4 c (other.Proc (proc_id p)))) (length spec.procs)
 
--- A4: the refusal for the first configuration that overloads a processor, or `None`.
+-- A4: the refusal for the first configuration that loads a processor beyond its capacity, or `None` if there is no
+-- such configuration.
 abbrev pub load_refusal : Parts → Option Shown
 load_refusal spec = first_below (load_refusal_in spec) (length spec.confs)

@@ -29,15 +29,16 @@ holds_during spec inv status mode = holds_range inv.least inv.greatest (during (
 abbrev pub holds_off : Invariant → Bool
 holds_off inv = holds_range inv.least inv.greatest (pos 0, pos 0)
 
--- Whether an invariant's interval contains the values that are seen while the source is left: in the source's mode, as
--- the application initialises, runs and halts.
+-- Whether an invariant's interval contains the values that are seen while a configuration is left, given the
+-- application's place there: those in the place's mode as the application initialises, runs and halts, or zero if the
+-- application is off.
 abbrev pub holds_leaving : Parts → Invariant → Option Place → Bool
 holds_leaving spec inv None = holds_off inv
 holds_leaving spec inv (Some place) =
     holds_during spec inv 4 place.mode.0 && holds_during spec inv 1 place.mode.0 && holds_during spec inv 2 place.mode.0
 
 -- Whether an invariant's interval contains the values that are seen while a target is reached and left again for
--- another.
+-- another, given the application's place there, or zero if the application is off.
 abbrev pub holds_reaching : Parts → Invariant → Option Place → Bool
 holds_reaching spec inv None = holds_off inv
 holds_reaching spec inv (Some place) = holds_during spec inv 3 place.mode.0 && holds_leaving spec inv (Some place)
@@ -59,15 +60,16 @@ holds_from spec inv i = holds_leaving spec inv (place_of spec i inv.app.0) && ho
 abbrev pub breaks_from : Parts → Invariant → ConfId → Bool
 breaks_from spec inv i = has_source inv.from i && not (holds_from spec inv i)
 
--- The refusal of invariant `k` for the first configuration from which it can break, or `None`.
+-- The refusal of invariant `k` for the first configuration that may be left with the invariant broken, or `None` if
+-- there is no such configuration. The invariant is `inv`.
 abbrev pub invariant_refusal_of : Parts → ℕ → Invariant → Option Shown
 invariant_refusal_of spec k inv = first_below (λ i. shown_if (breaks_from spec inv (conf_id i)) (shown_at 11 i (other.Item k))) (length spec.confs)
 
--- The refusal of the invariant of this index, or `None` if it cannot break or if there is no such invariant.
+-- The refusal of invariant `k`, or `None` if it cannot be broken or there is no invariant `k`.
 abbrev pub invariant_refusal_at : Parts → ℕ → Option Shown
 invariant_refusal_at spec k = option_map_or (invariant_refusal_of spec k) (slice_get spec.invariants k) None
 
--- A11: the refusal of the first invariant that can break, or `None`.
+-- A11: the refusal of the first invariant that can be broken, or `None` if none can.
 abbrev pub invariant_refusal : Parts → Option Shown
 invariant_refusal spec = first_below (invariant_refusal_at spec) (length spec.invariants)
 
@@ -81,15 +83,14 @@ holds_entering spec pre (Some place) = holds_range pre.least pre.greatest (after
 abbrev pub breaks_entering : Parts → Precondition → Bool
 breaks_entering spec pre = not (holds_entering spec pre (place_of spec pre.conf pre.app.0))
 
--- The refusal of precondition `k` if it may be broken, or `None`.
+-- The refusal of precondition `k` if it may be broken, or `None` if it may not. The precondition is `pre`.
 abbrev pub precondition_refusal_of : Parts → ℕ → Precondition → Option Shown
 precondition_refusal_of spec k pre = shown_if (breaks_entering spec pre) (shown_at 12 pre.conf.0 (other.Item k))
 
--- The refusal of the precondition of this index, or `None` if it cannot be broken or if there is no such
--- precondition.
+-- The refusal of precondition `k`, or `None` if it cannot be broken or there is no precondition `k`.
 abbrev pub precondition_refusal_at : Parts → ℕ → Option Shown
 precondition_refusal_at spec k = option_map_or (precondition_refusal_of spec k) (slice_get spec.preconditions k) None
 
--- A12: the refusal of the first precondition that may be broken, or `None`.
+-- A12: the refusal of the first precondition that may be broken, or `None` if none may.
 abbrev pub precondition_refusal : Parts → Option Shown
 precondition_refusal spec = first_below (precondition_refusal_at spec) (length spec.preconditions)

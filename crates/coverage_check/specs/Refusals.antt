@@ -1,4 +1,4 @@
--- The refusals of missions.
+-- The refusal of a script for a mission.
 use Rattle.std.specs.Prelude.{◌≡◌, Some}
 use Rattle.scram_types.specs.Specification.{Parts}
 use Rattle.scram_types.specs.Scripts.{ScriptParts}

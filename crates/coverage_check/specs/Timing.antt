@@ -29,7 +29,8 @@ is_target spec i j = any_below (is_chosen_in spec i j) (environments spec)
 abbrev pub targets : Parts → ConfId → ℕ
 targets spec i = bits_below (is_target spec i) (length spec.confs)
 
--- The maximum number of changes after the first that a reconfiguration may see.
+-- The maximum number of changes of the environment, after the first one, that a reconfiguration may see, given the
+-- policy and the number of changes that the failure assumption allows.
 abbrev pub further : Policy → ℕ → ℕ
 further policy.Retarget changes = changes
 further policy.Settle changes = suc changes
@@ -70,13 +71,15 @@ asked_bounds spec i = bits_below (is_bound_asked spec i) (length spec.confs)
 abbrev pub lacks_bound : Parts → ConfId → ℕ → Bool
 lacks_bound spec i j = is_bound_asked spec i j && not (is_bounded spec i (conf_id j))
 
--- The refusal for the first target of configuration `i` without a sufficient bound, or `None`.
+-- The refusal for the first configuration to which a bound from configuration `i` is required but missing or too
+-- small, or `None` if there is no such configuration.
 abbrev pub bound_refusal_of : Parts → ℕ → Option Shown
 bound_refusal_of spec i =
     first_below (λ j. shown_if (lacks_bound spec (conf_id i) j) (shown_at 9 i (other.Least (conf_id j) (least spec (conf_id i) (conf_id j)))))
     (length spec.confs)
 
--- A9: the refusal for the first configuration from which a required bound is missing or too small, or `None`.
+-- A9: the refusal for the first configuration from which a required bound is missing or too small, or `None` if there
+-- is no such configuration.
 abbrev pub bound_refusal : Parts → Option Shown
 bound_refusal spec = first_below (bound_refusal_of spec) (length spec.confs)
 
@@ -89,6 +92,6 @@ greatest_bound (bound ∷ bounds) = max bound.frames (greatest_bound bounds)
 abbrev pub has_short_window : Parts → Bool
 has_short_window spec = nat_lt spec.window (greatest_bound spec.bounds + 1)
 
--- A10: the refusal if the window is not longer than the greatest bound, or `None`.
+-- A10: the refusal if the window is not longer than the greatest bound, or `None` if it is longer.
 abbrev pub window_refusal : Parts → Option Shown
 window_refusal spec = shown_if (has_short_window spec) (shown_nowhere 10 (other.Count (greatest_bound spec.bounds)))

@@ -91,7 +91,7 @@ fn target_shown(spec: &Spec, requirement: Requirement, c: ConfId, env: &Env) -> 
     }
 }
 
-// Returns the refusal if the table leaves the start configuration at once (A8), or `None`.
+// Returns the refusal if the table leaves the start configuration at once (A8), or `None` if it stays in it.
 pub(crate) fn refuse_start(spec: &Spec) -> Option<Shown>
     ensures { result ≡ start_refusal spec.now }
 {

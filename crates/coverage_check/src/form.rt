@@ -13,7 +13,8 @@ use choice_table::states;
 use scram_types::limits::MAX_ENVIRONMENTS;
 use scram_types::{AppId, ConfId, Mode, ModeSpec, Place, ProcId, Spec};
 
-// Returns the refusal of the first application that is on while an application that it needs is off (A1), or `None`.
+// Returns the refusal for the first configuration in which an application is on while an application that it needs is
+// off (A1), or `None` if there is no such configuration.
 pub(crate) fn refuse_need(spec: &Spec) -> Option<Shown>
     ensures { result ≡ need_refusal spec.now }
 {
@@ -58,7 +59,8 @@ fn has_off(spec: &Spec, c: ConfId, needs: &[AppId]) -> bool
     needs.iter().any(|needed| !spec.is_on(c, *needed))
 }
 
-/// Returns the refusal if more environments are in scope than acceptance searches, with their number (A2), or `None`.
+/// Returns the refusal if more environments are in scope than acceptance searches (A2), with the number of
+/// environments in scope, or `None` if there are not too many.
 pub fn refuse_states(spec: &Spec) -> Option<Shown>
     ensures { result ≡ state_refusal spec.now }
 {
@@ -70,7 +72,8 @@ pub fn refuse_states(spec: &Spec) -> Option<Shown>
     }
 }
 
-// Returns the refusal of the first configuration that has no application on or equals an earlier one (A3), or `None`.
+// Returns the refusal for the first configuration that has no application on or equals an earlier one (A3), or `None`
+// if there is no such configuration.
 pub(crate) fn refuse_shape(spec: &Spec) -> Option<Shown>
     ensures { result ≡ shape_refusal spec.now }
 {
@@ -138,7 +141,8 @@ fn is_same_place(one: Option<Place>, other: Option<Place>) -> bool
     }
 }
 
-// Returns the refusal of the first configuration that loads a processor beyond its capacity (A4), or `None`.
+// Returns the refusal for the first configuration that loads a processor beyond its capacity (A4), or `None` if there
+// is no such configuration.
 pub(crate) fn refuse_load(spec: &Spec) -> Option<Shown>
     ensures { result ≡ load_refusal spec.now }
 {
@@ -162,7 +166,7 @@ fn refuse_load_in(spec: &Spec, c: u8) -> Option<Shown>
     None
 }
 
-/// Returns whether a configuration loads a processor beyond its capacity.
+/// Returns whether configuration `c` loads processor `p` beyond its capacity.
 pub fn is_overloaded(spec: &Spec, c: ConfId, p: u8) -> bool
     ensures { result ≡ is_overloaded spec.now c p }
 {
@@ -179,7 +183,7 @@ pub fn capacity_of(spec: &Spec, p: u8) -> u32
     }
 }
 
-/// Returns the load that a configuration puts on a processor, in load units.
+/// Returns the load that configuration `c` puts on processor `p`, in load units.
 pub fn load_on(spec: &Spec, c: ConfId, p: u8) -> u64
     ensures { result ≡ load_below spec.now c p (length spec.now.apps) }
 {

@@ -15,8 +15,8 @@ use app_model::{after_init, during};
 use cube_cover::Cover;
 use scram_types::{AppId, ConfId, Invariant, KindId, Mode, Place, Precondition, Spec};
 
-// Returns the refusal of the first invariant that may be broken during a reconfiguration, with the first configuration
-// that the reconfiguration may leave (A11), or `None`.
+// Returns the refusal for the first invariant that may be broken during a reconfiguration (A11), with the first
+// configuration that such a reconfiguration may leave, or `None` if no invariant may be broken.
 pub(crate) fn refuse_invariant(spec: &Spec, covers: &[Cover; 12]) -> Option<Shown>
     requires { HasCovers spec.now covers.now }
     ensures { result ≡ invariant_refusal spec.now }
@@ -114,8 +114,8 @@ fn holds_leaving(spec: &Spec, inv: &Invariant, place: Option<Place>) -> bool
     }
 }
 
-// Returns whether the invariant's interval contains the values that are seen while the application reaches its mode and
-// leaves it again.
+// Returns whether the invariant's interval contains the values that are seen while the application reaches its mode
+// and leaves it again, or zero if the application is off.
 fn holds_reaching(spec: &Spec, inv: &Invariant, place: Option<Place>) -> bool
     ensures { result ≡ holds_reaching spec.now inv.now place }
 {
@@ -150,7 +150,8 @@ fn holds_range(low: i64, high: i64, range: (i64, i64)) -> bool
     low <= range.0 && range.1 <= high
 }
 
-// Returns the refusal of the first precondition that may be broken as its configuration begins to run (A12), or `None`.
+// Returns the refusal for the first precondition that may be broken as its configuration begins to run (A12), or
+// `None` if no precondition may be broken.
 pub(crate) fn refuse_precondition(spec: &Spec) -> Option<Shown>
     ensures { result ≡ precondition_refusal spec.now }
 {

@@ -60,7 +60,7 @@ fn find_asked(spec: &Spec, cover: &Cover, i: u8, count: u8) -> u16
     bits
 }
 
-// Returns the maximum number of changes after the first that a reconfiguration may see.
+// Returns the maximum number of changes of the environment, after the first one, that a reconfiguration may see.
 fn further(spec: &Spec) -> u32
     ensures value { result ≡ further spec.now.policy spec.now.changes }
     ensures most { result ≤ 256 }
@@ -91,7 +91,8 @@ fn way(spec: &Spec, k: ConfId) -> u32
     u32::from(times.p) + u32::from(times.i) + 1 + u32::from(times.h)
 }
 
-// Returns the refusal for the first pair of configurations whose bound is too small or missing (A9), or `None`.
+// Returns the refusal for the first pair of configurations whose bound is required but too small or missing (A9), or
+// `None` if each required bound is given and suffices.
 pub(crate) fn refuse_bound(spec: &Spec, covers: &[Cover; 12]) -> Option<Shown>
     requires { HasCovers spec.now covers.now }
     ensures { result ≡ bound_refusal spec.now }
@@ -151,8 +152,7 @@ pub fn is_bounded(spec: &Spec, i: ConfId, j: ConfId) -> bool
     }
 }
 
-// Returns the refusal if the window is shorter than the longest reconfiguration and the frame after it (A10), or
-// `None`.
+// Returns the refusal if the window is not longer than the greatest bound (A10), or `None` if it is longer.
 pub(crate) fn refuse_window(spec: &Spec) -> Option<Shown>
     ensures { result ≡ window_refusal spec.now }
 {

@@ -60,7 +60,8 @@ cut_more n true true t = omega arith
 cut_more n true false t = omega arith
 cut_more n false s t = omega arith
 
--- If a part has the holders of a list, the part with the next cube has the holders of the longer list.
+-- If an environment is in a part, the number of the part's cubes that hold it grows with the next cube as the number
+-- of all cubes that hold it does. Otherwise the number stays 0.
 pub part_more : (n : ℕ) (h p : Bool) → (if p then n else 0) + once (h && p) ≡ (if p then n + once h else 0)
 part_more n true true = refl
 part_more n true false = refl

@@ -1,4 +1,4 @@
--- Demands that the table misses, region by region and demand by demand.
+-- Lemmas on the first environments in which the table misses demands, found region by region and demand by demand.
 use Rattle.std.proofs.Common.{◌≡◌, ◌∙◌, ℕ, zero, suc, ◌+◌, ◌<◌, ◌≤◌, refl, ap, sym, subst, arith, Bool, true, false, not, ◌&&◌, ◌||◌, ◌⊎◌, List, [], ◌∷◌, ◌++◌, length, take, get_or}
 use mathlib.Core.Logic.{inl, inr}
 use Rattle.std.specs.Prelude.{Option, Some, None, slice_get}
@@ -44,8 +44,8 @@ either_part true true false = refl
 either_part true false false = refl
 either_part false c h = refl
 
--- An environment is marked by the first `k + 1` regions if and only if it is marked by the first `k` regions or held
--- by the next one.
+-- Within the cube `by`, an environment is marked by the first `k + 1` regions if and only if it is marked by the
+-- first `k` regions or held by the next one, whose target passes the test.
 pub marked_more : (regions : List Region) (by : Cube) (passes : ℕ → Bool) (k : ℕ) (d : Region) (v : Env) → k < length regions
     → ((is_marked (take k regions) passes v && holds by v) || (is_held passes v (get_or regions k d) && holds by v)) ≡ (is_marked (take (k + 1) regions) passes v && holds by v)
 marked_more regions by passes k d v low =
@@ -80,7 +80,8 @@ in_pushed {A} [] x (suc k) y h = let past = slice_get_within {A = A} [] k y h in
 in_pushed (z ∷ xs) x zero y h = inl h
 in_pushed (z ∷ xs) x (suc k) y h = elim (in_pushed xs x k y h) [ inl before ↦ inl before | inr last ↦ inr (ap suc last.0, last.1) ]
 
--- The environments found for the first demands are the first ones in which the table misses them.
+-- For each demand that has an entry in `found`, the entry is the first environment in which the table misses the
+-- demand, or `None` if there is no such environment.
 abbrev pub AreFound : Parts → ConfId → List (Option Env) → Type 0
 AreFound spec i found = (k : ℕ) (demand : Demand) (env : Option Env) → slice_get spec.demands k ≡ Some demand → slice_get found k ≡ Some env → IsLeastEnv spec (misses spec demand i) env
 

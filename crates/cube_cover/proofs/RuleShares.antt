@@ -1,4 +1,4 @@
--- The first rule that fits, and the parts of the scope.
+-- Lemmas on the first rule that fits, and on the shares into which the rules divide the environments in scope.
 use Rattle.std.proofs.Common.{◌≡◌, ◌∙◌, ℕ, zero, suc, ◌+◌, ◌<◌, ◌≤◌, refl, ap, sym, arith, Bool, true, false, ◌&&◌, List, [], ◌∷◌, length, get_or}
 use Rattle.std.specs.Prelude.{◌==◌, nat_le, nat_lt, Option, Some, None, if◌then◌else◌}
 use Rattle.scram_types.specs.Searches.{first_below}

@@ -1,4 +1,4 @@
--- Splitting cubes, place by place and cube by cube.
+-- Lemmas on the splitting of a cube, place by place, and of a list of cubes, cube by cube.
 use Rattle.std.proofs.Common.{◌≡◌, ◌∙◌, ℕ, ◌+◌, ◌<◌, refl, ap, sym, Bool, true, false, not, ◌&&◌, List, [], length, take, get_or}
 use Rattle.std.specs.Prelude.{if◌then◌else◌}
 use Rattle.scram_types.specs.declared.rows.Env.{Env}

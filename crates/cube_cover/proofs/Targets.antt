@@ -1,4 +1,4 @@
--- Targets of regions, one after another.
+-- Lemmas on the targets that are chosen in the regions, and on the cover that is made target by target.
 use Rattle.std.proofs.Common.{◌≡◌, ◌∙◌, ℕ, zero, suc, ◌+◌, ◌*◌, ◌-◌, ◌^◌, ◌<◌, ◌≤◌, refl, ap, sym, subst, arith, Bool, true, false, not, ◌&&◌, ◌||◌, ◌⊎◌, List, [], ◌∷◌, length}
 use mathlib.Core.Logic.{inl, inr}
 use Rattle.std.specs.Prelude.{◌==◌, slice_get, Option, Some, None, is_some, if◌then◌else◌}

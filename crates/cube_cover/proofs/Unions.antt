@@ -1,4 +1,4 @@
--- Lists of cubes, environment by environment.
+-- Lemmas on the environments in a list of cubes, and on the first environment that passes a test.
 use Rattle.std.proofs.Common.{◌≡◌, ◌∙◌, ℕ, ◌+◌, ◌<◌, ◌≤◌, refl, ap, sym, arith, Bool, true, false, ◌||◌, List, [], ◌∷◌, ◌++◌, length, take, get_or}
 use Rattle.std.specs.Prelude.{Option, Some, None, nat_le}
 use Rattle.std.specs.List.{list_any}

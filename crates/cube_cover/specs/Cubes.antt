@@ -14,8 +14,8 @@ use Rattle.cube_cover.specs.declared.cubes.Cube.{Cube}
 unfoldable pub digit_in : Env → ℕ → ℕ
 digit_in v x = if nat_lt x 6 then factor_in v x else (if is_up_in v (x - 6) then 0 else 1)
 
--- The digits of an environment are those of some specification with at most six factors of at most four values, and at
--- most eight processors.
+-- Each digit of an environment is below 4, each factor from number 6 on has value 0, and only processors below 8 are
+-- up. Each environment of a specification is like this.
 pub record HasDigits (v : Env) : Type 0 where
   pub small : (x : ℕ) → digit_in v x < 4
   pub past : (x : ℕ) → 6 ≤ x → factor_in v x ≡ 0

@@ -21,7 +21,8 @@ abbrev pub is_left_at : Parts → ConfId → ℕ → Env → Bool
 is_left_at spec i t v = is_chosen_at spec i t v && not ((choose spec (conf_id t) v).0 == t)
 
 -- `finding` is the finding on target `t` of configuration `i`. It contains whether `t` is chosen, and the first
--- environments, by number, in which `t` cannot run or another target is chosen from `t`.
+-- environments, by number, in which `t` cannot run or another target is chosen from `t`, each `None` if there is no
+-- such environment.
 pub record IsFinding (spec : Parts) (i : ConfId) (t : ℕ) (finding : Finding) : Type 0 where
   pub only : finding.is_chosen ≡ true → IsTarget spec i (conf_id t)
   pub all : IsTarget spec i (conf_id t) → finding.is_chosen ≡ true

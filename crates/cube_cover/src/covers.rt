@@ -71,7 +71,7 @@ pub(crate) fn all_cubes(alloc: Global, spec: &Spec) -> Result<Vec<Cube>, NoMemor
     Ok(cubes)
 }
 
-// Returns the regions, followed by the cubes that no rule fits as regions with target `i`.
+// Returns the regions that some rule fits, followed by a region with target `i` for each cube that no rule fits.
 pub(crate) fn all_regions(found: Regions, i: ConfId) -> Result<Vec<Region>, NoMemory>
     ensures { IfOk result (λ regions. MarksMore found.ruled.items regions.items found.unruled.items i) }
 {

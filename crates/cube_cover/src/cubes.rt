@@ -22,7 +22,7 @@ pub(crate) struct Cube {
     pub(crate) bits: u64,
 }
 
-// Digit 0 of each place, as bits.
+// A mask with the bit of digit 0 of each place.
 const FIRST_DIGITS: u64 = 0x11_1111_1111_1111;
 
 // Returns the cube that holds all environments of a specification.

@@ -33,7 +33,8 @@ struct Source<'a> {
     c: ConfId,
 }
 
-// Splits cubes by the rules of configuration `c`, rule by rule.
+// Divides cubes by the rules of configuration `c`. Returns the regions that some rule fits, each with the target of
+// the first such rule, and the cubes that no rule fits.
 pub(crate) fn regions_of(
     alloc: Global,
     spec: &Spec,

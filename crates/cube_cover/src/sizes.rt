@@ -59,7 +59,8 @@ fn count_factors(spec: &Spec) -> u8
     spec.factors.items().len() as u8
 }
 
-// Returns the number of sets of processors that may be down, in scope and in the cube.
+// Returns the number of sets of processors such that the scope and the cube allow exactly these processors to be
+// down.
 fn count_sets_held(spec: &Spec, cube: Cube) -> u32
     requires { IsSpec spec.now }
     ensures value { result ≡ count_below (is_down_held spec.now cube) (2 ^ length spec.now.procs) }
@@ -91,7 +92,7 @@ fn count_processors(spec: &Spec) -> u8
     spec.procs.items().len() as u8
 }
 
-// Returns whether exactly the processors of the set `down` may be down, in scope and in the cube.
+// Returns whether the scope and the cube allow exactly the processors of the set `down` to be down.
 fn is_down_held(spec: &Spec, cube: Cube, down: u32) -> bool
     requires known { IsSpec spec.now }
     requires set { down < 2 ^ length spec.now.procs }

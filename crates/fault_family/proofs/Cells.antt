@@ -1,10 +1,11 @@
--- The faults of several frames, one frame after another.
+-- Lemmas on a list that is made of the pairs of elements of two lists, row by row: its length, and the element in a
+-- given row and column.
 use Rattle.std.proofs.Common.{◌≡◌, ◌∙◌, ℕ, zero, suc, ◌+◌, ◌*◌, List, [], ◌∷◌, ◌++◌, length, map, length-append, arith, ap, refl}
 use Rattle.std.specs.Prelude.{Some, flat_map, slice_get, option_map}
 use Rattle.std.proofs.lemmas.Option.{same_Some, slice_get-map}
 use Rattle.scram_types.proofs.Items.{first_part}
 
--- Element `k` of the second of two joined lists comes after all elements of the first.
+-- Element `k` of the second of two lists is element `length xs + k` of the joined list.
 pub second_part : {A : Type 0} (xs ys : List A) (k : ℕ) → slice_get (xs ++ ys) (length xs + k) ≡ slice_get ys k
 second_part [] ys k = let none : 0 + k ≡ k = omega arith in ap (slice_get ys) none
 second_part (x ∷ xs) ys k = let next : suc (length xs) + k ≡ suc (length xs + k) = omega arith in rw next (second_part xs ys k)
@@ -14,7 +15,8 @@ length_mapped f [] = refl
 length_mapped f (x ∷ xs) = ap suc (length_mapped f xs)
 
 module _ {A B C : Type 0} (made : A → B → C) (bs : List B) where
-  -- Each element of a row is made from an element of the first list and an element of the second.
+  -- The rows of the elements of a list, joined. The row of an element `x` has the value of `made x` for each element
+  -- of `bs`.
   pub rows : List A → List C
   rows [] = []
   rows (x ∷ xs) = map (made x) bs ++ rows xs

@@ -1,4 +1,5 @@
--- Counts of the frames that change the environment, and bounds of scripts.
+-- Lemmas on the number of frames that change the environment, and on the test of each frame for the failure
+-- assumption.
 use Rattle.std.proofs.Common.{◌≡◌, ◌≢◌, ℕ, zero, suc, ◌+◌, ◌-◌, ◌≤◌, Bool, true, false, not, List, [], ◌∷◌, arith, refl, ap, sym, ◌∙◌}
 use Rattle.std.specs.Prelude.{Option, Some, None, is_some, ◌||◌, if◌then◌else◌}
 use mathlib.Core.Logic.{inl, inr}
@@ -38,7 +39,7 @@ pub uncounted : (spec : Parts) (script : ScriptParts) (f : ℕ) → is_change_fr
 uncounted spec script zero is = refl
 uncounted spec script (suc f) is = let none : changes_upto spec script f + 0 ≡ changes_upto spec script f = omega arith in let back : suc f - 1 ≡ f = omega arith in rw (back, is) (sym none)
 
--- A violation is shown if and only if one of two tests holds.
+-- A frame has a violation to show if and only if one of the two tests holds.
 pub shown_by : (a b : Bool) (x y : Outside) → (a || b) ≡ is_some (if a then Some x else (if b then Some y else None))
 shown_by true b x y = refl
 shown_by false true x y = refl

@@ -1,4 +1,4 @@
--- The elements of joined lists.
+-- Lemmas on the elements that joined and mapped lists contain.
 use Rattle.std.proofs.Common.{◌≡◌, ◌∙◌, ℕ, zero, suc, ◌+◌, ◌<◌, Bool, true, false, List, [], ◌∷◌, ◌++◌, length, map, arith, ap, refl, sym, subst}
 use mathlib.Core.Logic.{inl, inr}
 use Rattle.std.specs.Prelude.{◌⊎◌, Some, flat_map, option_map, slice_get, if◌then◌else◌}

@@ -95,7 +95,7 @@ module _ (spec : Parts) (d : ℕ) (script : ScriptParts) (accepts : Accepts spec
 
   -- Lemmas on the frames up to frame `d`.
 
-  -- The start configuration is stable, and nothing has been left.
+  -- The state is stable in the start configuration, and no target has come to run.
   record IsQuiet (state : State) : Type 0 where
     mode : state.mode ≡ Stable spec.start
     arrived : state.arrived ≡ false

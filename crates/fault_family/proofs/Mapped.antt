@@ -1,4 +1,4 @@
--- Tests of the elements of a mapped list.
+-- Lemmas on tests of some or of all elements of a mapped list.
 use Rattle.std.proofs.Common.{◌≡◌, Bool, List, [], ◌∷◌, map, refl}
 use Rattle.std.specs.List.{list_all, list_any}
 

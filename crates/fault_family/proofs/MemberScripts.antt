@@ -81,7 +81,9 @@ next_later R xs each i x y p q = each i (i + 1) x y (omega arith) p q
 abbrev Later : Fault → Fault → Type 0
 Later fault next = may_come_after next fault ≡ true
 
--- The facts about the faults of a script, proved fault by fault.
+-- Facts about the faults of a script. Each kind is one of the specification, and each fault may come after the
+-- earlier ones. No fault comes before frame 1 or after the frame of the last fault. That frame is at most 1001 times
+-- the number of faults. Each restart comes well after a halt of its processor.
 record Keeps (spec : Parts) (faults : List Fault) : Type 0 where
   kinds : Each (λ (fault : Fault). IsKind spec fault.kind) faults
   later : EachLater Later faults

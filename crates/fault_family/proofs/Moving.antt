@@ -157,7 +157,7 @@ module _ (spec : Parts) (b d : ℕ) (script : ScriptParts) where
       by_side true is = grind (arith, nat_tests, is, after, some, other)
       by_side false is = grind (arith, nat_tests, is, before, after, some)
 
-  -- Frame `g` of the later script shows the same as frame `f` of the script.
+  -- Frame `g` of the later script has the environment and the commits of frame `f` of the script.
   pub record Shows (f g : ℕ) : Type 0 where
     pub env : env_at spec (later_from b d script) g ≡ env_at spec script f
     pub committing : (p : ℕ) → commits spec (later_from b d script) p g ≡ commits spec script p f

@@ -1,4 +1,4 @@
--- The candidates of a script, by their number.
+-- Lemmas on the number of the candidates after a list of faults, and on the candidate with a given number.
 use Rattle.std.proofs.Common.{◌≡◌, ◌∙◌, ℕ, zero, suc, ◌+◌, ◌*◌, ◌/◌, ◌%◌, ◌<◌, List, [], ◌∷◌, length, length-append, arith, ap, refl}
 use Rattle.std.specs.Prelude.{Option, Some, slice_get}
 use Rattle.std.proofs.lemmas.Nat.{div-add-mod', div_below}

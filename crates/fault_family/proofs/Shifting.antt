@@ -1,4 +1,4 @@
--- A script in which everything comes later shows the same, later by that number of frames.
+-- A script in which everything comes later has the same environments and commits, later by that number of frames.
 use Rattle.std.proofs.Common.{◌≡◌, ◌∙◌, ℕ, zero, suc, ◌+◌, ◌-◌, ◌<◌, ◌≤◌, Bool, true, false, List, [], ◌∷◌, length, map, arith, ap, refl, sym, nat_lt}
 use mathlib.Core.Logic.{inl, inr}
 use Rattle.std.specs.Prelude.{◌&&◌, ◌==◌, not, nat_le, if◌then◌else◌}

@@ -18,7 +18,7 @@ use Rattle.frame_model.specs.Readings.{reading_of}
 use Rattle.frame_model.specs.Runs.{runs}
 use Rattle.fault_family.specs.Shifts.{mode_later, report_later}
 
--- A frame as moved by a longer rest: unchanged before frame `b`, and `d` frames later from frame `b` on.
+-- The frame `frame` itself if it is before frame `b`, or else the frame `d` frames later.
 abbrev pub later_frame : ℕ → ℕ → ℕ → ℕ
 later_frame b d frame = if nat_lt frame b then frame else d + frame
 
@@ -43,8 +43,8 @@ pub record IsAtRest (spec : Parts) (script : ScriptParts) (b : ℕ) (c : ConfId)
   pub chosen : choose spec c (env_at spec script (b - 1)) ≡ c
   pub quiet : Each (λ (halt : HaltAt). halt.frame ≢ b - 1) script.halts
 
--- The second flight has the reconfigurations of the first flight: some are unchanged, and all later ones come `d`
--- frames later.
+-- The second flight has the reconfigurations of the first flight. A first part of the reports is the same in both
+-- flights, and the remaining ones come `d` frames later in the second flight.
 pub record GoOnLater (d : ℕ) (one other : List Report) : Type 0 where
   pub before : List Report
   pub after : List Report

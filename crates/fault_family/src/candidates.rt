@@ -18,7 +18,7 @@ use scram_types::{FactorId, ProcId, Spec};
 /// The maximum number of kinds of fault of a specification.
 pub const MAX_KINDS: usize = 48;
 
-/// The kinds of fault of a specification, in order.
+/// The kinds of fault of a specification, in order: the changes, the halts, and the restarts.
 #[derive(Drop)]
 pub struct Kinds {
     kinds: ArrayVec<FaultKind, MAX_KINDS>,
@@ -128,7 +128,8 @@ fn words(spec: &Spec) -> u8
     8 * spec.apps.items().len() as u8
 }
 
-/// Returns the number of faults in all frames in which a fault may come after the faults `before`.
+/// Returns the number of candidates: the faults of each kind in each frame in which a fault may come after the faults
+/// `before`.
 pub fn candidate_count(spec: &Spec, kinds: &[FaultKind], before: &[Fault]) -> u32
     requires kinds { kinds.now ≡ kinds_of spec.now }
     requires few { length kinds.now ≤ 48 }
@@ -137,7 +138,8 @@ pub fn candidate_count(spec: &Spec, kinds: &[FaultKind], before: &[Fault]) -> u3
     frame_count(spec, before) * kinds.len() as u32
 }
 
-/// Returns fault `k` of the faults in all frames in which a fault may come after the faults `before`.
+/// Returns candidate `k`, counted from 0. The candidates are the faults of each kind in each frame in which a fault
+/// may come after the faults `before`, frame by frame, and in each frame in the order of the kinds.
 pub fn candidate(spec: &Spec, kinds: &[FaultKind], before: &[Fault], k: u32) -> Fault
     requires kinds { kinds.now ≡ kinds_of spec.now }
     requires few { length kinds.now ≤ 48 }
@@ -164,7 +166,7 @@ fn frame_count(spec: &Spec, before: &[Fault]) -> u32
     }
 }
 
-// Returns frame `i` of the frames in which a fault may come after the faults `before`.
+// Returns entry `i` of the list of the frames in which a fault may come after the faults `before`.
 fn frame_after(spec: &Spec, before: &[Fault], i: u32) -> u32
     requires i { i < length (frames_after spec.now before.now) }
     requires before { last_fault_frame before.now ≤ 4000 }
@@ -177,7 +179,7 @@ fn frame_after(spec: &Spec, before: &[Fault], i: u32) -> u32
     }
 }
 
-// Returns entry `i` of the gaps by which a fault may come after the previous one, in frames.
+// Returns entry `i` of the list of the numbers of frames by which a fault may come after the previous one.
 fn gap(spec: &Spec, i: u32) -> u32
     requires { i < greatest_bound spec.now.bounds + 3 }
     ensures value { slice_get (gaps spec.now) i ≡ Some result }

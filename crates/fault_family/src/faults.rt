@@ -15,7 +15,8 @@ pub const MAX_FAULTS: usize = 3;
 pub enum FaultKind {
     /// A change of a factor to a value, which is given by its index among the factor's values.
     Change { factor: FactorId, value: u8 },
-    /// A halt of a processor after `step` stores, or after its mark.
+    /// A halt of a processor after `step` stores, or after its mark if `step` is greater than the number of words of
+    /// an image.
     Halt { proc: ProcId, step: u8 },
     /// A restart of a processor.
     Restart { proc: ProcId },
@@ -35,7 +36,7 @@ pub struct Fault {
     pub kind: FaultKind,
 }
 
-/// At most [`MAX_FAULTS`] faults, in order.
+/// A list of at most [`MAX_FAULTS`] faults, in order.
 #[derive(Drop)]
 pub struct Faults {
     faults: ArrayVec<Fault, MAX_FAULTS>,

@@ -110,7 +110,8 @@ pub fn value_at(faults: &[Fault], factor: FactorId, frame: u32) -> u8
     value
 }
 
-// Returns the value of a factor in a frame after a fault, if `value` is its value before the fault.
+// Returns the value of a factor in a frame of a script with one fault more, given its value `value` without that
+// fault.
 fn newest(fault: &Fault, factor: FactorId, frame: u32, value: u8) -> u8
     ensures { result ≡ value_after (filter_map change_of_fault (fault.now ∷ [])) factor.0 frame value }
 {

@@ -52,7 +52,7 @@ mode_of_act (act.Initialising k n proc) = 0
 mode_of_act act.Off = 0
 mode_of_act act.Lost = 0
 
--- The processor that an act names, or `None`.
+-- The processor that an act names, or `None` if it names none.
 abbrev pub proc_of_act : Act → Option ProcId
 proc_of_act (act.Ran mode proc) = Some proc
 proc_of_act (act.Halting k n proc) = Some proc

@@ -10,7 +10,7 @@ use Rattle.scram_types.specs.declared.orders.KMode.{KMode}
 use Rattle.scram_types.specs.declared.orders.KMode.TheVariants.{Stable, Moving}
 use Rattle.flight_facts.specs.Differences.{difference_text, have_changed}
 
--- Whether a reconfiguration is under way.
+-- Whether a mode of the kernel is that of a reconfiguration under way.
 abbrev pub is_under_way : KMode → Bool
 is_under_way (Stable c) = false
 is_under_way (Moving from halting to since) = true
@@ -21,13 +21,13 @@ is_under_way (Moving from halting to since) = true
 abbrev pub decided_in : List Row → ℕ → ℕ
 decided_in rows begin = if option_map_or (λ (row : Row). is_under_way row.mode) (slice_get rows begin) false then begin else begin + 1
 
--- Whether two environments are both present and differ.
+-- Whether two optional environments are both present and differ.
 abbrev pub differ : Parts → Option Env → Option Env → Bool
 differ spec None after = false
 differ spec (Some before) None = false
 differ spec (Some before) (Some after) = have_changed spec before after
 
--- The text of the difference between two optional environments, or `-` if one is missing.
+-- The text of the difference between two optional environments, or `-` if one is missing or they do not differ.
 abbrev pub difference_or_dash : Parts → Option Env → Option Env → List ℕ
 difference_or_dash spec None after = codes "-"
 difference_or_dash spec (Some before) None = codes "-"
@@ -40,9 +40,9 @@ put_off_in rows None begin = None
 put_off_in rows (Some earlier) begin =
     if is_some earlier.to && (earlier.end + 1 == begin) then Some (decided_in rows earlier.begin) else None
 
--- The cause of a reconfiguration: the change in the row in which it is decided. If nothing changed there, a change
--- may have been put off during the preceding reconfiguration `earlier`. In that case the cause is the change since
--- `earlier` was decided, or `-` if there is no such change.
+-- The text of the cause of a reconfiguration that begins in row `begin`. The cause is the change in the row in which
+-- the reconfiguration is decided. If nothing changed there and the reconfiguration `earlier` ended in the preceding
+-- row, the cause is the change since `earlier` was decided. Otherwise the text is `-`.
 abbrev pub cause_text : Parts → List Row → Option Report → ℕ → List ℕ
 cause_text spec rows earlier begin =
     if differ spec (env_before spec rows (decided_in rows begin)) (env_in rows (decided_in rows begin))

@@ -25,6 +25,6 @@ abbrev pub extremes_of : Quantity → List Row → Option Extremes
 extremes_of quantity [] = None
 extremes_of quantity (row ∷ rows) = Some (widened (quantity_of quantity row.world) (extremes_of quantity rows))
 
--- The text of the extremes: the minimum, `to` and the maximum.
+-- The text of the extremes: the minimum, the word `to` and the maximum, separated by spaces.
 abbrev pub extremes_text : Extremes → List ℕ
 extremes_text extremes = signed_decimal extremes.least ++ codes " to " ++ signed_decimal extremes.greatest

@@ -33,12 +33,13 @@ longer (Some gap) None = Some gap
 longer (Some gap) (Some later) = if nat_lt gap.frames later.frames then Some later else Some gap
 
 -- The longest gap of application `a`, or `None` if there is no gap. Of several longest gaps it is the first. `k` is
--- the number of the first row.
+-- the number of the first row of the list.
 abbrev pub longest_gap : ℕ → ℕ → List Row → Option Gap
 longest_gap a k [] = None
 longest_gap a k (row ∷ rows) = longer (gap_of k (missing_rows a (row ∷ rows))) (longest_gap a (k + 1) rows)
 
--- The text of a gap: its number of frames and its first frame, or 0 and `-` if there is no gap.
+-- The text ` gap FRAMES at ROW`, with the number of rows of a gap and the index of its first row, or ` gap 0 at -` if
+-- there is no gap.
 abbrev pub gap_text : Option Gap → List ℕ
 gap_text None = codes " gap 0 at -"
 gap_text (Some gap) = codes " gap " ++ decimal gap.frames ++ codes " at " ++ decimal gap.at

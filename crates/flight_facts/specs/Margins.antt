@@ -5,17 +5,19 @@ use Rattle.scram_types.specs.Specification.{Parts, bound_in, greatest_bound_in}
 use Rattle.scram_types.specs.declared.rows.Report.{Report}
 use Rattle.scram_types.specs.declared.ids.ConfId.{ConfId}
 
--- The bound on a reconfiguration to a target, or the greatest bound from its source if it is unfinished.
+-- The bound on a reconfiguration from a source to a target, or `None` if none is given. Without a target, the
+-- reconfiguration is unfinished, and the value is the greatest bound from the source.
 abbrev pub bound_to : Parts → ConfId → Option ConfId → Option ℕ
 bound_to spec from None = greatest_bound_in spec.bounds from.0
 bound_to spec from (Some to) = bound_in spec.bounds from.0 to.0
 
--- The bound on a reconfiguration, or the greatest bound from its source if the reconfiguration is unfinished.
+-- The bound on a reconfiguration, or `None` if none is given. An unfinished reconfiguration has the greatest bound
+-- from its source.
 abbrev pub bound_of : Parts → Report → Option ℕ
 bound_of spec report = bound_to spec report.from report.to
 
--- The text of a bound minus the number of frames taken, or `-` if there is no bound. The difference is negative if more
--- frames were taken.
+-- The text of a bound minus the number `took` of frames that a reconfiguration took, or `-` if there is no bound. The
+-- difference is negative if more frames were taken than the bound allows.
 abbrev pub margin_text : Option ℕ → ℕ → List ℕ
 margin_text None took = codes "-"
 margin_text (Some bound) took = signed_decimal (pos bound -ℤ pos took)

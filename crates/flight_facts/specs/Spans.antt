@@ -1,4 +1,5 @@
--- Lanes, in which each row of a flight is shown, and spans of consecutive rows that look alike.
+-- Lanes, each of which shows one part of every row of a flight, and spans of consecutive rows that look alike in a
+-- lane.
 use Rattle.std.specs.Prelude.{ℕ, zero, suc, ◌+◌, ◌<◌, ◌==◌, ◌&&◌, Bool, true, false, List, [], ◌∷◌, drop, slice_get, slice_index, Option, Some, None, option_and_then, ⊤, if◌then◌else◌}
 use Rattle.scram_types.specs.Bits.{has_bit}
 use Rattle.scram_types.specs.declared.rows.Row.{Row}
@@ -55,12 +56,12 @@ are_alike (lane.Factor i) row other = slice_index row.env.factors i == slice_ind
 are_alike (lane.Processor p) row other = same_bit p row.env.up other.env.up
 are_alike (lane.Application a) row other = same_doing (act_of row a) (act_of other a)
 
--- The number of consecutive rows, from the first on, that look like a given row.
+-- The number of consecutive rows, from the first on, that look like a given row in a lane.
 abbrev pub alike_rows : Lane → Row → List Row → ℕ
 alike_rows lane row [] = 0
 alike_rows lane row (next ∷ rows) = if are_alike lane row next then alike_rows lane row rows + 1 else 0
 
--- Whether a row has no preceding row or does not look like the preceding row.
+-- Whether a row has no preceding row or does not look like the preceding row in a lane.
 abbrev pub is_new : Lane → Option Row → Row → Bool
 is_new lane None row = true
 is_new lane (Some before) row = if are_alike lane before row then false else true
@@ -70,8 +71,8 @@ abbrev pub row_before : List Row → ℕ → Option Row
 row_before rows zero = None
 row_before rows (suc k) = slice_get rows k
 
--- The number of rows of the span that begins with row `k`: row `k` and the consecutive rows after it that look like
--- it. `None` if row `k` looks like the preceding row or does not exist.
+-- The number of rows of the span of a lane that begins with row `k`: row `k` and the consecutive rows after it that
+-- look like it in the lane. `None` if row `k` looks like the preceding row or does not exist.
 abbrev pub span_at : Lane → List Row → ℕ → Option ℕ
 span_at lane rows k =
     option_and_then (λ (row : Row). if is_new lane (row_before rows k) row then Some (alike_rows lane row (drop (k + 1) rows) + 1) else None) (slice_get rows k)

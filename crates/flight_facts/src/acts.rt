@@ -5,7 +5,7 @@ ghost use Rattle.flight_facts.specs.Acts.{act_word, count_acts, mode_of_act, pro
 
 use scram_types::{Act, Mode, ProcId, Row, Spec};
 
-/// The first word of an act, which tells what an application did in a frame.
+/// The first word of an act as a trace spells it. It shows what an application did in a frame.
 #[derive(Clone, Copy, Debug, PartialEq, Eq)]
 pub enum ActWord {
     Ran,

@@ -27,7 +27,7 @@ pub fn decided_in(rows: &[Row], begin: u32) -> usize
     }
 }
 
-/// Returns whether two environments are both present and differ.
+/// Returns whether two optional environments are both present and differ.
 pub fn differ(spec: &Spec, before: Option<Env>, after: Option<Env>) -> bool
     ensures { result ≡ differ spec.now before after }
 {
@@ -39,7 +39,7 @@ pub fn differ(spec: &Spec, before: Option<Env>, after: Option<Env>) -> bool
     }
 }
 
-/// Appends the difference between two environments, or `-` if one is missing.
+/// Appends the difference between two optional environments, or `-` if one is missing or they do not differ.
 pub fn add_difference_or_dash(line: &mut Line, spec: &Spec, before: Option<Env>, after: Option<Env>)
     requires { length line.old + 348 ≤ MAX_LINE_BYTES }
     ensures text { line.new ≡ line.old ++ difference_or_dash spec.now before after }

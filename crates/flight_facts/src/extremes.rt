@@ -67,7 +67,7 @@ fn widened(number: i64, so_far: Option<Extremes>) -> Extremes
     }
 }
 
-/// Appends the minimum, `to` and the maximum.
+/// Appends the minimum, the word `to` and the maximum, separated by spaces.
 pub fn add_extremes(line: &mut Line, extremes: &Extremes)
     requires { length line.old + 44 ≤ MAX_LINE_BYTES }
     ensures text { line.new ≡ line.old ++ extremes_text extremes.now }

@@ -8,7 +8,8 @@ use crate::acts::{ActWord, act_word};
 use scram_types::Row;
 use trace_text::lines::Line;
 
-/// Consecutive rows in which an application neither ran nor was off: the number of rows, and the first of them.
+/// Consecutive rows in which an application neither ran nor was off: the number of rows, and the index of the first
+/// of them.
 #[derive(Clone, Copy, Debug, PartialEq, Eq)]
 pub struct Gap {
     pub frames: u32,
@@ -36,7 +37,8 @@ pub fn longest_gap(rows: &[Row], app: usize) -> Option<Gap>
     longest
 }
 
-/// Appends the number of frames of a gap and its first frame, or 0 and `-` if there is no gap.
+/// Appends ` gap FRAMES at ROW`, with the number of rows of a gap and the index of its first row, or ` gap 0 at -` if
+/// there is no gap.
 pub fn add_gap(line: &mut Line, gap: Option<Gap>)
     requires { length line.old + 29 ≤ MAX_LINE_BYTES }
     ensures text { line.new ≡ line.old ++ gap_text gap }

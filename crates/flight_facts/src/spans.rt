@@ -1,4 +1,5 @@
-//! Lanes, in which each row of a flight is shown, and spans of consecutive rows that look alike.
+//! Lanes, each of which shows one part of every row of a flight, and spans of consecutive rows that look alike in a
+//! lane.
 
 ghost use Rattle.std.specs.Prelude.{◌≡◌, ◌<◌, ◌≤◌, ◌^◌, length, option_map};
 ghost use Rattle.flight_facts.specs.Spans.{IsLane, alike_rows, are_alike, is_new, row_before, same_bit, same_conf, same_doing, same_proc, span_at, stable_conf};
@@ -20,8 +21,8 @@ pub enum Lane {
     Application(u8),
 }
 
-/// Returns the number of rows of the span that begins with row `k`: row `k` and the consecutive rows after it that look
-/// like it. Returns `None` if row `k` looks like the preceding row or does not exist.
+/// Returns the number of rows of the span of a lane that begins with row `k`: row `k` and the consecutive rows after
+/// it that look like it in the lane. Returns `None` if row `k` looks like the preceding row or does not exist.
 pub fn span_at(lane: Lane, rows: &[Row], k: usize) -> Option<u32>
     requires lane { IsLane lane }
     requires rows { length rows.now < 2 ^ 32 }
@@ -54,7 +55,7 @@ fn is_new(lane: Lane, before: Option<&Row>, row: &Row) -> bool
     }
 }
 
-// Returns the number of consecutive rows, from the first on, that look like `row`.
+// Returns the number of consecutive rows, from the first on, that look like `row` in a lane.
 fn alike_rows(lane: Lane, row: &Row, rows: &[Row]) -> u32
     requires lane { IsLane lane }
     requires rows { length rows.now < 2 ^ 32 }

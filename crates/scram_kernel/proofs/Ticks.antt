@@ -1,4 +1,4 @@
--- Lemmas on one further frame of a kernel.
+-- Lemmas on the kernel after it has ended one more frame.
 use Rattle.std.proofs.Common.{◌≡◌, ◌∙◌, ℕ, suc, ◌+◌, ◌<◌, ◌≤◌, refl, ap, subst, sym, arith, List, [], ◌∷◌, ◌++◌}
 use Rattle.std.specs.Prelude.{ℤ, Option}
 use Rattle.scram_types.specs.declared.rows.Env.{Env}
@@ -25,8 +25,8 @@ use Rattle.scram_kernel.specs.Marks.{AreImages, AreMarks}
 use Rattle.scram_kernel.proofs.Rows.{keepers_are, row_is}
 use Rattle.frame_model.specs.Frames.{sys_of}
 
--- The facts about a tick: its marks and images are those of frame `n`, and its row, keepers and next image are
--- computed from them.
+-- The facts about a tick that ends frame `n`. Its marks and images are those after frame `n`, and its row, its
+-- keepers and its next image are computed from them.
 pub record Ticks (spec : Parts) (script : ScriptParts) (n : ℕ) (image : KernelImage) (areas : List (List ℤ)) (marks : List ℕ) (images : List (List ℤ)) (v : Env)
     (row : Row) (keepers : List (Option ProcId)) (next : KernelImage) : Type 0 where
   pub facts : IsSpec spec

@@ -31,7 +31,7 @@ task_in_image spec image a = task_of spec image.mode image.frame a
 abbrev pub act_drawn : Parts → KernelImage → List ℕ → ℕ → Act
 act_drawn spec image marks a = act_after (has_committed marks image.frame) (task_in_image spec image a)
 
--- The processor that keeps the area of application `a` after the image's frame.
+-- The processor that keeps the area of application `a` after the image's frame, or `None` if no processor keeps it.
 abbrev pub keeper_drawn : Parts → KernelImage → List ℕ → ℕ → Option ProcId
 keeper_drawn spec image marks a = keeper_on (has_committed marks image.frame) (keeper_at image.keepers a) (task_in_image spec image a).proc
 
@@ -43,7 +43,8 @@ area_drawn spec image marks images areas a = area_from (has_committed marks imag
 abbrev pub areas_drawn : Parts → KernelImage → List ℕ → List (List ℤ) → List (List ℤ) → List (List ℤ)
 areas_drawn spec image marks images areas = eight (area_drawn spec image marks images areas)
 
--- The processors that keep the eight areas after the image's frame.
+-- The list that has for each application the processor that keeps its area after the image's frame, or `None` if no
+-- processor keeps it.
 abbrev pub keepers_drawn : Parts → KernelImage → List ℕ → List (Option ProcId)
 keepers_drawn spec image marks = eight (keeper_drawn spec image marks)
 

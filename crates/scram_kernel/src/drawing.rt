@@ -19,8 +19,8 @@ pub(crate) struct Stored<'a> {
     pub(crate) images: &'a [Image; 8],
 }
 
-/// Returns the row of the image's frame, given the tasks of the frame. Replaces the areas before the frame by the areas
-/// after it.
+/// Returns the row of the image's frame, given the tasks of the frame. `areas` has the areas before the frame, and is
+/// set to those after it.
 pub(crate) fn draw(
     spec: &Spec,
     image: &KernelImage,
@@ -58,7 +58,7 @@ fn acts_drawn(image: &KernelImage, tasks: &[Task; 8], marks: &[u64; 8]) -> [Act;
     ]
 }
 
-// Replaces the areas before the frame by the areas after it.
+// Sets the areas before the frame to the areas after it.
 fn draw_areas(image: &KernelImage, tasks: &[Task; 8], stored: &Stored<'_>, areas: &mut [Area; 8])
     ensures { (spec : Parts) → tasks.now ≡ eight (task_in_image spec image.now)
         → areas.new ≡ areas_drawn spec image.now stored.now.marks.now stored.now.images.now areas.old }
@@ -69,7 +69,8 @@ fn draw_areas(image: &KernelImage, tasks: &[Task; 8], stored: &Stored<'_>, areas
     }
 }
 
-/// Returns the processors that keep the areas after the frame.
+/// Returns for each application the processor that keeps its area after the frame, or `None` if no processor keeps
+/// it.
 pub(crate) fn keepers_drawn(
     image: &KernelImage,
     tasks: &[Task; 8],
@@ -104,8 +105,8 @@ fn act_after(task: &Task, marks: &[u64; 8], frame: u32) -> Act
     }
 }
 
-// Replaces the area of an application before the frame by its area after the frame. The area of a lost application
-// stays as it is.
+// Sets the area of application `a` before the frame to its area after the frame: zeros if the application is off, its
+// slot if its processor has committed the frame, or else the old area.
 fn draw_area(task: &Task, stored: &Stored<'_>, frame: u32, a: u8, area: &mut Area)
     requires { a < 8 }
     ensures { area.new ≡ area_from (has_committed stored.now.marks.now frame) stored.now.images.now a area.old task.now.proc }

@@ -147,7 +147,7 @@ reading_next mission m le =
     ∙ (row_by_row mission.spec (first_rows mission m) (row_at mission.spec mission.script m)).0
     ∙ ap (λ n. read_row mission.spec (reading_of mission.spec (first_rows mission m)) n (row_at mission.spec mission.script m).acts) (first_long mission m (omega arith))
 
--- Row `m` of the mission is the row of frame `m`.
+-- If the mission has a row with index `m`, frame `m` is flown, and the row is the row of this frame.
 pub within : (mission : MissionParts) (m : ℕ) (row : Row) → slice_get (rows_of mission.spec mission.script) m ≡ Some row → m < mission.script.frames
 within mission m row there =
     let long = length_listed (row_at mission.spec mission.script) mission.script.frames in

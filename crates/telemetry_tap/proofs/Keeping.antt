@@ -137,7 +137,7 @@ module _ (mission : MissionParts) (id : ℕ) (v : TapView) (writes : v.writes �
         each = λ j u there. note_each s r here j u (at_snoc s.views (reader_view v) u j (rw same at there));
       }
 
--- The opening meets the rule.
+-- The words and the writer's view of an opened tap satisfy the rule.
 first_each : (mission : MissionParts) (j : ℕ) (u : TapView) → get_elem? (writer_view mission ∷ []) j ≡ some u → IsTapView mission 0 0 j u
 first_each mission zero u there =
     let one : writer_view mission ≡ u = cc in

@@ -10,17 +10,19 @@ use Rattle.telemetry_tap.specs.declared.summaries.Summary.{Summary}
 use Rattle.telemetry_tap.specs.Summaries.{summary_begun, first_rows, running_number, summary_after, summary_up}
 use Rattle.telemetry_tap.specs.Words.{FitsWord, summary_decode, summary_encode}
 
--- The number of the configuration that the last of these rows runs, or `before` if there is no row.
+-- The number by which a summary names the configuration that the last row of a list runs, or `before` if the list is
+-- empty. The number is `NONE_RUNNING` if the last row runs none.
 abbrev pub last_running : Parts → ℕ → List Row → ℕ
 last_running spec before [] = before
 last_running spec before (row ∷ rows) = last_running spec (running_number (running spec row.acts)) rows
 
--- The processors that are up in the last of these rows, or `before` if there is no row.
+-- The set of processors that are up in the last row of a list, or `before` if the list is empty.
 abbrev pub last_up : ℕ → List Row → ℕ
 last_up before [] = before
 last_up before (row ∷ rows) = last_up row.env.up rows
 
--- The summary of the rows from frame 0 on. `before` is the set of processors that are up if there is no row.
+-- The summary of a list of rows, the first of which is the row of frame 0. `before` is the set of processors that are
+-- up if the list is empty.
 abbrev pub summary_of : Parts → ℕ → List Row → Summary
 summary_of spec before rows =
     record { frames = length rows; running = last_running spec NONE_RUNNING rows; up = last_up before rows; begun = length (reports spec rows) }

@@ -23,7 +23,8 @@ rows_seen reader = reader.inner.me.0.seen
 abbrev pub loads_of : Reader → ℕ
 loads_of reader = reader.inner.me.0.loads
 
--- A writer belongs to the tap and has what it needs for its next summary.
+-- A writer belongs to the tap. It keeps the number of rows that it has published, the number of reconfigurations
+-- begun in them, and the reading of these rows.
 pub record IsWriterOf (tap : Tap) (writer : Writer) : Type 0 where
   pub table : writer.inner.table_id ≡ tap.table.shared.table_id
   pub mission : writer.inner.me.0.mission ≡ Some (tap_mission tap)

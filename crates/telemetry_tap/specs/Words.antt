@@ -2,11 +2,11 @@
 use Rattle.std.specs.Prelude.{ℕ, ◌+◌, ◌*◌, ◌/◌, ◌%◌, ◌<◌}
 use Rattle.telemetry_tap.specs.declared.summaries.Summary.{Summary}
 
--- The word that holds each part of a summary in bits of its own.
+-- The word that encodes a summary. It has each part of the summary in bits of its own.
 abbrev pub summary_encode : Summary → ℕ
 summary_encode s = s.frames + 65536 * s.begun + 4294967296 * s.running + 1099511627776 * s.up
 
--- The summary whose parts are the bits of a word.
+-- The summary that a word encodes. Each of its parts is the number in the part's bits of the word.
 abbrev pub summary_decode : ℕ → Summary
 summary_decode word = record { frames = word % 65536; running = word / 4294967296 % 256; up = word / 1099511627776 % 256; begun = word / 65536 % 65536 }
 

@@ -13,7 +13,7 @@ pub struct TapView {
 }
 
 /// The rule of the table. Exactly one view is the writer's, and the word encodes the summary of the rows that the
-/// writer has published. No reader has seen more rows.
+/// writer has published. No reader has seen more rows than that.
 pub struct TapRule;
 
 impl TableRule<(), TapView, Mission> for TapRule {

@@ -16,7 +16,7 @@ use Rattle.word_deck.specs.Crews.{IsCrewOf}
 use Rattle.word_deck.specs.Flights.{AreCrewsOf, AreLanded, AreOpen, numbers_in}
 use Rattle.word_deck.specs.Landing.{IsLanded}
 
--- Each item has the fact at its index.
+-- The fact holds for each item of the list together with the item's index.
 abbrev pub EachAt : {A : Type 0} → (ℕ → A → Type 0) → List A → Type 0
 EachAt {A} Fact xs = (i : ℕ) (x : A) → slice_get xs i ≡ Some x → Fact i x
 

@@ -1,4 +1,4 @@
--- Lemmas on the rows that are handed to a watch.
+-- Lemmas on the rows that the kernel hands to a watch: the next row, and the number of rows after a turn.
 use Rattle.std.proofs.Common.{◌≡◌, ◌∙◌, ℕ, ◌+◌, ◌<◌, ◌≤◌, ap, sym, arith, List, length}
 use Rattle.std.specs.Prelude.{slice_index_or, slice_get, Some}
 use Rattle.std.proofs.lemmas.Bool.Decides.{nat_tests}

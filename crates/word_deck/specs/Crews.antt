@@ -11,7 +11,7 @@ use Rattle.word_deck.specs.declared.turns.Turn.{Turn}
 use Rattle.word_deck.specs.declared.turns.Turn.TheVariants.{Worked, NotYet, Finished}
 use Rattle.word_deck.specs.Frames.{IsAfter}
 
--- Whether there is a restart and its frame comes after frame `h`.
+-- Whether an optional restart is present and its frame comes after frame `h`.
 abbrev pub comes_back : ℕ → Option ℕ → Bool
 comes_back h None = false
 comes_back h (Some r) = nat_lt h r
@@ -37,13 +37,15 @@ tries_after NotYet tries = suc tries
 tries_after Worked tries = tries
 tries_after Finished tries = tries
 
--- A crew belongs to the table and is between two turns.
+-- A crew belongs to the table and is between two turns. It has a spare rack if its processor still has a restart to
+-- come.
 pub record IsCrewOf {X : Type 0} {Y : X → Type 0} (words : WordTable) (crew : Crew X Y) : Type 0 where
   pub seated : IsSeatOf words crew.seat
   pub begin : steps_of (seat_place crew.seat) ≡ 0
   pub spare_left : HasSpare (flight_in words) (proc_of crew.seat) (frame_of (seat_place crew.seat)) crew.flyer.spare
 
--- A crew belongs to the table and has made `n` steps of a frame.
+-- A crew belongs to the table and has made `n` steps of a frame. It has a spare rack if its processor still has a
+-- restart to come.
 pub record CrewFlies {X : Type 0} {Y : X → Type 0} (words : WordTable) (n : ℕ) (crew : Crew X Y) : Type 0 where
   pub seated : IsSeatOf words crew.seat
   pub after : IsAfter n (seat_place crew.seat)

@@ -31,15 +31,17 @@ pub record IsKernelBetween (procs frames : ℕ) (kseat : KSeat) : Type 0 where
   pub steps : kernel_steps kseat ≤ procs
   pub last : kernel_steps kseat ≡ procs → suc (kernel_frame kseat) ≡ frames
 
--- The invariant of a kernel between two turns, with its seat, its log and what it has noted.
+-- The invariant of a kernel between two turns. Its log is that of the frames in which it has noted all processors.
+-- The noted marks and images are those that the processors noted so far have committed by the end of its frame.
 pub record KernelCrewKeeps (mission : MissionParts) (kseat : KSeat) (kernel : KernelParts) (noted : Noted) : Type 0 where
   pub between : IsKernelBetween (length mission.spec.procs) mission.script.frames kseat
   pub log : kernel ≡ kernel_after mission.spec mission.script (frames_noted (length mission.spec.procs) kseat)
   pub noted_are : AreNoted mission (kernel_frame kseat) (kernel_steps kseat) noted
 
--- The change of the kernel's seat by a turn. After `NotYet`, the kernel is at the same place and has counted another
--- try. After `Worked`, it has noted more processors of its frame, or is at the start of the next frame. After
--- `Finished`, it is in the same frame and has made at least as many steps as before.
+-- The second seat is the kernel's seat after a turn with the given result, and the first is its seat before the turn.
+-- After `NotYet`, the kernel is at the same place and has counted another try. After `Worked`, it has noted more
+-- processors of its frame, or is at the start of the next frame. After `Finished`, it is in the same frame and has
+-- made at least as many steps as before.
 abbrev pub IsKernelMoved : Turn → ℕ → ℕ → KSeat → KSeat → Type 0
 IsKernelMoved NotYet procs frames before after =
     (kernel_frame after ≡ kernel_frame before) × (kernel_steps after ≡ kernel_steps before) × (kernel_tries after ≡ suc (kernel_tries before))

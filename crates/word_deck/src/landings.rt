@@ -60,7 +60,8 @@ pub(crate) struct Landing {
     pub(crate) flown: bool,
 }
 
-/// The promise of a thread: the processor that had this seat at this table has landed, or has not flown.
+/// The promise of a thread for a processor, given the table and the seat with which the processor started. The
+/// processor has landed, or it has not flown and gives back this seat.
 #[derive(Drop)]
 pub(crate) struct Lander(Snapshot<WordTable>, Snapshot<Seat>);
 
@@ -210,8 +211,8 @@ pub(crate) fn crew_from<R: Wait>(rt: &R, words: &WordTable, cell: &RackCell, sea
     }
 }
 
-/// Returns the seat of a processor that has landed. If the processor has not flown, the caller flies it with the boxes
-/// from the cell.
+/// Returns the seat of a processor that has landed. If the processor has not flown, the caller flies it with the
+/// boxes from the cell. `was` is the seat with which the processor started.
 pub(crate) fn land<R: Wait>(rt: &R, site: &Site<'_>, landing: Landing, was: Snapshot<Seat>) -> Seat
     requires mission { mission_in site.now.words.now ≡ site.now.mission.now }
     requires lands { Lands site.now.words.now was.value landing }

@@ -32,7 +32,8 @@ pub(crate) struct Flying {
     pub(crate) handle: PromisedHandle<Landing, Lander>,
 }
 
-/// The way in which a processor flies: on a thread, as the last of the processors in the caller's turns, or no longer.
+/// The way in which a processor flies once it has been started: on a thread (`Threaded`), in the caller's turns as
+/// the last of the processors there (`Own`), or no longer, since it has landed (`Landed`).
 #[derive(Drop)]
 pub(crate) enum Boarding {
     Threaded(Flying),
@@ -40,7 +41,8 @@ pub(crate) enum Boarding {
     Landed(Seat),
 }
 
-/// Flies all processors and the kernel, and returns the kernel after its last note.
+/// Flies all processors and the kernel. Returns the kernel after its last note, and the seats of the processors in
+/// the order of their numbers.
 pub(crate) fn fly<K: KernelActor, R: Threads + Wait + Sync>(
     rt: &R,
     shared: &Shared<'_>,
@@ -93,7 +95,8 @@ pub(crate) fn fly<K: KernelActor, R: Threads + Wait + Sync>(
     )
 }
 
-// Starts the processors that have not started, the last one first. Then it flies the kernel, and lands the processors.
+// Starts the waiting processors, the last one first, then flies the kernel, and then lands the processors. Returns
+// the kernel after its last note.
 fn fly_rest<'s, E, K: KernelActor, R: Threads + Wait + Sync>(
     scope: &Scope<'s, E>,
     rt: &'s R,
@@ -139,8 +142,8 @@ fn fly_rest<'s, E, K: KernelActor, R: Threads + Wait + Sync>(
     kernel
 }
 
-// Returns the seat of a started processor, once the processor has landed. The caller waits for the processor's thread,
-// or flies the processor to its end.
+// Returns the seat of a started processor, once the processor has landed. The caller waits for the processor's
+// thread, or flies the processor to its end. `was` is the seat with which the processor started.
 fn land_boarded<R: Threads + Wait>(
     rt: &R,
     site: &Site<'_>,

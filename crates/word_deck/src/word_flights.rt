@@ -228,7 +228,8 @@ fn land_all<'a>(
 // The smallest measured number of spins (docs/PERFORMANCE.md) at which no thread parks if each thread has a processor.
 const SPINS: u32 = 10_000;
 
-// Returns the number of spins before a wait parks, which is 0 on a machine with one processor.
+// Returns the number of spins before a wait parks: `SPINS` if the machine is known to have several processors, or
+// else 0.
 fn spins_of<R: Threads>(rt: &R) -> u32 {
     match thread::available_parallelism(rt) {
         Ok(count) if count.get() > 1 => SPINS,

@@ -24,7 +24,7 @@ use Rattle.word_table.specs.Actors.{StandsAt, actor_at, mission_flight, who, wit
 use Rattle.word_table.specs.Plays.{AllStand, IsFound, ShowsWord, each_actor}
 use Rattle.word_table.specs.Rule.{AreApart, Hosts, IsAmong, IsViewOf, Ruled}
 
--- The facts about a flight that the law requires.
+-- A flight meets the conditions of the law of events, and has at most 8 processors and at most 64 words in an image.
 pub record IsSound (m : Flight) : Type 0 where
   pub flies : Flies m
   pub few : m.procs ≤ 8

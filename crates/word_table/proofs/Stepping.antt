@@ -1,4 +1,4 @@
--- The facts that follow from the next step of a seat being an event.
+-- Lemmas on a seat whose next step is a given event.
 use Rattle.std.proofs.Common.{◌≡◌, ◌∙◌, ℕ, zero, suc, ◌+◌, ◌<◌, ◌≤◌, Bool, true, false, refl, List, [], ◌∷◌}
 use Rattle.std.specs.Prelude.{Some}
 use Rattle.scram_types.specs.Lookups.{proc_id}

@@ -1,4 +1,4 @@
--- The effects of a step on a seat whose mission and actors are known.
+-- Lemmas on the effect of a step on a seat, given the mission and the actors of its view.
 use Rattle.std.proofs.Common.{◌≡◌, ◌∙◌, ℕ, suc, ◌<◌, Bool, true, false, refl, ap, subst, arith, List, [], ◌∷◌, map}
 use Rattle.std.specs.Prelude.{Option, Some, IfSome, nat_eq, nat_lt}
 use Rattle.std.proofs.lemmas.Bool.Decides.{nat_tests}

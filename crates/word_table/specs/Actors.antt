@@ -51,7 +51,7 @@ abbrev pub IsInFlight : Flight → Place → Type 0
 IsInFlight m (At f n) = (f ≤ m.frames) × (0 < n → f < m.frames)
 IsInFlight m (Halted h) = h < m.frames
 
--- The frame of a restart, or frame `h` if there is no restart.
+-- The frame of an optional restart, or frame `h` if the restart is `None`.
 abbrev pub restart_or : ℕ → Option ℕ → ℕ
 restart_or h None = h
 restart_or h (Some r) = r
@@ -67,7 +67,7 @@ abbrev pub Waits : Flight → ℕ → Place → Type 0
 Waits m p (At f n) = (n ≡ 0) × (f < m.frames)
 Waits m p (Halted h) = h < restart_or h (m.restart p)
 
--- The frame for which an actor waits, or the current frame if the actor is the kernel.
+-- The frame for whose release an actor waits, or the current frame if the actor is the kernel.
 abbrev pub awaited : Flight → Actor → ℕ
 awaited m (Runs p f n) = frame_awaited m p (At f n)
 awaited m (Stopped p h) = frame_awaited m p (Halted h)

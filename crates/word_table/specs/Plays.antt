@@ -1,4 +1,5 @@
--- The effects of steps, as relations between a step, the seat before it, the number found and the seat after it.
+-- The effects of steps, as relations between a step, the seat before it, the number `n` that the step found, and the
+-- seat `after` it.
 use Rattle.std.specs.Prelude.{◌≡◌, ◌+◌, ◌-◌, ◌<◌, ℕ, suc, Bool, false, List, [], ◌∷◌, ◌++◌, map, slice_index, None, IfSome, nat_eq, nat_lt}
 use Rattle.std.specs.Bool.{MatchBool}
 use Rattle.atomic_table.specs.Table.{Me, Step}
@@ -40,7 +41,7 @@ pub record IsFound (m : Flight) (actors : List Actor) (i n : ℕ) : Type 0 where
 abbrev pub ShowsWord : View → ℕ → ℕ → Type 0
 ShowsWord v i n = IfSome v.mission (λ mission. IsFound (mission_flight mission) v.actors i n)
 
--- The view `v` after each of its actors has moved by `go`.
+-- The view `v` with `go` applied to each of its actors.
 abbrev pub each_actor : (Actor → Actor) → View → View
 each_actor go v = with_actors v (map go v.actors)
 
@@ -58,7 +59,8 @@ AwaitsEnd m i (Runs p f n ∷ rest) = ⊥
 AwaitsEnd m i (Stopped p h ∷ rest) = ⊥
 AwaitsEnd m i (Kernel k j ∷ rest) = (k < m.frames) × (j < m.procs) × (i ≡ index_of (EndWord j))
 
--- Whether the first actor may start its frame, if the release word is `release`.
+-- Whether the release word `release` shows the frame that the first actor awaits. The value is `false` if there is no
+-- actor.
 abbrev pub may_start : Flight → List Actor → ℕ → Bool
 may_start m [] release = false
 may_start m (a ∷ rest) release = nat_lt (awaited m a) release
@@ -70,31 +72,35 @@ can_note m (Runs p f n ∷ rest) end = false
 can_note m (Stopped p h ∷ rest) end = false
 can_note m (Kernel k j ∷ rest) end = may_note m j k end
 
--- If `ready` is `true`, the actors move by `go`. Otherwise the view counts another try.
+-- If `ready` is `true`, `go` is applied to each actor of the view. Otherwise the view counts another load that found
+-- nothing ready.
 abbrev pub GoesOrTries : Bool → (Actor → Actor) → View → Sat → Type 0
 GoesOrTries ready go v after = MatchBool ready (Has after (each_actor go v)) (Has after (tried v))
 
--- If the first actor waits for the word, the actors move by `go` or the view counts another try. Otherwise the seat
--- stays as it is.
+-- If `waits` holds, `go` is applied to each actor if `ready` is `true`, and the view counts another try if it is
+-- `false`. If `waits` does not hold, the seat still has the view `v`.
 abbrev pub MovesIfWaiting : Type 0 → Bool → (Actor → Actor) → View → Sat → Type 0
 MovesIfWaiting waits ready go v after = (waits → GoesOrTries ready go v after) × (¬ waits → Has after v)
 
--- The seat after a load at place `i` that found `n` and starts a frame if it can.
+-- `after` is a seat with view `v` after a load at place `i` that found `n`. If the first actor waits for this word
+-- and may start, each actor has started its frame. If it waits and may not start, the view counts another try.
 abbrev pub IsAfterStart : Flight → ℕ → ℕ → View → Sat → Type 0
 IsAfterStart m i n v after = MovesIfWaiting (AwaitsRelease m i v.actors) (may_start m v.actors n) (begun m) v after
 
--- The seat after a load at place `i` that found `n` and notes a processor if it can.
+-- `after` is a seat with view `v` after a load at place `i` that found `n`. If the first actor is the kernel, waits
+-- for this word and may note the processor, it has made a step. If it waits and may not, the view counts another try.
 abbrev pub IsAfterNote : Flight → ℕ → ℕ → View → Sat → Type 0
 IsAfterNote m i n v after = MovesIfWaiting (AwaitsEnd m i v.actors) (can_note m v.actors n) one_more v after
 
 -- The word that the first actor stores next, if its next step is a store into a bank or of one of the kernel's words.
+-- The value is 0 if there is no actor or the first is a halted processor.
 abbrev pub word_due : Flight → List Actor → ℕ
 word_due m [] = 0
 word_due m (Runs p f n ∷ rest) = word_in (m.draft p f) (n - (m.procs + 1))
 word_due m (Stopped p h ∷ rest) = 0
 word_due m (Kernel k j ∷ rest) = word_in (m.kernel_image (suc k)) (j - m.procs)
 
--- If the condition holds, the actors make a step. Otherwise the seat stays as it is.
+-- If the condition is `true`, each actor makes a step. Otherwise the seat still has the view `v`.
 abbrev pub StepsIf : Bool → View → Sat → Type 0
 StepsIf condition v after = MatchBool condition (Has after (each_actor one_more v)) (Has after v)
 

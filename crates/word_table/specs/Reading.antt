@@ -13,7 +13,7 @@ pub record IsReader (m : Flight) (actors : List Actor) (f : ℕ) : Type 0 where
   pub low : proc < m.procs
   pub alone : actors ≡ Runs proc f (suc before) ∷ []
 
--- A number of an image is the value of a word that was found at place `i`.
+-- `x` is the number that a word encodes, and this word may be found at place `i`.
 pub record IsWordRead (m : Flight) (actors : List Actor) (i : ℕ) (x : ℤ) : Type 0 where
   pub word : ℕ
   pub found : IsFound m actors i word

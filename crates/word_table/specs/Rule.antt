@@ -13,7 +13,7 @@ use Rattle.word_table.specs.declared.actors.Actor.TheVariants.{Runs, Kernel}
 use Rattle.word_table.specs.declared.actors.View.{View}
 use Rattle.word_table.specs.Actors.{StandsAt, mission_flight, who}
 
--- The home of each of these actors is view `j`, and each actor is at the place that `at` has for it.
+-- Each actor of a list has view `j` as its home, and is at the place that `at` has for it.
 abbrev pub Hosts : Places → (Option ℕ → ℕ) → ℕ → List Actor → Type 0
 Hosts at home j [] = Unit {0}
 Hosts at home j (a ∷ rest) = (home (who a) ≡ j) × StandsAt at a × Hosts at home j rest

@@ -75,7 +75,7 @@ AreOpening seats = (p : ℕ) (seat : Seat) → slice_get seats p ≡ Some seat �
 abbrev pub has_halted_by : Flight → ℕ → ℕ → Bool
 has_halted_by m p k = not (m.up p k && is_none (m.halt p k))
 
--- The number of frames that the mark of a processor at a place covers.
+-- The number `n` such that the mark of a processor at a place is its mark after the first `n` frames.
 abbrev pub frames_marked : MissionParts → Place → ℕ
 frames_marked mission place = marked (mission_flight mission) place
 
@@ -123,12 +123,12 @@ committed_mark words p n = mark_after (mission_in words).spec (mission_in words)
 abbrev pub committed_image : WordTable → ℕ → ℕ → List ℤ
 committed_image words p n = image_after (mission_in words).spec (mission_in words).script p n
 
--- The mark at each seat's index is the mark that its processor has committed at its place.
+-- For each seat, the mark at its index in the list is the one that the seat's processor has committed at its place.
 abbrev pub AreMarksOf : WordTable → List Seat → List ℕ → Type 0
 AreMarksOf words seats marks = (p : ℕ) (seat : Seat) → slice_get seats p ≡ Some seat
     → slice_index marks p ≡ committed_mark words p (frames_marked (mission_in words) (seat_place seat))
 
--- The image at each seat's index is the one that its processor has committed at its place.
+-- For each seat, the image at its index in the list is the one that the seat's processor has committed at its place.
 abbrev pub AreImagesOf : WordTable → List Seat → List (List ℤ) → Type 0
 AreImagesOf words seats images = (p : ℕ) (seat : Seat) → slice_get seats p ≡ Some seat
     → slice_index_or images p [] ≡ committed_image words p (frames_marked (mission_in words) (seat_place seat))

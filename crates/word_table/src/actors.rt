@@ -17,7 +17,7 @@ pub enum Actor {
 pub struct View {
     pub mission: Option<Mission>,
     pub tries: u64,
-    /// A clause reads this array as a list, which may have any length.
+    /// The actors of the seat. In contracts, this field is a list, which may have any length.
     pub actors: [Actor; 0],
 }
 
@@ -33,7 +33,7 @@ impl TableRule<(), View, Mission> for WordRule {
     ghost first = { first_view };
 }
 
-/// A load that is no event.
+/// A load that is no event. The seat stays as it is.
 pub struct Reads;
 
 impl Play<(), View> for Reads {
@@ -42,7 +42,7 @@ impl Play<(), View> for Reads {
     ghost then = { reads };
 }
 
-/// A load that is a look.
+/// The load that completes a look of a processor at an image. It is a step of the processor.
 pub struct Looks;
 
 impl Play<(), View> for Looks {

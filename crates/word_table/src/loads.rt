@@ -29,7 +29,7 @@ impl WordTable {
         self.table.shared.load::<Reads>(seat, i)
     }
 
-    /// Fills an image with the words from index `from` on. The words are stored from place `at` on, and the entries
+    /// Fills an image with the words from index `from` on. Word `i` is loaded from place `at + i`, and the entries
     /// past the last word become zero.
     pub(crate) fn read_image(
         &self,

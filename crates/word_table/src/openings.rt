@@ -46,7 +46,7 @@ impl WordTable {
         Ok((table, kseat, seats))
     }
 
-    // Creates the table and its first seat, which has all actors.
+    // Creates the table and its first seat, which has all actors. The only error is that memory runs out.
     fn lay(
         alloc: Global,
         mission: &Mission,
@@ -76,7 +76,8 @@ impl WordTable {
         Ok((words, seat))
     }
 
-    // Gives each processor a seat of its own. The remaining seat is the kernel's.
+    // Splits off a seat for each processor, in order, from the first seat, which remains with the kernel as its only
+    // actor. The only error is that memory runs out.
     fn deal(
         &self,
         rest: &mut atomic_table::Seat<(), View>,

@@ -12,7 +12,8 @@ use scram_types::{Image, NoMemory, ProcId};
 use std::alloc::Global;
 use std::sync::Wait;
 
-/// The shared atomic words of a mission, with the mission. Threads share the table in it, to which the methods forward.
+/// The shared atomic words of a mission, with the mission. The methods call those of `table`, which threads can
+/// share.
 #[derive(Drop)]
 pub struct Words<'a> {
     pub mission: &'a Mission,
@@ -195,9 +196,8 @@ impl<'a> Words<'a> {
         self.table.rest_kernel(rt, kseat);
     }
 
-    /// Closes the table and takes back all its seats. The marks and the images are those of the frames that each
-    /// processor has committed at its place. The entries after the last processor are zero. This method does not
-    /// block.
+    /// Closes the table and takes back all its seats. Returns for each processor the mark and the image that it has
+    /// committed at its place. The entries after the last processor are zero. This method does not block.
     pub fn close(self, kseat: KSeat, seats: Vec<Seat>) -> LastWords
         requires kernel { IsKernelSeatOf self.table kseat }
         requires seats { AreSeatsOf self.table seats.items }
