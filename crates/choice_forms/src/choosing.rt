@@ -6,7 +6,7 @@ ghost use Rattle.choice_table.specs.Environments.{IsEnv};
 ghost use Rattle.scram_io.specs.Outside.{Prints};
 ghost use Rattle.form_base.specs.Answers.{Gives};
 ghost use Rattle.form_base.specs.Endings.{Ends, IsTaken, Prepares, PreparesWithoutFiles};
-ghost use Rattle.form_base.specs.Refusals.{told};
+ghost use Rattle.form_base.specs.Refusals.{answer_of};
 ghost use Rattle.choice_forms.specs.Answers.{ChooseAnswers};
 ghost use Rattle.choice_forms.specs.Choosing.{IsUnknown, choose_answer, chosen_line, env_after, env_after_all, others_up, taken_down, valued, with_value};
 ghost use Rattle.choice_forms.specs.Chosen.{GivesChosen};
@@ -202,7 +202,7 @@ fn others_up(up: u8, p: u8) -> u8
 
 // Returns the refusal of a word of a state that names nothing of the specification.
 fn no_word(alloc: Global, word: &StateWord) -> Refusal
-    ensures { IsUnknown (state_word_text word.now) (told result) }
+    ensures { IsUnknown (state_word_text word.now) (answer_of result) }
 {
     match word {
         StateWord::Value { factor, value } => match format!(in alloc; "{factor}={value}") {
@@ -219,7 +219,7 @@ fn no_word(alloc: Global, word: &StateWord) -> Refusal
 // Returns the refusal of a word that names nothing of the specification, or the out-of-memory refusal if there is no
 // memory for its line.
 fn no_name(alloc: Global, word: &str) -> Refusal
-    ensures { IsUnknown word.now (told result) }
+    ensures { IsUnknown word.now (answer_of result) }
 {
     match format!(in alloc; "refused: no such name {word}\n") {
         Ok(line) => Refusal {

@@ -10,7 +10,7 @@ use Rattle.form_base.specs.declared.status.TheConstants.{UNREAD_FILE}
 use Rattle.form_base.specs.Answers.{Answer}
 use Rattle.form_base.specs.Endings.{Decides, Prepares}
 use Rattle.form_base.specs.Loads.{HasRead, IsUnloaded}
-use Rattle.form_base.specs.Refusals.{told}
+use Rattle.form_base.specs.Refusals.{answer_of}
 use Rattle.form_base.specs.Specifications.{SaysSpecification}
 use Rattle.form_base.proofs.Reading.{document_reads, refused_reads}
 use Rattle.flight_forms.specs.Documents.{SaysScript}
@@ -26,9 +26,9 @@ explained_specification_reads {U} name names Then Rest spec before mid after res
 
 -- If the specification was not loaded, the refusal is the answer to its file.
 pub explained_specification_unread : (name : List ℕ) (names : List (List ℕ)) (Then : Parts → Answer) (before after : FilesState) (refusal : Refusal)
-    → IsUnloaded BreaksExplainedSpecification MAX_SPECIFICATION_BYTES long_explained_specification name before after (told refusal) → StaysSteady before after name
-    → ((told refusal).0 ≡ UNREAD_FILE → Rose before.faults after.faults)
-    → Decides (AsksExplainedSpecification name Then) (name ∷ names) before after (told refusal).0 (told refusal).1
+    → IsUnloaded BreaksExplainedSpecification MAX_SPECIFICATION_BYTES long_explained_specification name before after (answer_of refusal) → StaysSteady before after name
+    → ((answer_of refusal).0 ≡ UNREAD_FILE → Rose before.faults after.faults)
+    → Decides (AsksExplainedSpecification name Then) (name ∷ names) before after (answer_of refusal).0 (answer_of refusal).1
 explained_specification_unread name names Then before after refusal is steady unread =
     refused_reads SaysSpecification BreaksExplainedSpecification MAX_SPECIFICATION_BYTES long_explained_specification name names Then before after refusal is steady unread
 
@@ -41,8 +41,8 @@ explained_script_reads {U} spec name names Then Rest value before mid after resu
 
 -- If the script was not loaded, the refusal is the answer to its file.
 pub explained_script_unread : (spec : Parts) (name : List ℕ) (names : List (List ℕ)) (Then : ScriptParts → Answer) (before after : FilesState) (refusal : Refusal)
-    → IsUnloaded (BreaksExplainedScript spec) MAX_SCRIPT_BYTES long_explained_script name before after (told refusal) → StaysSteady before after name
-    → ((told refusal).0 ≡ UNREAD_FILE → Rose before.faults after.faults)
-    → Decides (AsksExplainedScript spec name Then) (name ∷ names) before after (told refusal).0 (told refusal).1
+    → IsUnloaded (BreaksExplainedScript spec) MAX_SCRIPT_BYTES long_explained_script name before after (answer_of refusal) → StaysSteady before after name
+    → ((answer_of refusal).0 ≡ UNREAD_FILE → Rose before.faults after.faults)
+    → Decides (AsksExplainedScript spec name Then) (name ∷ names) before after (answer_of refusal).0 (answer_of refusal).1
 explained_script_unread spec name names Then before after refusal is steady unread =
     refused_reads (SaysScript spec) (BreaksExplainedScript spec) MAX_SCRIPT_BYTES long_explained_script name names Then before after refusal is steady unread

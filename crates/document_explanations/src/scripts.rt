@@ -3,7 +3,7 @@
 ghost use Rattle.std.specs.Prelude.{◌≡◌, ◌⊎◌, IfOk, string_bytes};
 ghost use Rattle.scram_types.specs.declared.limits.TheConstants.{MAX_SCRIPT_BYTES};
 ghost use Rattle.form_base.specs.Loads.{IsOutOfMemory};
-ghost use Rattle.form_base.specs.Refusals.{told};
+ghost use Rattle.form_base.specs.Refusals.{answer_of};
 ghost use Rattle.form_base.specs.declared.status.TheConstants.{BROKEN_SCRIPT};
 ghost use Rattle.flight_forms.specs.Documents.{SaysScript};
 ghost use Rattle.document_explanations.specs.Scripts.{BreaksExplainedScript, explained_script_text, long_explained_script};
@@ -48,7 +48,7 @@ fn explain<'a>(
 
 // Returns the refusal of bytes that break a rule, or an out-of-memory refusal if its lines cannot be allocated.
 fn refuse(alloc: Global, spec: &Spec, fault: &ScriptFault, bytes: &[u8]) -> Refusal
-    ensures { (told result ≡ (BROKEN_SCRIPT, explained_script_text spec.now fault.now bytes.now)) ⊎ IsOutOfMemory (told result) }
+    ensures { (answer_of result ≡ (BROKEN_SCRIPT, explained_script_text spec.now fault.now bytes.now)) ⊎ IsOutOfMemory (answer_of result) }
 {
     match explain(alloc, spec, fault, bytes) {
         Ok(text) => Refusal {

@@ -3,7 +3,7 @@
 ghost use Rattle.std.specs.Prelude.{◌≡◌, ◌⊎◌, ◌++◌, IfOk, string_bytes};
 ghost use Rattle.scram_types.specs.declared.limits.TheConstants.{MAX_SPECIFICATION_BYTES};
 ghost use Rattle.form_base.specs.Loads.{IsOutOfMemory};
-ghost use Rattle.form_base.specs.Refusals.{told};
+ghost use Rattle.form_base.specs.Refusals.{answer_of};
 ghost use Rattle.form_base.specs.Specifications.{SaysSpecification};
 ghost use Rattle.form_base.specs.declared.status.TheConstants.{BROKEN_SPECIFICATION};
 ghost use Rattle.document_explanations.specs.Specifications.{BreaksExplainedSpecification, explained_specification_text, long_explained_specification};
@@ -41,7 +41,7 @@ fn explain<'a>(alloc: Global, fault: &'a SpecFault, bytes: &'a [u8]) -> Result<S
 
 // Returns the refusal of bytes that break a rule, or an out-of-memory refusal if its lines cannot be allocated.
 fn refuse(alloc: Global, fault: &SpecFault, bytes: &[u8]) -> Refusal
-    ensures { (told result ≡ (BROKEN_SPECIFICATION, explained_specification_text fault.now bytes.now)) ⊎ IsOutOfMemory (told result) }
+    ensures { (answer_of result ≡ (BROKEN_SPECIFICATION, explained_specification_text fault.now bytes.now)) ⊎ IsOutOfMemory (answer_of result) }
 {
     match explain(alloc, fault, bytes) {
         Ok(text) => Refusal {

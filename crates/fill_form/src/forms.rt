@@ -8,7 +8,7 @@ ghost use Rattle.spec_text.specs.Texts.{spec_text};
 ghost use Rattle.form_base.specs.Answers.{Gives};
 ghost use Rattle.form_base.specs.Endings.{Ends, IsTaken, Prepares, PreparesWithoutFiles};
 ghost use Rattle.form_base.specs.Lines.{shown_line};
-ghost use Rattle.form_base.specs.Refusals.{told};
+ghost use Rattle.form_base.specs.Refusals.{answer_of};
 ghost use Rattle.form_base.specs.declared.status.TheConstants.{ANSWERED, NOT_ACCEPTED};
 ghost use Rattle.fill_form.specs.Answers.{FillAnswers, GivesText, fill_answer};
 ghost use Rattle.fill_form.specs.Filling.{with_times};
@@ -76,7 +76,7 @@ fn fill_in(alloc: Global, spec: Spec) -> Result<Vec<u8>, Refusal>
 
 // Returns the refusal of a specification that shows the reason `shown`.
 fn refuse(spec: Spec, shown: &Shown) -> Refusal
-    ensures { told result ≡ (NOT_ACCEPTED, shown_line spec shown.now) }
+    ensures { answer_of result ≡ (NOT_ACCEPTED, shown_line spec shown.now) }
 {
     let line = make_shown_line(&spec, shown);
     drop(spec);

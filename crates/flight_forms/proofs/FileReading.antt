@@ -11,7 +11,7 @@ use Rattle.form_base.specs.declared.status.TheConstants.{UNREAD_FILE}
 use Rattle.form_base.specs.Answers.{Answer}
 use Rattle.form_base.specs.Endings.{Decides, Prepares}
 use Rattle.form_base.specs.Loads.{HasRead, IsUnloaded}
-use Rattle.form_base.specs.Refusals.{told}
+use Rattle.form_base.specs.Refusals.{answer_of}
 use Rattle.form_base.proofs.Reading.{document_reads, refused_reads}
 use Rattle.flight_forms.specs.Documents.{AsksSchedule, AsksScript, BreaksSchedule, BreaksScript, SaysSchedule, SaysScript, long_schedule, long_script}
 use Rattle.bank_words.specs.declared.events.Event.{Event}
@@ -25,9 +25,9 @@ script_reads {U} spec name names Then Rest value before mid after result has ste
 
 -- If the script was not loaded, the refusal is the answer to its file.
 pub script_unread : (spec : Parts) (name : List ℕ) (names : List (List ℕ)) (Then : ScriptParts → Answer) (before after : FilesState) (refusal : Refusal)
-    → IsUnloaded (BreaksScript spec) MAX_SCRIPT_BYTES long_script name before after (told refusal) → StaysSteady before after name
-    → ((told refusal).0 ≡ UNREAD_FILE → Rose before.faults after.faults)
-    → Decides (AsksScript spec name Then) (name ∷ names) before after (told refusal).0 (told refusal).1
+    → IsUnloaded (BreaksScript spec) MAX_SCRIPT_BYTES long_script name before after (answer_of refusal) → StaysSteady before after name
+    → ((answer_of refusal).0 ≡ UNREAD_FILE → Rose before.faults after.faults)
+    → Decides (AsksScript spec name Then) (name ∷ names) before after (answer_of refusal).0 (answer_of refusal).1
 script_unread spec name names Then before after refusal is steady unread =
     refused_reads (SaysScript spec) (BreaksScript spec) MAX_SCRIPT_BYTES long_script name names Then before after refusal is steady unread
 
@@ -40,8 +40,8 @@ schedule_reads {U} spec name names Then Rest value before mid after result has s
 
 -- If the schedule was not loaded, the refusal is the answer to its file.
 pub schedule_unread : (spec : Parts) (name : List ℕ) (names : List (List ℕ)) (Then : List Event → Answer) (before after : FilesState) (refusal : Refusal)
-    → IsUnloaded (BreaksSchedule spec) MAX_SCHEDULE_BYTES long_schedule name before after (told refusal) → StaysSteady before after name
-    → ((told refusal).0 ≡ UNREAD_FILE → Rose before.faults after.faults)
-    → Decides (AsksSchedule spec name Then) (name ∷ names) before after (told refusal).0 (told refusal).1
+    → IsUnloaded (BreaksSchedule spec) MAX_SCHEDULE_BYTES long_schedule name before after (answer_of refusal) → StaysSteady before after name
+    → ((answer_of refusal).0 ≡ UNREAD_FILE → Rose before.faults after.faults)
+    → Decides (AsksSchedule spec name Then) (name ∷ names) before after (answer_of refusal).0 (answer_of refusal).1
 schedule_unread spec name names Then before after refusal is steady unread =
     refused_reads (SaysSchedule spec) (BreaksSchedule spec) MAX_SCHEDULE_BYTES long_schedule name names Then before after refusal is steady unread

@@ -13,7 +13,7 @@ use Rattle.form_base.specs.Answers.{Gives}
 use Rattle.form_base.specs.Endings.{IsMemoryRefusal, IsTaken, PreparesWithoutFiles, Tells}
 use Rattle.form_base.proofs.Endings.{given_tells, memory_tells, tells_other}
 use Rattle.form_base.specs.Loads.{IsOutOfMemory}
-use Rattle.form_base.specs.Refusals.{told}
+use Rattle.form_base.specs.Refusals.{answer_of}
 use Rattle.form_base.proofs.Reading.{memory_refusal}
 use Rattle.flight_forms.specs.declared.replays.Replay.{Replay}
 use Rattle.flight_forms.specs.Answers.{IsReplayAnswer, replay_refusal}
@@ -39,7 +39,7 @@ pub mission_settles : (spec : Parts) (script : ScriptParts) (A : MissionParts �
 mission_settles spec script A (Ok mission) makes = λ status text is.
     unless_none (mission_refusal spec script) (A (mission_of spec script)) status text makes.1 (rw (makes.0) at is)
 mission_settles spec script A (Err refusal) makes =
-    (refused_settles (mission_refusal spec script) (A (mission_of spec script)) (told refusal) makes.0, makes.1)
+    (refused_settles (mission_refusal spec script) (A (mission_of spec script)) (answer_of refusal) makes.0, makes.1)
 
 replay_told : (spec : Parts) (script : ScriptParts) (list : List Event) (replay : Replay) (status : ℕ) (text : List ℕ) → replay.mission ≡ mission_of spec script → replay.list ≡ list
     → GivesReplay replay status text → IsReplayAnswer spec script list status text
@@ -54,7 +54,7 @@ pub replay_settles : (spec : Parts) (script : ScriptParts) (list : List Event) (
 replay_settles spec script list (Ok replay) makes = λ status text is.
     unless_none (mission_refusal spec script) (IsReplayAnswer spec script list) status text makes.2 (replay_told spec script list replay status text makes.0 makes.1 is)
 replay_settles spec script list (Err refusal) makes =
-    (refused_settles (mission_refusal spec script) (IsReplayAnswer spec script list) (told refusal) makes.0, makes.1)
+    (refused_settles (mission_refusal spec script) (IsReplayAnswer spec script list) (answer_of refusal) makes.0, makes.1)
 
 -- If a replay ends with an error and its refusal was printed, the answer to the replay was printed.
 pub replay_refused : (spec : Parts) (script : ScriptParts) (list : List Event) (error : ReplayError) (answer : ℕ × List ℕ) (old new : SinkState) (code : ℕ)

@@ -12,7 +12,7 @@ use Rattle.form_base.specs.declared.status.TheConstants.{NOT_ACCEPTED, UNASSUMED
 use Rattle.form_base.specs.Answers.{Gives}
 use Rattle.form_base.specs.Lines.{shown_line}
 use Rattle.form_base.specs.Loads.{IsOutOfMemory}
-use Rattle.form_base.specs.Refusals.{told}
+use Rattle.form_base.specs.Refusals.{answer_of}
 use Rattle.flight_forms.specs.Lines.{outside_line}
 
 -- The refusal of a script that leaves the failure assumption, or `None` if the script keeps to it.
@@ -38,9 +38,9 @@ UnlessRefused None Answers = Answers
 abbrev pub MakesMission : Parts → ScriptParts → Result MissionParts Refusal → Type 0
 MakesMission spec script (Ok mission) = (mission ≡ mission_of spec script) × (mission_refusal spec script ≡ None)
 MakesMission spec script (Err refusal) =
-    ((mission_refusal spec script ≡ Some (told refusal)) ⊎ IsOutOfMemory (told refusal)) × ((told refusal).0 ≢ UNREAD_FILE)
+    ((mission_refusal spec script ≡ Some (answer_of refusal)) ⊎ IsOutOfMemory (answer_of refusal)) × ((answer_of refusal).0 ≢ UNREAD_FILE)
 
 -- The result is the mission of an accepted specification and a script, or the script's refusal.
 abbrev pub JoinsMission : Parts → ScriptParts → Result MissionParts Refusal → Type 0
 JoinsMission spec script (Ok mission) = (mission ≡ mission_of spec script) × (script_refusal (first_outside spec script) ≡ None)
-JoinsMission spec script (Err refusal) = (script_refusal (first_outside spec script) ≡ Some (told refusal)) × ((told refusal).0 ≢ UNREAD_FILE)
+JoinsMission spec script (Err refusal) = (script_refusal (first_outside spec script) ≡ Some (answer_of refusal)) × ((answer_of refusal).0 ≢ UNREAD_FILE)

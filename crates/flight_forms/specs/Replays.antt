@@ -7,7 +7,7 @@ use Rattle.bank_words.specs.declared.events.Event.{Event}
 use Rattle.form_base.specs.declared.refusals.Refusal.{Refusal}
 use Rattle.form_base.specs.declared.status.TheConstants.{UNREAD_FILE}
 use Rattle.form_base.specs.Loads.{IsOutOfMemory}
-use Rattle.form_base.specs.Refusals.{told}
+use Rattle.form_base.specs.Refusals.{answer_of}
 use Rattle.flight_forms.specs.declared.replays.Replay.{Replay}
 use Rattle.flight_forms.specs.Answers.{IsReplayAnswer}
 use Rattle.flight_forms.specs.Missions.{mission_refusal}
@@ -20,4 +20,4 @@ GivesReplay replay = IsReplayAnswer replay.mission.spec replay.mission.script re
 abbrev pub MakesReplay : Parts → ScriptParts → List Event → Result Replay Refusal → Type 0
 MakesReplay spec script list (Ok replay) = (replay.mission ≡ mission_of spec script) × (replay.list ≡ list) × (mission_refusal spec script ≡ None)
 MakesReplay spec script list (Err refusal) =
-    ((mission_refusal spec script ≡ Some (told refusal)) ⊎ IsOutOfMemory (told refusal)) × ((told refusal).0 ≢ UNREAD_FILE)
+    ((mission_refusal spec script ≡ Some (answer_of refusal)) ⊎ IsOutOfMemory (answer_of refusal)) × ((answer_of refusal).0 ≢ UNREAD_FILE)

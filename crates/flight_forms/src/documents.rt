@@ -4,7 +4,7 @@ ghost use Rattle.std.specs.Prelude.{◌≡◌};
 ghost use Rattle.scram_types.specs.declared.limits.TheConstants.{MAX_SCRIPT_BYTES};
 ghost use Rattle.schedule_replay.specs.Refusals.{fault_line};
 ghost use Rattle.schedule_replay.specs.declared.limits.TheConstants.{MAX_SCHEDULE_BYTES};
-ghost use Rattle.form_base.specs.Refusals.{told};
+ghost use Rattle.form_base.specs.Refusals.{answer_of};
 ghost use Rattle.form_base.specs.declared.status.TheConstants.{BROKEN_SCHEDULE, BROKEN_SCRIPT};
 ghost use Rattle.flight_forms.specs.Documents.{BreaksSchedule, BreaksScript, SaysSchedule, SaysScript, long_schedule, long_script};
 ghost use Rattle.flight_forms.specs.Lines.{script_line};
@@ -29,7 +29,7 @@ pub struct ScriptDocument<'a> {
 }
 
 fn refuse_script(fault: &ScriptFault) -> Refusal
-    ensures { told result ≡ (BROKEN_SCRIPT, script_line fault.now) }
+    ensures { answer_of result ≡ (BROKEN_SCRIPT, script_line fault.now) }
 {
     Refusal::new(Refused::Script, make_script_line(fault))
 }
@@ -67,7 +67,7 @@ pub struct ScheduleDocument<'a> {
 }
 
 fn refuse_schedule(fault: ScheduleFault) -> Refusal
-    ensures { told result ≡ (BROKEN_SCHEDULE, fault_line fault) }
+    ensures { answer_of result ≡ (BROKEN_SCHEDULE, fault_line fault) }
 {
     Refusal::new(Refused::Schedule, make_fault_line(fault))
 }

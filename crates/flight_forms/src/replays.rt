@@ -3,7 +3,7 @@
 ghost use Rattle.std.specs.Prelude.{◌≡◌, ◌∷◌, []};
 ghost use Rattle.fault_script.specs.Fits.{Fits};
 ghost use Rattle.form_base.specs.Endings.{Ends, IsTaken, Prepares, Tells};
-ghost use Rattle.form_base.specs.Refusals.{told};
+ghost use Rattle.form_base.specs.Refusals.{answer_of};
 ghost use Rattle.flight_forms.specs.Answers.{IsReplayAnswer, ListAnswers, ReplayAnswers, ScheduleAnswers, replay_refusal};
 ghost use Rattle.flight_forms.specs.Documents.{AsksSchedule, AsksScript};
 ghost use Rattle.flight_forms.specs.Replays.{MakesReplay, GivesReplay};
@@ -154,7 +154,7 @@ fn fly_replay<K: Sink>(alloc: Global, replayed: &Replay, out: &mut K, boxes: Box
 
 /// Returns the refusal for an error of a replay.
 fn refusal_of(spec: &Spec, error: ReplayError) -> Refusal
-    ensures { told result ≡ replay_refusal spec.now error }
+    ensures { answer_of result ≡ replay_refusal spec.now error }
 {
     match error {
         ReplayError::Illegal { index, given, next } => {

@@ -3,7 +3,7 @@
 ghost use Rattle.std.specs.Prelude.{◌≡◌, ◌<◌, ◌≤◌, ◌∷◌, [], IfErr, IfOk, IfSome, MatchOption, length};
 ghost use Rattle.scram_io.specs.Outside.{Rose, StaysSteady};
 ghost use Rattle.form_base.specs.Loads.{Loads};
-ghost use Rattle.form_base.specs.Refusals.{told};
+ghost use Rattle.form_base.specs.Refusals.{answer_of};
 ghost use Rattle.form_base.specs.declared.status.TheConstants.{UNREAD_FILE};
 ghost use Rattle.flight_forms.specs.Documents.{long_script};
 ghost use Rattle.trace_text.specs.Pieces.{pieces_of};
@@ -29,7 +29,7 @@ pub fn load_scripts<F: Files>(alloc: Global, name: &str, files: &mut F) -> Resul
     ensures loads { Loads SaysScripts BreaksScripts MAX_SCRIPTS_BYTES long_script name.now (F.state files.old) (F.state files.new) result }
     ensures few { IfOk result (λ scripts. length scripts ≤ MAX_SCRIPTS_BYTES) }
     ensures steady { StaysSteady (F.state files.old) (F.state files.new) name.now }
-    ensures unread { IfErr result (λ refusal. (told refusal).0 ≡ UNREAD_FILE → Rose (F.state files.old).faults (F.state files.new).faults) }
+    ensures unread { IfErr result (λ refusal. (answer_of refusal).0 ≡ UNREAD_FILE → Rose (F.state files.old).faults (F.state files.new).faults) }
 {
     match files.read(alloc, name, MAX_SCRIPTS_BYTES) {
         Ok(bytes) => Ok(List::of(bytes)),
@@ -41,7 +41,7 @@ pub fn load_scripts<F: Files>(alloc: Global, name: &str, files: &mut F) -> Resul
 
 // Returns the refusal of a file with more bytes than the limit.
 fn too_long() -> Refusal
-    ensures { told result ≡ long_script }
+    ensures { answer_of result ≡ long_script }
 {
     let fault = ScriptFault::new(rule::TOO_LONG, &Path::root());
     Refusal::new(Refused::Script, make_script_line(&fault))

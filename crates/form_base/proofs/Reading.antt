@@ -8,7 +8,7 @@ use Rattle.form_base.specs.declared.status.TheConstants.{OUT_OF_MEMORY, UNREAD_F
 use Rattle.form_base.specs.Answers.{Answer, AnswersDocument, AnswersFile, WithoutFiles}
 use Rattle.form_base.specs.Endings.{AreInTurn, AreThere, Decides, Ends, IsPrepared, IsMemoryRefusal, IsTaken, Prepares, PreparesWithoutFiles, StaysQuiet, Tells}
 use Rattle.form_base.specs.Loads.{HasRead, IsOutOfMemory, IsUnloaded, Loads}
-use Rattle.form_base.specs.Refusals.{memory_line, read_line, told}
+use Rattle.form_base.specs.Refusals.{memory_line, read_line, answer_of}
 
 -- Lemmas on fault counts: if the files are steady and the named files exist, reading them raises no fault count.
 
@@ -68,7 +68,7 @@ settled {T} A Rest files (Err refusal) below is = record {
   reads = [];
   grew = grew_none files;
   quiet = quiet_none [] files below;
-  answer = settled_answer A (told refusal).0 (told refusal).1 files is.0;
+  answer = settled_answer A (answer_of refusal).0 (answer_of refusal).1 files is.0;
   unread = λ same. absurd (is.1 same);
 }
 
@@ -128,7 +128,7 @@ document_reads {T} {U} Says Breaks limit long name names Then Rest value before 
   reads = (name, has.bytes) ∷ decides.reads;
   grew = grew_more before mid after ((name, has.bytes) ∷ []) decides.reads has.grew decides.grew;
   quiet = quiet_since name names before mid after ((name, has.bytes) ∷ []) has.grew steady decides.quiet;
-  answer = first_decided Says Breaks limit long name names Then value before mid after has decides.reads (told refusal).0 (told refusal).1 decides.answer;
+  answer = first_decided Says Breaks limit long name names Then value before mid after has decides.reads (answer_of refusal).0 (answer_of refusal).1 decides.answer;
   unread = λ same. rose_since before.faults mid.faults after.faults has.grew.count (decides.unread same);
 }
 
@@ -170,9 +170,9 @@ unloaded {T} Says Breaks limit long name names Then before after refusal (inr (i
     memory_unloaded Says Breaks limit long name names Then before after refusal is.1 is.0
 
 pub refused_reads : {T : Type 0} (Says : T → List ℕ → Type 0) (Breaks : ℕ × List ℕ → List ℕ → Type 0) (limit : ℕ) (long : ℕ × List ℕ) (name : List ℕ) (names : List (List ℕ)) (Then : T → Answer)
-    (before after : FilesState) (refusal : Refusal) → IsUnloaded Breaks limit long name before after (told refusal) → StaysSteady before after name
-    → ((told refusal).0 ≡ UNREAD_FILE → Rose before.faults after.faults)
-    → Decides (AnswersFile limit long name (AnswersDocument Says Breaks Then)) (name ∷ names) before after (told refusal).0 (told refusal).1
+    (before after : FilesState) (refusal : Refusal) → IsUnloaded Breaks limit long name before after (answer_of refusal) → StaysSteady before after name
+    → ((answer_of refusal).0 ≡ UNREAD_FILE → Rose before.faults after.faults)
+    → Decides (AnswersFile limit long name (AnswersDocument Says Breaks Then)) (name ∷ names) before after (answer_of refusal).0 (answer_of refusal).1
 refused_reads {T} Says Breaks limit long name names Then before after refusal is steady unread =
-    let found = unloaded Says Breaks limit long name names Then before after (told refusal) is in
+    let found = unloaded Says Breaks limit long name names Then before after (answer_of refusal) is in
     record { reads = found.reads; grew = found.grew; quiet = quiet_last name names before after steady; answer = found.answer; unread = unread }

@@ -9,7 +9,7 @@ use Rattle.form_base.specs.declared.status.TheConstants.{UNREAD_FILE}
 use Rattle.form_base.specs.Answers.{Answer}
 use Rattle.form_base.specs.Endings.{Decides, Prepares}
 use Rattle.form_base.specs.Loads.{HasRead, IsUnloaded}
-use Rattle.form_base.specs.Refusals.{told}
+use Rattle.form_base.specs.Refusals.{answer_of}
 use Rattle.form_base.specs.Specifications.{AsksSpecification, BreaksSpecification, SaysSpecification, long_specification}
 use Rattle.form_base.proofs.Reading.{document_reads, refused_reads}
 
@@ -22,8 +22,8 @@ specification_reads {U} name names Then Rest spec before mid after result has st
 
 -- If the specification was not loaded, the refusal is the answer to its file.
 pub specification_unread : (name : List ℕ) (names : List (List ℕ)) (Then : Parts → Answer) (before after : FilesState) (refusal : Refusal)
-    → IsUnloaded BreaksSpecification MAX_SPECIFICATION_BYTES long_specification name before after (told refusal) → StaysSteady before after name
-    → ((told refusal).0 ≡ UNREAD_FILE → Rose before.faults after.faults)
-    → Decides (AsksSpecification name Then) (name ∷ names) before after (told refusal).0 (told refusal).1
+    → IsUnloaded BreaksSpecification MAX_SPECIFICATION_BYTES long_specification name before after (answer_of refusal) → StaysSteady before after name
+    → ((answer_of refusal).0 ≡ UNREAD_FILE → Rose before.faults after.faults)
+    → Decides (AsksSpecification name Then) (name ∷ names) before after (answer_of refusal).0 (answer_of refusal).1
 specification_unread name names Then before after refusal is steady unread =
     refused_reads SaysSpecification BreaksSpecification MAX_SPECIFICATION_BYTES long_specification name names Then before after refusal is steady unread

@@ -4,7 +4,7 @@ use Rattle.scram_io.specs.Outside.{Agrees, FileMap, FilesState, Grew, History, R
 use Rattle.form_base.specs.declared.refusals.Refusal.{Refusal}
 use Rattle.form_base.specs.declared.status.TheConstants.{OUT_OF_MEMORY, UNREAD_FILE, UNWRITTEN_OUTPUT}
 use Rattle.form_base.specs.Answers.{Answer}
-use Rattle.form_base.specs.Refusals.{memory_line, told}
+use Rattle.form_base.specs.Refusals.{memory_line, answer_of}
 
 -- The status and the text are those of an out-of-memory refusal.
 abbrev pub IsMemoryRefusal : ℕ → List ℕ → Type 0
@@ -45,14 +45,14 @@ pub record IsPrepared (Answers : Answer) (Rest : ℕ → List ℕ → Type 0) (n
 -- which is the answer.
 abbrev pub Prepares : {T : Type 0} → Answer → (T → ℕ → List ℕ → Type 0) → List (List ℕ) → FilesState → FilesState → Result T Refusal → Type 0
 Prepares Answers Rest names before after (Ok value) = IsPrepared Answers (Rest value) names before after
-Prepares Answers Rest names before after (Err refusal) = Decides Answers names before after (told refusal).0 (told refusal).1
+Prepares Answers Rest names before after (Err refusal) = Decides Answers names before after (answer_of refusal).0 (answer_of refusal).1
 
 -- A decision was made without reading a file. The result is a value, from which the rest of the answer is made, or a
 -- refusal. The refusal is the answer or reports that the allocator was out of memory.
 abbrev pub PreparesWithoutFiles : {T : Type 0} → (ℕ → List ℕ → Type 0) → (T → ℕ → List ℕ → Type 0) → Result T Refusal → Type 0
 PreparesWithoutFiles Answers Rest (Ok value) = (status : ℕ) (text : List ℕ) → Rest value status text → Answers status text
 PreparesWithoutFiles Answers Rest (Err refusal) =
-    (Answers (told refusal).0 (told refusal).1 ⊎ IsMemoryRefusal (told refusal).0 (told refusal).1) × ((told refusal).0 ≢ UNREAD_FILE)
+    (Answers (answer_of refusal).0 (answer_of refusal).1 ⊎ IsMemoryRefusal (answer_of refusal).0 (answer_of refusal).1) × ((answer_of refusal).0 ≢ UNREAD_FILE)
 
 -- The sink took the text, and the code is the status of the text. If the sink failed, it took a prefix, and the code is
 -- 4.

@@ -3,7 +3,7 @@ use Rattle.std.specs.Prelude.{◌≡◌, ◌≢◌, ◌⊎◌, ◌≤◌, ℕ, L
 use Rattle.scram_io.specs.Outside.{FilesState, FoundLonger, Grew, Rose}
 use Rattle.form_base.specs.declared.refusals.Refusal.{Refusal}
 use Rattle.form_base.specs.declared.status.TheConstants.{OUT_OF_MEMORY, UNREAD_FILE}
-use Rattle.form_base.specs.Refusals.{memory_line, read_line, told}
+use Rattle.form_base.specs.Refusals.{memory_line, read_line, answer_of}
 
 -- Only the file of this name was read. It has at most `limit` bytes, and `Fact` holds for them.
 pub record HasRead (limit : ℕ) (name : List ℕ) (Fact : List ℕ → Type 0) (before after : FilesState) : Type 0 where
@@ -19,7 +19,7 @@ IsOutOfMemory refusal = refusal ≡ (OUT_OF_MEMORY, memory_line)
 -- The result of reading bytes is a value that they encode, or a refusal that reports a broken rule or out of memory.
 abbrev pub ReadsAs : {T : Type 0} → (T → List ℕ → Type 0) → (ℕ × List ℕ → List ℕ → Type 0) → List ℕ → Result T Refusal → Type 0
 ReadsAs Says Breaks bytes (Ok value) = Says value bytes
-ReadsAs Says Breaks bytes (Err refusal) = Breaks (told refusal) bytes ⊎ IsOutOfMemory (told refusal)
+ReadsAs Says Breaks bytes (Err refusal) = Breaks (answer_of refusal) bytes ⊎ IsOutOfMemory (answer_of refusal)
 
 -- The reason why a file was not loaded. Its bytes break a rule, it is too long, the files failed, or the allocator was
 -- out of memory before or after the reading.
@@ -35,4 +35,4 @@ IsUnloaded Breaks limit long name before after refusal =
 abbrev pub Loads : {T : Type 0} → (T → List ℕ → Type 0) → (ℕ × List ℕ → List ℕ → Type 0) → ℕ → ℕ × List ℕ → List ℕ
     → FilesState → FilesState → Result T Refusal → Type 0
 Loads Says Breaks limit long name before after (Ok value) = HasRead limit name (Says value) before after
-Loads Says Breaks limit long name before after (Err refusal) = IsUnloaded Breaks limit long name before after (told refusal)
+Loads Says Breaks limit long name before after (Err refusal) = IsUnloaded Breaks limit long name before after (answer_of refusal)

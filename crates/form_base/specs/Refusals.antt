@@ -26,8 +26,8 @@ line_text (Short line) = line
 line_text (Naming line) = string_bytes line
 
 -- The status and the line of a refusal.
-abbrev pub told : Refusal → ℕ × List ℕ
-told refusal = (code_of refusal.refused, line_text refusal.line)
+abbrev pub answer_of : Refusal → ℕ × List ℕ
+answer_of refusal = (code_of refusal.refused, line_text refusal.line)
 
 -- The line of an out-of-memory refusal.
 abbrev pub memory_line : List ℕ

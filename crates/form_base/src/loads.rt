@@ -3,7 +3,7 @@
 ghost use Rattle.std.specs.Prelude.{◌≡◌, ◌≢◌, IfErr, ℕ, List};
 ghost use Rattle.scram_io.specs.Outside.{Rose, StaysSteady};
 ghost use Rattle.form_base.specs.Loads.{Loads, ReadsAs};
-ghost use Rattle.form_base.specs.Refusals.{told};
+ghost use Rattle.form_base.specs.Refusals.{answer_of};
 ghost use Rattle.form_base.specs.declared.status.TheConstants.{UNREAD_FILE};
 
 use crate::refusals::Refusal;
@@ -31,12 +31,12 @@ pub trait Document<T> {
     /// Returns the refusal of the first rule that the bytes break, and the out-of-memory refusal if memory runs out.
     fn read(&self, alloc: Global, bytes: &[u8]) -> Result<T, Refusal>
         ensures reads { ReadsAs (Says self.now) (Breaks self.now) bytes.now result }
-        ensures other { IfErr result (λ refusal. (told refusal).0 ≢ UNREAD_FILE) };
+        ensures other { IfErr result (λ refusal. (answer_of refusal).0 ≢ UNREAD_FILE) };
 
     /// Returns the refusal of a file with more bytes than the limit.
     fn too_long(&self) -> Refusal
-        ensures is { told result ≡ long self.now }
-        ensures other { (told result).0 ≢ UNREAD_FILE };
+        ensures is { answer_of result ≡ long self.now }
+        ensures other { (answer_of result).0 ≢ UNREAD_FILE };
 }
 
 /// Reads the file of this name and returns the value that it encodes.
@@ -54,7 +54,7 @@ pub fn load<T, D: Document<T>, F: Files>(
     ensures loads { Loads (D.Says document.now) (D.Breaks document.now) (D.limit document.now) (D.long document.now) name.now
         (F.state files.old) (F.state files.new) result }
     ensures steady { StaysSteady (F.state files.old) (F.state files.new) name.now }
-    ensures unread { IfErr result (λ refusal. (told refusal).0 ≡ UNREAD_FILE → Rose (F.state files.old).faults (F.state files.new).faults) }
+    ensures unread { IfErr result (λ refusal. (answer_of refusal).0 ≡ UNREAD_FILE → Rose (F.state files.old).faults (F.state files.new).faults) }
 {
     match files.read(alloc, name, document.limit()) {
         Ok(bytes) => document.read(alloc, &bytes),

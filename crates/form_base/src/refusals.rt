@@ -1,7 +1,7 @@
 //! Refusals, which are printed instead of an answer. Each has a status and a line.
 
 ghost use Rattle.std.specs.Prelude.{◌≡◌};
-ghost use Rattle.form_base.specs.Refusals.{IsUnread, code_of, line_text, memory_line, told};
+ghost use Rattle.form_base.specs.Refusals.{IsUnread, code_of, line_text, memory_line, answer_of};
 ghost use Rattle.form_base.specs.declared.status.TheConstants.{OUT_OF_MEMORY};
 
 use crate::status;
@@ -72,7 +72,7 @@ pub struct Refusal {
 impl Refusal {
     /// Returns a refusal of this kind, with a line that is made without allocation.
     pub fn new(refused: Refused, line: Line) -> Refusal
-        ensures { told result ≡ (code_of refused, line) }
+        ensures { answer_of result ≡ (code_of refused, line) }
     {
         Refusal {
             refused,
@@ -82,7 +82,7 @@ impl Refusal {
 
     /// Returns the out-of-memory refusal.
     pub fn out_of_memory() -> Refusal
-        ensures { told result ≡ (OUT_OF_MEMORY, memory_line) }
+        ensures { answer_of result ≡ (OUT_OF_MEMORY, memory_line) }
     {
         let mut line = Line::new();
         line.text(b"refused: memory\n");
@@ -92,7 +92,7 @@ impl Refusal {
     /// Returns the refusal of a file that was not read. The line contains the file's name. If there is no memory for
     /// the line, the refusal is the out-of-memory refusal.
     pub fn unread(alloc: Global, name: &str) -> Refusal
-        ensures { IsUnread name.now (told result) }
+        ensures { IsUnread name.now (answer_of result) }
     {
         match format!(in alloc; "refused: read {name}\n") {
             Ok(line) => Refusal {

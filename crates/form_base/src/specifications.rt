@@ -3,7 +3,7 @@
 ghost use Rattle.std.specs.Prelude.{◌≡◌};
 ghost use Rattle.scram_types.specs.declared.limits.TheConstants.{MAX_SPECIFICATION_BYTES};
 ghost use Rattle.form_base.specs.Lines.{specification_line};
-ghost use Rattle.form_base.specs.Refusals.{told};
+ghost use Rattle.form_base.specs.Refusals.{answer_of};
 ghost use Rattle.form_base.specs.declared.status.TheConstants.{BROKEN_SPECIFICATION};
 ghost use Rattle.form_base.specs.Specifications.{BreaksSpecification, SaysSpecification, long_specification};
 
@@ -22,7 +22,7 @@ use std::alloc::Global;
 pub struct Specification;
 
 fn refuse(fault: &SpecFault) -> Refusal
-    ensures { told result ≡ (BROKEN_SPECIFICATION, specification_line fault.now) }
+    ensures { answer_of result ≡ (BROKEN_SPECIFICATION, specification_line fault.now) }
 {
     Refusal::new(Refused::Specification, make_specification_line(fault))
 }

@@ -2,7 +2,7 @@
 
 ghost use Rattle.form_base.specs.Endings.{IsTaken};
 ghost use Rattle.std.specs.Prelude.{◌≡◌};
-ghost use Rattle.form_base.specs.Refusals.{told};
+ghost use Rattle.form_base.specs.Refusals.{answer_of};
 ghost use Rattle.form_base.specs.Telling.{status_after};
 
 use crate::refusals::Refusal;
@@ -30,7 +30,7 @@ pub fn tell<K: Sink>(out: &mut K, code: u8, text: &[u8]) -> Status
 
 /// Writes the line of a refusal, and returns the refusal's status, or 4 if the sink fails.
 pub fn tell_refusal<K: Sink>(out: &mut K, refusal: &Refusal) -> Status
-    ensures { IsTaken (K.state out.old) (K.state out.new) result.code (told refusal.now).0 (told refusal.now).1 }
+    ensures { IsTaken (K.state out.old) (K.state out.new) result.code (answer_of refusal.now).0 (answer_of refusal.now).1 }
 {
     tell(out, refusal.refused.code(), refusal.line())
 }

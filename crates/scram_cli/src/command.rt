@@ -5,7 +5,7 @@ ghost use Rattle.scram_io.specs.Outside.{Rose};
 ghost use Rattle.form_base.specs.Answers.{Gives};
 ghost use Rattle.form_base.specs.Assurance.{Assured};
 ghost use Rattle.form_base.specs.Endings.{Completes, Ends, IsSent, IsTaken, Tells, WentOut};
-ghost use Rattle.form_base.specs.Refusals.{told};
+ghost use Rattle.form_base.specs.Refusals.{answer_of};
 ghost use Rattle.form_base.specs.declared.status.TheConstants.{ANSWERED, BROKEN_USAGE, UNREAD_FILE, UNWRITTEN_OUTPUT};
 ghost use Rattle.scram_cli.specs.Answers.{FlightFormAnswers, FormAnswers, LookAnswers, QuestionAnswers, usage_line};
 ghost use Rattle.scram_cli.specs.Assurance.{AssuresForm};
@@ -133,7 +133,7 @@ fn refuse_usage<K: Sink>(out: &mut K) -> Status
 
 // Returns the refusal of words that have no form.
 fn usage() -> Refusal
-    ensures { told result ≡ (BROKEN_USAGE, usage_line) }
+    ensures { answer_of result ≡ (BROKEN_USAGE, usage_line) }
 {
     let mut line = Line::new();
     line.text(b"refused: usage\n");

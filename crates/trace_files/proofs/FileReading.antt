@@ -10,7 +10,7 @@ use Rattle.form_base.specs.declared.status.TheConstants.{UNREAD_FILE}
 use Rattle.form_base.specs.Answers.{Answer}
 use Rattle.form_base.specs.Endings.{Decides, Prepares}
 use Rattle.form_base.specs.Loads.{HasRead, IsUnloaded}
-use Rattle.form_base.specs.Refusals.{told}
+use Rattle.form_base.specs.Refusals.{answer_of}
 use Rattle.form_base.proofs.Reading.{document_reads, refused_reads}
 use Rattle.trace_files.specs.Traces.{AsksTrace, BreaksTrace, SaysTrace, long_trace}
 
@@ -23,8 +23,8 @@ trace_reads {U} spec name names Then Rest value before mid after result has stea
 
 -- If the trace was not loaded, the refusal is the answer to its file.
 pub trace_unread : (spec : Parts) (name : List ℕ) (names : List (List ℕ)) (Then : Flown → Answer) (before after : FilesState) (refusal : Refusal)
-    → IsUnloaded (BreaksTrace spec) MAX_TRACE_BYTES long_trace name before after (told refusal) → StaysSteady before after name
-    → ((told refusal).0 ≡ UNREAD_FILE → Rose before.faults after.faults)
-    → Decides (AsksTrace spec name Then) (name ∷ names) before after (told refusal).0 (told refusal).1
+    → IsUnloaded (BreaksTrace spec) MAX_TRACE_BYTES long_trace name before after (answer_of refusal) → StaysSteady before after name
+    → ((answer_of refusal).0 ≡ UNREAD_FILE → Rose before.faults after.faults)
+    → Decides (AsksTrace spec name Then) (name ∷ names) before after (answer_of refusal).0 (answer_of refusal).1
 trace_unread spec name names Then before after refusal is steady unread =
     refused_reads (SaysTrace spec) (BreaksTrace spec) MAX_TRACE_BYTES long_trace name names Then before after refusal is steady unread

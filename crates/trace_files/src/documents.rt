@@ -2,7 +2,7 @@
 
 ghost use Rattle.std.specs.Prelude.{◌≡◌};
 ghost use Rattle.scram_types.specs.declared.limits.TheConstants.{MAX_TRACE_BYTES};
-ghost use Rattle.form_base.specs.Refusals.{told};
+ghost use Rattle.form_base.specs.Refusals.{answer_of};
 ghost use Rattle.form_base.specs.declared.status.TheConstants.{BROKEN_TRACE};
 ghost use Rattle.trace_files.specs.Traces.{BreaksTrace, SaysTrace, long_trace};
 ghost use Rattle.trace_files.specs.Lines.{broken_trace_line};
@@ -22,7 +22,7 @@ pub struct Trace<'a> {
 }
 
 fn refuse(fault: TraceFault) -> Refusal
-    ensures { told result ≡ (BROKEN_TRACE, broken_trace_line fault) }
+    ensures { answer_of result ≡ (BROKEN_TRACE, broken_trace_line fault) }
 {
     Refusal::new(Refused::Trace, make_broken_trace_line(fault))
 }

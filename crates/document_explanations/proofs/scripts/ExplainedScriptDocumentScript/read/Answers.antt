@@ -1,6 +1,6 @@
 use Rattle.std.proofs.Common.{◌≡◌, Err, refl}
 use Rattle.fault_script.specs.Reading.{script_of}
-use Rattle.form_base.specs.Refusals.{told}
+use Rattle.form_base.specs.Refusals.{answer_of}
 use Rattle.form_base.specs.declared.status.TheConstants.{BROKEN_SCRIPT}
 use Rattle.flight_forms.specs.Lines.{script_line}
 use Rattle.document_explanations.specs.Scripts.{BreaksExplainedScript, explained_script_text}
@@ -12,8 +12,8 @@ returns-in-Err-Fault-clause-reads c =
     let spec = c.args.self.now.spec.now in
     let fault = c.in-Err-Fault.fault in
     let value : script_of spec c.args.bytes.now ≡ Err fault = rw (c.in-Err-Fault.field-0-is) at c.in-Err-Fault.ensures.script in
-    let explains : told c.refuse.result ≡ (BROKEN_SCRIPT, explained_script_text spec fault c.args.bytes.now)
-    → BreaksExplainedScript spec (told c.refuse.result) c.args.bytes.now = λ is. record {
+    let explains : answer_of c.refuse.result ≡ (BROKEN_SCRIPT, explained_script_text spec fault c.args.bytes.now)
+    → BreaksExplainedScript spec (answer_of c.refuse.result) c.args.bytes.now = λ is. record {
       first = (BROKEN_SCRIPT, script_line fault);
       breaks = record { fault = fault; is = value; line = refl };
       text = is;

@@ -2,7 +2,7 @@ use Rattle.std.proofs.Common.{◌≡◌, Err, refl}
 use Rattle.spec_apps.specs.Answers.{CycleAmong, NamedAmong}
 use Rattle.reconf_spec.specs.Documents.{spec_of, unranked_of}
 use Rattle.form_base.specs.Lines.{specification_line}
-use Rattle.form_base.specs.Refusals.{told}
+use Rattle.form_base.specs.Refusals.{answer_of}
 use Rattle.form_base.specs.declared.status.TheConstants.{BROKEN_SPECIFICATION}
 use Rattle.document_explanations.specs.Specifications.{BreaksExplainedSpecification, explained_specification_text}
 use Rattle.document_explanations.proofs.Explained.{either}
@@ -14,8 +14,8 @@ returns-in-Err-Fault-clause-reads c =
     let value : spec_of c.args.bytes.now ≡ Err (record { rule = fault.rule; path = fault.path }) = rw (c.in-Err-Fault.field-0-is) at c.in-Err-Fault.ensures.value in
     let shows : CycleAmong (unranked_of c.args.bytes.now) fault.cycle.items × NamedAmong (unranked_of c.args.bytes.now) fault.cycle.items fault.names.items =
     rw (c.in-Err-Fault.field-0-is) at c.in-Err-Fault.ensures.cycle in
-    let explains : told c.refuse.result ≡ (BROKEN_SPECIFICATION, explained_specification_text fault c.args.bytes.now)
-    → BreaksExplainedSpecification (told c.refuse.result) c.args.bytes.now = λ is. record {
+    let explains : answer_of c.refuse.result ≡ (BROKEN_SPECIFICATION, explained_specification_text fault c.args.bytes.now)
+    → BreaksExplainedSpecification (answer_of c.refuse.result) c.args.bytes.now = λ is. record {
       first = (BROKEN_SPECIFICATION, specification_line fault);
       breaks = record {
         fault = record { rule = fault.rule; path = fault.path };
