@@ -16,7 +16,7 @@ abbrev pub course_changes_at : Plan → (ℕ → Env) → ℕ → Bool
 course_changes_at plan env zero = false
 course_changes_at plan env (suc f) = plan.differ (env f) (env (suc f))
 
--- The number of change frames up to a frame.
+-- The number of change frames up to and including a frame.
 abbrev pub course_changes_upto : Plan → (ℕ → Env) → ℕ → ℕ
 course_changes_upto plan env zero = 0
 course_changes_upto plan env (suc f) = course_changes_upto plan env f + (if plan.differ (env f) (env (suc f)) then 1 else 0)

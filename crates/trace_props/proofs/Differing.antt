@@ -1,4 +1,5 @@
--- The reports, compared with the reconfigurations that are read.
+-- The comparison of the reports with the reconfigurations that are read gives the frame in which SP1 is broken, or a
+-- proof that SP1 holds.
 use Rattle.std.proofs.Common.{◌≡◌, ℕ, zero, suc, ◌+◌, ◌-◌, ◌<◌, ◌≤◌, true, false, refl, arith, ap, sym, ◌∙◌, List, [], ◌∷◌, length, ◌⊎◌}
 use mathlib.Core.Logic.{inl, inr}
 use Rattle.std.specs.Prelude.{Option, Some, None, min, slice_get, ◌==◌, ◌&&◌}
@@ -106,7 +107,7 @@ agrees_all spec rows told all (r ∷ read) place rest s h =
     let here : slice_get all place ≡ Some r = ap (slice_get all) (omega arith) ∙ rest 0 in
     agrees_all spec rows told all read (suc place) (λ k. ap (slice_get all) (omega arith) ∙ rest (suc k)) (judge spec rows told s (Some r)) (agrees_next told all place r here s.agreement h)
 
--- If two lists differ, then they have one first difference, in one frame.
+-- Lemmas that two lists that differ have only one first difference, so that SP1 is broken in only one frame.
 places : (a b : ℕ) → (a < b) ⊎ ((b < a) ⊎ (a ≡ b))
 places a b = grind arith
 

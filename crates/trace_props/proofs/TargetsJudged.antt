@@ -1,4 +1,5 @@
--- The frame in which a reconfiguration breaks SP2 or SP3, or a proof that it keeps them.
+-- The judging of SP2 and SP3 gives the frame in which a reconfiguration breaks them, or a proof that the
+-- reconfiguration keeps them.
 use Rattle.std.proofs.Common.{◌≡◌, ℕ, ◌+◌, ◌-◌, ◌<◌, ◌≤◌, Bool, true, false, refl, arith, ap, sym, ◌∙◌, List}
 use Rattle.std.specs.Prelude.{Option, Some, None, slice_get, ◌==◌, nat_le, option_map}
 use Rattle.scram_types.specs.declared.ids.ConfId.{ConfId}
