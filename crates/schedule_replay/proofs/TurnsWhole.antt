@@ -129,7 +129,7 @@ module _ (m : Flight) (y : Flies m) where
     went = down_went s p f (s.at.proc p) frame down (kept.placed p low) w;
   }
 
-  -- The machine is at the begin of frame `f`.
+  -- The kernel is at the begin of frame `f`, and the turn of each processor in the frame is still to come.
   record Begun (s : Machine) (f : ℕ) : Type 0 where
     kept : Kept m s.at s.words
     frame : s.at.frame ≡ f
