@@ -1,4 +1,4 @@
--- The number of frames in which the units have noted every processor, before and after an event.
+-- Lemmas on the number of frames in which a unit has noted every processor, before and after an event.
 use Rattle.std.proofs.Common.{◌≡◌, ◌∙◌, ℕ, suc, ◌<◌, ◌≤◌, refl, ap, sym, arith}
 use Rattle.std.specs.Prelude.{Option, Some, nat_le, if◌then◌else◌}
 use Rattle.std.proofs.lemmas.Bool.Decides.{nat_tests}

@@ -1,4 +1,5 @@
--- The words that a processor reads when it makes a frame, and those that a unit notes.
+-- Lemmas that a processor that makes a frame reads the words of that frame, and that a unit notes the marks and
+-- images after its frame.
 use Rattle.std.proofs.Common.{◌≡◌, ℕ, suc, ◌+◌, ◌%◌, ◌<◌, ◌≤◌, true, refl, sym, ap, subst, ◌∙◌, arith}
 use Rattle.std.specs.Prelude.{Option, Some, None}
 use Rattle.std.proofs.lemmas.Bool.Decides.{nat_tests}
