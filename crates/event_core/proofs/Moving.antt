@@ -1,4 +1,4 @@
--- The places of processors after one of them has moved.
+-- Lemmas on the places of all actors after one processor has moved.
 use Rattle.std.proofs.Common.{◌≡◌, ◌∙◌, ℕ, ◌<◌, Bool, true, false, refl, ap, sym, subst, arith, List, length}
 use Rattle.std.specs.Prelude.{nat_eq, slice_set, if◌then◌else◌}
 use Rattle.std.proofs.lemmas.Bool.Decides.{nat_tests}

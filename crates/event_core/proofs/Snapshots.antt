@@ -1,4 +1,4 @@
--- The snapshot of a processor that has looked.
+-- Lemmas that the words that a processor that has looked reads are the snapshot of its frame.
 use Rattle.std.proofs.Common.{◌≡◌, ◌∙◌, ◌⊎◌, ℕ, pos, ◌<◌, ◌≤◌, false, refl, ap, sym, subst, arith, List, ◌∷◌, length}
 use Rattle.std.specs.Prelude.{nat_le, nat_lt, slice_index_or}
 use Rattle.std.proofs.lemmas.Bool.Decides.{nat_tests}
