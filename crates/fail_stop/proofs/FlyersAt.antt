@@ -1,4 +1,4 @@
--- Processors in flight at the places of the machine, after a start and after a halt.
+-- Lemmas that processors in flight are at their places in the machine after a start and after a halt.
 use Rattle.std.proofs.Common.{◌≡◌, ◌∙◌, ◌+◌, ◌<◌, ◌≤◌, ℕ, ap, arith, refl, subst, sym, true, false, List, [], ◌∷◌, ◌++◌, length}
 use Rattle.std.specs.Prelude.{Option, Some, None, is_some, map, slice_index_or, slice_set}
 use native.Mathlib.Decide.{ℕ_discrete}

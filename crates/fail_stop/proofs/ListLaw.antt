@@ -20,7 +20,7 @@ module _ (m : Flight) (at : Places) (words : Word → ℕ) where
   acting : (p : ℕ) (e : Event) → (if nat_lt p m.procs then next_from m p (words ReleaseWord) (at.proc p) else None) ≡ Some e → p < m.procs
   acting p e i = is_less p m.procs (gate (nat_lt p m.procs) (next_from m p (words ReleaseWord) (at.proc p)) e i).0
 
-  -- An event writes an existing word.
+  -- If an event that is the next of its actor writes a word, then the word exists.
   pub target : (e : Event) → IsNext m at words e → IsTarget m (writes m at words e)
   target (Start p) i = tt
   target (Look p q) i = tt
