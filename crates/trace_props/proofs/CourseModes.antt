@@ -1,4 +1,4 @@
--- The kernel's mode and its decision at the start of a frame.
+-- Definitions of the kernel's mode over a course, and of its decision at the start of a frame.
 use Rattle.std.specs.Prelude.{ℕ, ◌+◌, ◌-◌, Bool, true, ◌&&◌, Option, Some, None, if◌then◌else◌, nat_eq, nat_lt, nat_le}
 use Rattle.scram_types.specs.declared.rows.Env.{Env}
 use Rattle.trace_props.proofs.Plans.{Plan, plan_halting}

@@ -1,4 +1,5 @@
--- Modes, the reading of rows and its reports, over environments and rows as functions of the frame.
+-- Definitions of a course, which gives environments and rows as functions of the frame, and of its modes, the reading
+-- of its rows and its reports.
 use Rattle.std.specs.Prelude.{◌≡◌, ℕ, zero, suc, ◌+◌, ◌-◌, ◌<◌, ◌≤◌, Bool, true, false, ◌&&◌, Option, Some, None, if◌then◌else◌}
 use Rattle.scram_types.specs.declared.rows.Env.{Env}
 use Rattle.trace_props.proofs.Plans.{Plan}

@@ -19,7 +19,7 @@ use Rattle.trace_props.specs.Judging.{begin_told, compare, compare_with, differe
 use Rattle.trace_props.proofs.Firsts.{IsLeastOf}
 use Rattle.trace_props.proofs.Tests.{by_test}
 
--- Lemmas on equal reports.
+-- Lemmas that the test of two reports for equality decides whether they are equal.
 pub same_id : (c d : ConfId) → (c.0 == d.0) ≡ true → c ≡ d
 same_id c d h = ap conf_id (equal c.0 d.0 h)
 
@@ -52,7 +52,7 @@ report_self one =
     and_true (one.from.0 == one.from.0 && is_same_target one.to one.to && one.begin == one.begin) _
     (and_true (one.from.0 == one.from.0 && is_same_target one.to one.to) _ (and_true (one.from.0 == one.from.0) _ (equal_test one.from.0 one.from.0 refl) (target_self one.to)) (equal_test one.begin one.begin refl)) (equal_test one.end one.end refl)
 
--- Lemmas on equal lists.
+-- Lemmas that two lists of reports are equal if they are equal at each index.
 past_none : (k : ℕ) → slice_get {X = Report} [] k ≡ None
 past_none k = slice_get_past {X = Report} [] k (omega arith)
 

@@ -1,4 +1,5 @@
--- The promises for each reconfiguration that is read off the rows.
+-- Definitions of the promises for each reconfiguration that is read off the rows, and of the central facts on its
+-- moving frames.
 use Rattle.std.specs.Prelude.{◌≡◌, ℕ, suc, ◌+◌, ◌-◌, ◌*◌, ◌<◌, ◌≤◌, ◌⊎◌, true, false, Option, Some}
 use Rattle.trace_props.proofs.Plans.{Plan, IsAcceptedPlan, plan_further, plan_halting}
 use Rattle.trace_props.proofs.CourseModes.{CourseMode, CourseMode.Stable, CourseMode.Moving}

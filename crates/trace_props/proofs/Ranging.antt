@@ -112,7 +112,7 @@ eight_or value d (suc (suc (suc (suc (suc (suc zero)))))) h = refl
 eight_or value d (suc (suc (suc (suc (suc (suc (suc zero))))))) h = refl
 eight_or value d (suc (suc (suc (suc (suc (suc (suc (suc a)))))))) h = absurd (omega arith)
 
--- The task of an order.
+-- The kernel's task for an order of a course.
 abbrev pub task_of_order : CourseOrder → Task
 task_of_order (Run p) = tasks.task_at order.Run p
 task_of_order (Halt k n p) = tasks.task_at (order.Halt k n) p

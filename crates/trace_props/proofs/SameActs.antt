@@ -27,7 +27,7 @@ use Rattle.trace_props.proofs.CourseRows.{CoursePhase, CourseOrder, CourseAct, C
 use Rattle.trace_props.proofs.Products.{build_of, course_of, course_mode_of, course_phase_of, plan_of, runs_in_row}
 use Rattle.trace_props.proofs.SameModes.{same_mode}
 
--- The act that a row shows.
+-- The act that a row shows for an act of a course.
 abbrev pub shown : CourseAct → told_acts.Act
 shown (Ran p) = act.Ran p.mode p.proc
 shown (Halted k n p) = act.Halting k n p.proc

@@ -26,7 +26,7 @@ told_reading (Leaving c s) = told.Leaving (conf_id c) s
 abbrev pub told_report : CourseReport → told_reports.Report
 told_report r = record { from = conf_id r.from; to = Some (conf_id r.to); begin = r.begin; end = r.end }
 
--- The rows of the first `n` frames.
+-- The rows of the first `n` frames of a script.
 abbrev pub rows_below : Parts → ScriptParts → ℕ → List Row
 rows_below spec script n = listed_below (row_at spec script) n
 

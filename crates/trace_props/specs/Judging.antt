@@ -142,8 +142,8 @@ lesser_frame None other = other
 lesser_frame (Some one) None = Some one
 lesser_frame (Some one) (Some other) = Some (min one other)
 
--- The smaller of the frame `least` that was found before and the first frame in which an invariant of the list is
--- broken. If only one of the two is present, it is that frame, and if neither is, it is `None`.
+-- The first frame in which an invariant of the list is broken, or `least`, a frame that was found before, if that is
+-- smaller or the only one. It is `None` if there is neither.
 abbrev pub least_unkept : List Row → Report → Option ℕ → List Invariant → Option ℕ
 least_unkept rows r least [] = least
 least_unkept rows r least (inv ∷ invs) = least_unkept rows r (lesser_frame least (unkept_from rows r inv)) invs
