@@ -72,7 +72,8 @@ module _ (m : Flight) (halt : Option UnitHalt) (s : Pair) (y : Flies m) (k : Pai
       let c = readies_low m (s.unit u).frame (s.unit u).step low in
       both u l (λ (w : ℕ). (s.unit w).frame ≤ (s.unit u).frame) (omega arith) (omega (arith, a, b, c)) v lv
 
-  -- A processor that unit `u` may note has its mark and its image after the unit's frame.
+  -- The mark and the image of processor `p` are those after the frame of unit `u`, and the frame that `p` makes next
+  -- is later.
   pub record Told (u p : ℕ) : Type 0 where
     pub ahead : (f : ℕ) → frame_to_make (m.restart p) (s.proc p).place ≡ Some f → (s.unit u).frame < f
     pub mark : (s.proc p).mark ≡ mark_before m p (suc (s.unit u).frame)

@@ -59,7 +59,7 @@ module _ (m : Flight) (halt : Option UnitHalt) (s : Pair) (y : Flies m) (k : Pai
     x : IsUnit m halt u (s.unit u)
     x = k.units u l
 
-    -- Once a unit has noted all processors, each processor makes a frame later than the unit's frame next.
+    -- Once a unit has noted all processors, the frame that each processor makes next is later than the unit's frame.
     past_notes : (j : ℕ) → m.procs ≤ (s.unit u).step → (p : ℕ) → p < m.procs → (f : ℕ) → frame_to_make (m.restart p) (s.proc p).place ≡ Some f → NotBelow (s.unit u).frame j p f
     past_notes j low p lp f e = let a = k.ahead u p l lp f e in let b = a.1 (omega arith) in (a.0, λ g. b)
 
