@@ -24,7 +24,7 @@ times_le zero b c le = omega arith
 times_le (suc a) zero c le = absurd (omega arith)
 times_le (suc a) (suc b) c le = let less = times_le a b c (omega arith) in grind (arith, less)
 
--- If one part of a sum decreases and the others stay equal, then the sum decreases.
+-- If the number of events left decreases for processor `p` and stays the same for all others, then the sum decreases.
 pub sum_less : (m : Flight) (at at2 : Places) (p n : ℕ) → p < n → left_at m (at2.proc p) < left_at m (at.proc p)
     → ((q : ℕ) → q ≢ p → left_at m (at2.proc q) ≡ left_at m (at.proc q)) → left_below m at2 n < left_below m at n
 sum_less m at at2 p zero low less same = absurd (omega arith)
