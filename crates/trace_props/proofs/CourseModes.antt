@@ -12,7 +12,7 @@ abbrev pub course_target : CourseMode → ℕ
 course_target (Stable c) = c
 course_target (Moving from halting to since) = to
 
--- Whether the orders of the frame are to run the target.
+-- Whether the orders of a frame in a mode are to run the mode's target.
 abbrev pub course_is_running : Plan → CourseMode → ℕ → Bool
 course_is_running plan (Stable c) frame = true
 course_is_running plan (Moving from halting to since) frame = nat_le (plan_halting plan halting + plan.preparing to + plan.initialising to) (frame - since)

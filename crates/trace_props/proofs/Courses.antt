@@ -68,7 +68,8 @@ pub record IsCourseWithin (plan : Plan) (course : Course) : Type 0 where
   pub scope : (f : ℕ) → f ≤ course.frames → plan.in_scope (course.env f) ≡ true
   pub few : (f : ℕ) → f ≤ course.frames → course_changes_upto plan course.env f ≤ course_changes_upto plan course.env (f - plan.window) + plan.changes + 1
 
--- The contents of row `f` agree with a mode.
+-- Row `f` agrees with a mode. It runs no configuration but the mode's target, and that only if the mode is to run it.
+-- If it is to run the target and does not, the target cannot run in this frame's environment or in the next.
 pub record CourseRowUnder (plan : Plan) (course : Course) (f : ℕ) (mode : CourseMode) : Type 0 where
   pub only : (j : ℕ) → course.runs f j ≡ true → (course_is_running plan mode f ≡ true) × (course_target mode ≡ j)
   pub lost : course_is_running plan mode f ≡ true → course.runs f (course_target mode) ≡ false → plan.is_runnable (course_target mode) (course.env f) ≡ true → plan.is_runnable (course_target mode) (course.env (suc f)) ≡ false

@@ -45,7 +45,8 @@ pub record IsCourseAllAssured (plan : Plan) (course : Course) : Type 0 where
 abbrev pub Reconfigures : Type 0
 Reconfigures = (plan : Plan) (course : Course) → IsAcceptedPlan plan → IsCourseWithin plan course → IsCourseFlown plan course → IsCourseAllAssured plan course
 
--- The first moving frame of a reconfiguration that began in frame `s`.
+-- The first moving frame of a reconfiguration that began in frame `s`, given the mode of that frame. It is `s` if the
+-- mode is a moving one, or else the frame after `s`.
 abbrev pub course_first_moving_in : CourseMode → ℕ → ℕ
 course_first_moving_in (Stable c) s = suc s
 course_first_moving_in (Moving from halting to since) s = s
