@@ -14,7 +14,7 @@ use Rattle.fail_stop.proofs.Plans.{gate}
 is_same : (p q : ℕ) → nat_eq p q ≡ true → q ≡ p
 is_same p q e = grind (arith, nat_tests)
 
--- If the event that is reported equals an event of processor `p`, then it is an event of `p`.
+-- If `x` is an event of processor `p` and equals `e`, then `e` is an event of `p`.
 told : (p : ℕ) (x e : Event) → is_actor x p ≡ true → Some x ≡ Some e → is_actor e p ≡ true
 told p x e own is = let same : x ≡ e = cc in subst (λ (e : Event). is_actor e p ≡ true) same own
 

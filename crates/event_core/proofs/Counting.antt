@@ -1,4 +1,4 @@
--- Releases and notes, event by event.
+-- Lemmas that the numbers of releases and notes agree with the kernel's place after each event.
 use Rattle.std.proofs.Common.{◌≡◌, ◌∙◌, ℕ, suc, ◌+◌, ◌*◌, ◌/◌, ◌<◌, ◌≤◌, true, false, refl, ap, sym, subst, arith, List, [], ◌∷◌, length}
 use Rattle.std.specs.Prelude.{min, nat_le}
 use Rattle.std.proofs.lemmas.Bool.Decides.{nat_tests}
@@ -24,7 +24,7 @@ use Rattle.event_core.specs.Replays.{IsReplay}
 use Rattle.event_core.proofs.Ending.{ended_by}
 
 module _ (m : Flight) where
-  -- The number of notes in all previous frames and in this one.
+  -- The number of notes in all frames before the kernel's frame and in that frame so far.
   abbrev noted : Places → ℕ
   noted at = m.procs * at.frame + min at.step m.procs
 

@@ -24,7 +24,7 @@ times_le zero b c le = omega arith
 times_le (suc a) zero c le = absurd (omega arith)
 times_le (suc a) (suc b) c le = let less = times_le a b c (omega arith) in grind (arith, less)
 
--- If one part of a sum decreases and the others stay equal, then the sum decreases.
+-- If the number of events left decreases for processor `p` and stays the same for all others, then the sum decreases.
 pub sum_less : (m : Flight) (at at2 : Places) (p n : ℕ) → p < n → left_at m (at2.proc p) < left_at m (at.proc p)
     → ((q : ℕ) → q ≢ p → left_at m (at2.proc q) ≡ left_at m (at.proc q)) → left_below m at2 n < left_below m at n
 sum_less m at at2 p zero low less same = absurd (omega arith)
@@ -45,7 +45,7 @@ sum_less m at at2 p (suc n) low less same = elim (ends p n low) [
   sum_same zero all = refl
   sum_same (suc k) all = let front = sum_same k (λ q below. all q (omega arith)) in let here = all k (omega arith) in omega (arith, front, here)
 
--- If a processor has an event at the opening, then the flight has a frame.
+-- If a processor has a next event at the opening, then the flight has a frame.
 begun_flies : (m : Flight) (words : Word → ℕ) (p : ℕ) (e : Event) → next_of m opening_places words p ≡ Some e → 0 < m.frames
 begun_flies m words p e i =
     let a = (gate (nat_lt p m.procs) (next_from m p (words ReleaseWord) (At 0 0)) e i).1 in
@@ -62,7 +62,7 @@ first_flies m words (KNote p) i = is_less 0 m.frames (gate (nat_lt 0 m.frames) _
 first_flies m words (KStore x) i = is_less 0 m.frames (gate (nat_lt 0 m.frames) _ (KStore x) i).0
 first_flies m words Release i = is_less 0 m.frames (gate (nat_lt 0 m.frames) _ Release i).0
 
--- If some event is next after a schedule, then the flight has a frame.
+-- If some actor has a next event after a schedule, then the flight has a frame.
 pub has_frames : (m : Flight) (es : List Event) (t : Machine) (e : Event) → IsSchedule m (opening m) es t → IsNext m t.at t.words e → 0 < m.frames
 has_frames m [] t e is next = first_flies m (opening_words m) e (subst (λ (s : Machine). IsNext m s.at s.words e) is next)
 has_frames m (x ∷ es) t e is next = first_flies m (opening_words m) x is.0

@@ -1,4 +1,4 @@
--- Processors in flight after an event of the machine.
+-- Lemmas that processors in flight are at their places after an event of the machine.
 use Rattle.std.proofs.Common.{◌≡◌, ◌∙◌, ◌<◌, ℕ, ℤ, suc, ap, arith, refl, subst, sym, Bool, true, false, List, length}
 use Rattle.std.specs.Prelude.{Option, Some, None, is_some, if◌then◌else◌, nat_eq, nat_lt, ◌&&◌, slice_index_or, slice_set}
 use native.Mathlib.Decide.{ℕ_discrete}
@@ -60,7 +60,7 @@ module _ {X : Type 0} {Y : X → Type 0} (m : Flight) where
           spare = λ s again later. let same : r ≡ s = cc in absurd (omega (arith, same, later));
         }
 
-  -- After a start that is next, a processor is at its new place.
+  -- If the start of a processor is its next event, then the processor is at its new place after the start.
   pub flyer_begun : (at : Places) (words : Word → ℕ) (p : ProcId) (flyer : Flyer X Y) → p.0 < m.procs → IsNext m at words (Start p) → IsFlyerAt m p.0 (at.proc p.0) flyer
       → IsFlyerAt m p.0 (moved m (Start p) p.0 (at.proc p.0)) (flyer_started flyer)
   flyer_begun at words p flyer known next is = let low : nat_lt p.0 m.procs ≡ true = grind (arith, nat_tests, known) in begun_at p.0 (words ReleaseWord) (at.proc p.0) (Start p) flyer (sym (rw low refl) ∙ next) is
@@ -69,7 +69,7 @@ module _ {X : Type 0} {Y : X → Type 0} (m : Flight) where
   still_down p h (Up live) is = let down = is.down in cc
   still_down p h (Down halted) is = is
 
-  -- After a halt at its place, a processor is at the place of the halt.
+  -- A processor in flight that halts is at the place of a halt in its frame.
   pub flyer_stopped : (p : ℕ) (place : Place) (flyer : Flyer X Y) → IsFlyerAt m p place flyer → IsFlyerAt m p (halted_there place) (flyer_halted (frame_of place) flyer)
   flyer_stopped p (At f n) flyer is = record { unit = unit_stopped p (At f n) flyer.unit is.unit refl; spare = is.spare }
   flyer_stopped p (Halted h) flyer is = record { unit = still_down p h flyer.unit is.unit; spare = is.spare }
@@ -102,7 +102,7 @@ pub drafted_by : (spec own : Parts) (script : ScriptParts) (p q f : ℕ) (snap :
 drafted_by spec own script p q f snap image same facts known number shown trace =
     trace script f facts (rw number known) (subst (λ spec. IsSnapshot spec script f snap) same shown) ∙ ap (λ q. draft own script q f) number ∙ ap (λ spec. draft spec script p f) (sym same)
 
--- The processors fly with a core before and after each event.
+-- Lemmas that the processors fly with a core at the opening and after each event.
 module _ {X : Type 0} {Y : X → Type 0} where
   pub fly_first : (core : CoreParts) (flyers : Flyers X Y) → core.places ≡ kept_opening → FlyersFit core.spec core.script (λ p. At 0 0) flyers → FlyBy core flyers
   fly_first core flyers is fits =

@@ -1,4 +1,4 @@
--- The images that are read are those of the trace.
+-- The images that a reader in a frame finds are those of the one-thread trace.
 use Rattle.std.proofs.Common.{◌≡◌, ◌∙◌, ℕ, ℤ, pos, ◌<◌, ◌≤◌, true, false, ap, refl, arith, List, length}
 use Rattle.std.specs.Prelude.{nat_lt, slice_index_or}
 use Rattle.std.proofs.lemmas.Bool.Decides.{nat_tests}

@@ -1,4 +1,4 @@
--- The places of processors after one of them has moved.
+-- Lemmas on the places of all actors after one processor has moved.
 use Rattle.std.proofs.Common.{◌≡◌, ◌∙◌, ℕ, ◌<◌, Bool, true, false, refl, ap, sym, subst, arith, List, length}
 use Rattle.std.specs.Prelude.{nat_eq, slice_set, if◌then◌else◌}
 use Rattle.std.proofs.lemmas.Bool.Decides.{nat_tests}
@@ -23,7 +23,7 @@ pub proc_set : (m : Flight) (e : Event) (procs : List KeptPlace) (p q : ℕ) (x 
     → machine_place (kept_place (slice_set procs p x) q) ≡ (if nat_eq q p then moved m e q (machine_place (kept_place procs q)) else machine_place (kept_place procs q))
 proc_set m e procs p q x low moves = ap machine_place (place_set procs p q x low) ∙ set_by m e procs p q x (nat_eq q p) refl moves
 
--- An event of processor `p` moves only `p`.
+-- If only processor `p` has moved, as its event `e` requires, then `e` takes places `at` to places `at2`.
 pub moves_of : (m : Flight) (at at2 : KeptPlaces) (e named : Event) (p : ℕ) → e ≡ named → ((q : ℕ) → is_actor named q ≡ nat_eq q p)
     → frame_after (machine_places at) named ≡ at.frame → step_after (machine_places at) named ≡ at.step
     → ((q : ℕ) → machine_place (kept_place at2.procs q) ≡ (if nat_eq q p then moved m named q (machine_place (kept_place at.procs q)) else machine_place (kept_place at.procs q)))

@@ -1,4 +1,4 @@
--- The marks and images that the kernel is given at the end of a frame.
+-- Lemmas that the marks and images that the kernel is given at the end of a frame are those of the one-thread trace.
 use Rattle.std.proofs.Common.{◌≡◌, ◌∙◌, ℕ, suc, ℤ, ◌+◌, ◌*◌, ◌/◌, ◌%◌, ◌<◌, ◌≤◌, refl, ap, sym, subst, arith, true, List, length}
 use Rattle.std.specs.Prelude.{nat_le}
 use Rattle.std.proofs.lemmas.Bool.Decides.{nat_tests}
@@ -26,7 +26,8 @@ pick_of count bank f low small =
     let early : nat_le count f ≡ true = grind (arith, nat_tests, low) in
     rw (half, rest, early) refl
 
--- A reader in frame `f` of the mark after all earlier frames takes the bank of the image.
+-- The mark of a processor after all frames before `f` leads a reader in frame `f` to the bank that holds the
+-- processor's image.
 picked : (spec : Parts) (script : ScriptParts) (p f : ℕ) → pick (mark_after spec script p f) f ≡ image_bank_after spec script p f
 picked spec script p f = pick_of (last_count spec script p f) (image_bank_after spec script p f) f (last_low spec script p f) (bank_low spec script p f)
 
@@ -40,7 +41,7 @@ module _ (spec : Parts) (script : ScriptParts) (stored : List ℕ) (k : ℕ) (fe
       let bank : bank_taken stored (suc k) p ≡ image_bank_after spec script p (suc k) = ap (λ mark. pick mark (suc k)) n.mark ∙ picked spec script p (suc k) in
       rw bank (n.held i inside)
 
--- The marks after frame `k` are the marks of a kernel after frame `k`.
+-- The marks after frame `k` are those after the current frame of a kernel that has ended `k` frames.
 pub marks_of : (kernel : KernelParts) (spec : Parts) (script : ScriptParts) (k : ℕ) (marks : List ℕ) → kernel ≡ kernel_after spec script k → AreMarks spec script (suc k) marks
     → AreMarks kernel.spec kernel.script (kernel.past + 1) marks
 marks_of kernel spec script k marks is are =

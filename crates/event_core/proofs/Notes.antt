@@ -1,4 +1,4 @@
--- The next events of actors, by the tests on the way to them.
+-- Lemmas that the outcomes of the tests in the code decide the next event of an actor.
 use Rattle.std.proofs.Common.{◌≡◌, ℕ, ◌<◌, true, arith}
 use Rattle.std.specs.Prelude.{Option, Some, None, nat_lt, if◌then◌else◌}
 use Rattle.std.proofs.lemmas.Bool.Decides.{nat_tests}

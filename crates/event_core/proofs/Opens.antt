@@ -1,4 +1,4 @@
--- The core at the opening.
+-- Lemmas that a core has its invariant at the opening.
 use Rattle.std.proofs.Common.{◌≡◌, ◌∙◌, ℕ, zero, suc, ◌+◌, ◌*◌, ◌≤◌, refl, ap, sym, subst, arith, false, List, [], length}
 use Rattle.std.specs.Prelude.{ℤ, Option, nat_le, replicate, slice_index_or}
 use Rattle.scram_types.specs.declared.ids.ProcId.{ProcId}

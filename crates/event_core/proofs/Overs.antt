@@ -1,4 +1,5 @@
--- The condition for a flight to be over.
+-- Lemmas that a flight is over if and only if it has no frame or the kernel has noted every processor in the last
+-- frame.
 use Rattle.std.proofs.Common.{◌≡◌, ◌∙◌, ◌⊎◌, ℕ, suc, ◌+◌, ◌<◌, ◌≤◌, true, false, ap, sym, subst, inl, inr, arith, List, [], ◌∷◌, length}
 use Rattle.scram_types.specs.declared.specification.Proc.{Proc}
 use Rattle.std.specs.Prelude.{IsTrue, Some, nat_le}

@@ -1,4 +1,4 @@
--- A history is extended by the next event.
+-- Lemmas that a history to which a next event is appended is a schedule again.
 use Rattle.std.proofs.Common.{◌≡◌, ◌∙◌, ℕ, ◌<◌, Bool, true, false, refl, ap, sym, subst, arith, List, [], ◌∷◌, ◌++◌}
 use Rattle.std.specs.Prelude.{Option, Some, None, nat_lt, if◌then◌else◌}
 use Rattle.std.proofs.lemmas.Bool.Decides.{nat_tests}
@@ -46,7 +46,7 @@ module _ (m : Flight) (at : Places) (v w : Word → ℕ) (same : (x : Word) → 
   next_moved (KStore x) i = sym kernel_same ∙ i
   next_moved Release i = sym kernel_same ∙ i
 
--- The state of a history satisfies the invariant.
+-- The places and words to which a history leads satisfy the invariant.
 pub replay_kept : (m : Flight) (events : List Event) (at : Places) (words : Word → ℕ) → Flies m → IsReplay m events at words → Kept m at words
 replay_kept m events at words y r =
     let k = each_state m events r.state y r.schedule in
@@ -78,7 +78,8 @@ places_same a b procs frame step =
     ap (λ (f : ℕ → Place). record { proc = f; frame = a.frame; step = a.step }) (fun_ext procs)
     ∙ ap (λ (f : ℕ). record { proc = b.proc; frame = f; step = a.step }) frame ∙ ap (λ (n : ℕ). record { proc = b.proc; frame = b.frame; step = n }) step
 
--- An event that is next at the kept places and words is next in the state of the history.
+-- If an event is the next of its actor at the kept places and words, then it is the next in the state to which the
+-- history leads.
 pub next_there : (m : Flight) (events : List Event) (at : Places) (words : Word → ℕ) (e : Event) → (r : IsReplay m events at words) → IsNext m at words e → IsNext m r.state.at r.state.words e
 next_there m events at words e r next = subst (λ (a : Places). IsNext m a r.state.words e) r.places_are (next_moved m at words r.state.words r.words_are e next)
 

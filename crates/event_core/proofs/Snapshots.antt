@@ -1,4 +1,4 @@
--- The snapshot of a processor that has looked.
+-- Lemmas that the words that a processor that has looked reads are the snapshot of its frame.
 use Rattle.std.proofs.Common.{◌≡◌, ◌∙◌, ◌⊎◌, ℕ, pos, ◌<◌, ◌≤◌, false, refl, ap, sym, subst, arith, List, ◌∷◌, length}
 use Rattle.std.specs.Prelude.{nat_le, nat_lt, slice_index_or}
 use Rattle.std.proofs.lemmas.Bool.Decides.{nat_tests}
@@ -31,7 +31,7 @@ use Rattle.event_core.proofs.Ending.{ended_by}
 use Rattle.event_core.proofs.ImagesFound.{images_found}
 use Rattle.event_core.proofs.Steps.{kept_of}
 
--- Twenty words that equal those of an image one by one are the words of the image.
+-- Lemmas that twenty words that equal those of a kernel image one by one are the words of the image.
 next_same : (x y : ℕ) (xs ys : List ℕ) → x ≡ y → xs ≡ ys → x ∷ xs ≡ y ∷ ys
 next_same x y xs ys is are = rw (is, are) refl
 
@@ -125,7 +125,7 @@ store_looked m at words p i next =
     let low = c.2 in
     (is_less p.0 m.procs a.0, subst (λ (place : Place). HasLooked m place) (sym b.here) (omega (arith, count), omega (arith, count, low)), low)
 
--- If the core is not over, then some event is next.
+-- If the core is not over, then some actor has a next event.
 pub goes_on_by : (core : CoreParts) (spec : Parts) (script : ScriptParts) (places : KeptPlaces) (stored : List ℕ) (history : List Event) (room count : ℕ) → core_of spec script places stored history ≡ core
     → MachineKeeps spec script places stored history room count → MachineGoesOn → IsOver (core_flight core) (core_places core) ⊎ ((event : Event) × IsNext (core_flight core) (core_places core) (core_words core) event)
 goes_on_by core spec script places stored history room count is k on =

@@ -1,4 +1,4 @@
--- The core after one event.
+-- Lemmas on the core after one event.
 use Rattle.std.proofs.Common.{◌≡◌, ◌∙◌, ℕ, ◌+◌, ◌*◌, ◌<◌, ◌≤◌, refl, ap, sym, subst, arith, List, [], ◌∷◌, ◌++◌, length}
 use Rattle.std.specs.Prelude.{Option, Some, None}
 use Rattle.std.proofs.lemmas.Grind.{common_steps}
@@ -43,7 +43,7 @@ module _ (spec : Parts) (script : ScriptParts) (places : KeptPlaces) (stored : L
   narrow : 8 * length spec.apps ≤ 64
   narrow = let most = k.facts.apps_count.few in omega (arith, most)
 
-  -- If an event is next, then the kernel is in a frame of the flight.
+  -- Since some actor has a next event, the kernel is in a frame of the flight.
   pub low : places.frame < script.frames
   low = kept.kernel.below flying
 
@@ -88,7 +88,7 @@ pub kept_of : {spec : Parts} {script : ScriptParts} {places : KeptPlaces} {store
     → Kept (flight_of spec script) (machine_places places) (stored_in stored)
 kept_of {spec} {script} {places} {stored} {history} k = replay_kept (flight_of spec script) history (machine_places places) (stored_in stored) (script_flies spec script k.fits) k.replay
 
--- An event that happens in the flight happens in the core.
+-- If an event happens to the places and words of a core's parts, then it happens in the core.
 pub happens_by : (core : CoreParts) (spec : Parts) (script : ScriptParts) (places : KeptPlaces) (stored : List ℕ) (history : List Event) (e : Event) (places2 : KeptPlaces) (stored2 : List ℕ)
     → core_of spec script places stored history ≡ core → Happens (flight_of spec script) (machine_places places) (stored_in stored) e (machine_places places2) (stored_in stored2)
     → Happens (core_flight core) (core_places core) (core_words core) e (machine_places places2) (stored_in stored2)

@@ -80,8 +80,8 @@ ends_frame spec (Halt p) = false
 ends_frame spec (KStore i) = false
 ends_frame spec Release = false
 
--- The invariant of a core's machine. The history is a schedule that leads to the places and the stored words, and there
--- is room for every event that can still come.
+-- The invariant of a core's machine. The history is a schedule that leads to the places and the stored words. Its
+-- list holds `count` events and has room, of `room` events in all, for every event that can still come.
 pub record MachineKeeps (spec : Parts) (script : ScriptParts) (places : KeptPlaces) (stored : List ℕ) (history : List Event) (room count : ℕ) : Type 0 where
   pub facts : IsSpec spec
   pub fits : Fits spec script

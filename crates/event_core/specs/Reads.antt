@@ -1,4 +1,4 @@
--- Reads of the words.
+-- Reads of the stored words.
 use Rattle.std.specs.Prelude.{ℕ, ℤ, pos, List, [], ◌∷◌, nat_lt, if◌then◌else◌}
 use Rattle.scram_types.specs.Specification.{Parts}
 use Rattle.bank_words.specs.Marks.{pick}
@@ -11,7 +11,8 @@ use Rattle.fail_stop.specs.Listed.{stored_in}
 abbrev pub bank_taken : List ℕ → ℕ → ℕ → ℕ
 bank_taken stored f p = pick (stored_in stored (MarkWord p)) f
 
--- Word `i` of the image of processor `p` that a reader in frame `f` finds, or 0 if the specification has no such word.
+-- Word `i` of the image that a reader in frame `f` finds for processor `p`, or 0 if the specification has no such
+-- word.
 abbrev pub word_read : Parts → List ℕ → ℕ → ℕ → ℕ → ℤ
 word_read spec stored f p i = if nat_lt i (words spec) then decode (stored_in stored (BankWord p (bank_taken stored f p) i)) else pos 0
 

@@ -1,4 +1,4 @@
-//! A flight, event by event.
+//! The core of a flight, which makes the events of the flight one by one.
 
 use crate::frames::end_frame;
 use crate::moves::places_after;
@@ -185,7 +185,8 @@ impl<'a> Core<'a> {
         self.kernel.finish()
     }
 
-    /// Returns the next event of the actor of an event, as `next_of` and `next_kernel` do.
+    /// Returns the next event of the actor of `event`, or `None` if the actor has none. It is that of `next_of` or
+    /// `next_kernel`.
     pub fn next_of_actor(&self, event: Event) -> Option<Event>
         ensures { result ≡ next_event self.now event }
     {

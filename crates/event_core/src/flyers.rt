@@ -46,9 +46,9 @@ impl Flyers {
         })
     }
 
-    /// Returns the word for an event, which must be the next of its actor, and makes the actor do its part. A
-    /// processor makes one draft in a frame, before its first store. A halt event halts the processor, and the start
-    /// event of its restart makes it live again.
+    /// Returns the word for an event, which must be the next of its actor, and lets the processors follow the event.
+    /// A processor makes one draft in a frame, before its first store. Its halt event halts it, and the start event
+    /// of its restart makes it live again.
     pub fn word(&mut self, core: &Core, spec: &Spec, event: Event) -> u64
         requires spec { core.now.spec ≡ spec.now }
         requires next { IsNextIn core.now event }

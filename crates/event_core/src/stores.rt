@@ -1,4 +1,4 @@
-//! The stores of events.
+//! The effect of an event on the stored words.
 
 ghost use Rattle.std.specs.Prelude.{◌≡◌, suc, ◌<◌, ◌≤◌, ◌-◌, ◌%◌, length};
 ghost use Rattle.fail_stop.specs.Events.{BankWord, MarkWord, frame_of, writes};

@@ -65,6 +65,6 @@ mark_is = refl
 pub bank_is : five.words (BankWord 0 1 0) ≡ 2
 bank_is = refl
 
--- The whole list of events is a schedule.
+-- The events from the opening to the kernel's first store are a schedule.
 pub is_schedule : IsSchedule small (opening small) (Start (proc_id 0) ∷ Look (proc_id 0) (proc_id 0) ∷ Halt (proc_id 0) ∷ KNote (proc_id 0) ∷ KStore 0 ∷ []) (after (opening small) (Start (proc_id 0) ∷ Look (proc_id 0) (proc_id 0) ∷ Halt (proc_id 0) ∷ KNote (proc_id 0) ∷ KStore 0 ∷ []))
 is_schedule = (refl, (refl, (refl, (refl, (refl, refl)))))

@@ -1,4 +1,4 @@
--- Facts on the recursions over frames.
+-- Lemmas on the commits, banks, marks, end words and images that are defined by recursion over frames.
 use Rattle.std.proofs.Common.{◌≡◌, ℕ, zero, suc, ◌+◌, ◌-◌, ◌*◌, ◌%◌, ◌<◌, ◌≤◌, Bool, true, false, refl, ap, subst, ◌∙◌, arith}
 use Rattle.std.specs.Prelude.{Option, Some, None}
 use Rattle.std.proofs.lemmas.Bool.Decides.{nat_tests}
@@ -28,7 +28,7 @@ side_count_next : (m : Flight) (p f : ℕ) (b : Bool) → is_committed m p f ≡
 side_count_next m p f true c h = rw (side_yes m p f c, count_yes m p f c) (omega arith)
 side_count_next m p f false c h = rw (side_no m p f c, count_no m p f c) h
 
--- The marked bank is the parity of the number of commits.
+-- The number of the marked bank is the parity of the number of commits.
 pub side_count : (m : Flight) (p f : ℕ) → side m p f ≡ commit_count m p f % 2
 unfolding side commit_count
 side_count m p zero = refl
@@ -84,7 +84,7 @@ bank_side_next m p f i true c h ih =
 bank_side_next m p f i false c h ih =
     rw (bank_suc m p f (side m p (suc f)) i, img_no m p f c) (laid_side m p f (stores_in m p f) (side m p (suc f)) i _ (side_no m p f c) ∙ ap (λ (x : ℕ). bank_before m p f x i) (side_no m p f c) ∙ ih)
 
--- The marked bank holds the image.
+-- The marked bank holds the processor's image.
 pub bank_side : (m : Flight) (p f i : ℕ) → i < m.width → bank_before m p f (side m p f) i ≡ word_in (image_before m p f) i
 unfolding bank_before side image_before
 bank_side m p zero i h = refl
@@ -128,12 +128,12 @@ back_none : (o : Option ℕ) (h g : ℕ) → ((r : ℕ) → o ≡ Some r → h <
 back_none None h g e = refl
 back_none (Some s) h g e = let late : h < s → g < s = e s refl in grind (arith, nat_tests)
 
--- Nothing of a processor changes between its halt in frame `h` and frame `b`, if it does not restart before frame
--- `b`.
+-- The commits, banks, end words and images of a processor do not change between its halt in frame `h` and frame `b`,
+-- if it does not restart before frame `b`.
 pub halted_still : (m : Flight) (p h s b : ℕ) → Flies m → m.up p h ≡ true → m.halt p h ≡ Some s → h < b → ((r : ℕ) → m.restart p ≡ Some r → h < r → b ≤ r) → Same m p (suc h) b
 halted_still m p h s b y u e l q = still m p (suc h) b (omega arith) (λ g lo hi. y.gone p h s g u e (omega arith) (back_none (m.restart p) h g (λ r i j. let k : b ≤ r = q r i j in omega arith)))
 
--- Lemmas on end words.
+-- Lemmas on end words: bounds, and the halts that odd end words show.
 end_word_le : (f : ℕ) (o : Option ℕ) → end_word_after f o ≤ 2 * suc f
 end_word_le f None = omega arith
 end_word_le f (Some s) = omega arith

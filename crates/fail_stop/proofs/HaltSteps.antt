@@ -1,4 +1,4 @@
--- The processors that commit, by the one halt that a processor can have in a frame.
+-- Lemmas that the only halt that a processor can have in a frame decides whether it commits the frame.
 use Rattle.std.proofs.Common.{◌≡◌, ◌∙◌, ℕ, suc, ◌+◌, ◌<◌, ◌≤◌, refl, ap, arith, Bool, true, false, not, ◌&&◌, ◌||◌, List, [], ◌∷◌, ◌⊎◌}
 use mathlib.Core.Logic.{inl, inr}
 use Rattle.std.specs.Prelude.{◌==◌, nat_le, find, Option, Some, None, if◌then◌else◌}
@@ -10,7 +10,7 @@ use Rattle.scram_types.specs.Specification.{Parts}
 use Rattle.fault_script.specs.Fits.{Before, EachNext, Fits, HaltBefore}
 use Rattle.fault_script.specs.Times.{commits, halt_in, is_halt_in, is_up, words}
 
--- Whether there is a halt, and it comes after at most `w` stores and before the mark.
+-- Whether there is a halt, and it comes after at most `w` stores, before the mark.
 abbrev pub is_early : ℕ → Option HaltAt → Bool
 is_early w None = false
 is_early w (Some halt) = nat_le halt.step w

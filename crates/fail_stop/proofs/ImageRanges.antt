@@ -77,7 +77,7 @@ in_start kind mode i x low small b =
     let inside = (tables_narrow kind mode i low small).init in
     in_during kind 4 mode i x low (omega arith) small (record { least = omega (arith, ints, inside.least, b.least); greatest = omega (arith, ints, inside.greatest, b.greatest) })
 
--- Each word of a slot fits in its range.
+-- Each of the eight words of a slot satisfies `FitsSums`.
 abbrev pub AreWords : List ℤ → Type 0
 AreWords xs = (i : ℕ) → i < 8 → FitsSums (slice_index_or xs i (pos 0))
 

@@ -1,4 +1,4 @@
--- Eight slots, one after another, word by word.
+-- Lemmas on an image as eight slots, one after another.
 use Rattle.std.proofs.Common.{◌≡◌, ◌∙◌, ◌⊎◌, ℕ, ◌+◌, ◌*◌, ◌/◌, ◌%◌, ◌<◌, ◌≤◌, refl, ap, sym, arith, length, List, ◌++◌, get_or, true, false}
 use mathlib.Core.Logic.{inl, inr}
 use native.Mathlib.Decide.{dec_le, ℕ_discrete}
@@ -11,7 +11,7 @@ use Rattle.scram_types.proofs.Naturals.{below_or_at}
 use Rattle.frame_model.specs.Flights.{image_of, slot_in}
 use Rattle.frame_model.proofs.Slots.{slot_found}
 
--- An image has 64 words, and each is the word of its slot.
+-- Lemmas that an image has 64 words, and that each is the word of its slot.
 
 two_long : (xs ys : List ℤ) (n : ℕ) → length xs ≡ n → length ys ≡ 8 → length (xs ++ ys) ≡ n + 8
 two_long xs ys n is also = length-append xs ys ∙ rw (is, also) refl

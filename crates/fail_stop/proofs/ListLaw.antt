@@ -1,4 +1,4 @@
--- The law over one list of words.
+-- The law of events if the words are kept in one list.
 use Rattle.std.proofs.Common.{◌≡◌, ℕ, ◌+◌, ◌*◌, ◌<◌, ◌≤◌, Bool, ◌&&◌, refl, ap, ◌∙◌, arith, List, length}
 use Rattle.std.specs.Prelude.{Option, Some, None, nat_lt, nat_eq, if◌then◌else◌, slice_index, slice_set}
 use Rattle.std.proofs.lemmas.Bool.Decides.{nat_tests}
@@ -20,7 +20,7 @@ module _ (m : Flight) (at : Places) (words : Word → ℕ) where
   acting : (p : ℕ) (e : Event) → (if nat_lt p m.procs then next_from m p (words ReleaseWord) (at.proc p) else None) ≡ Some e → p < m.procs
   acting p e i = is_less p m.procs (gate (nat_lt p m.procs) (next_from m p (words ReleaseWord) (at.proc p)) e i).0
 
-  -- An event writes an existing word.
+  -- If an event that is the next of its actor writes a word, then the word exists.
   pub target : (e : Event) → IsNext m at words e → IsTarget m (writes m at words e)
   target (Start p) i = tt
   target (Look p q) i = tt
@@ -77,7 +77,7 @@ index_small m (MarkWord p) np nw a = omega arith
 index_small m (EndWord p) np nw a = omega arith
 index_small m (BankWord p b i) np nw a = omega arith
 
--- If a list holds the words, then after a write it holds the words after that write.
+-- If a list holds the words of a flight, then after a write to the list each word has its value after that write.
 pub list_written : (m : Flight) (list : List ℕ) (o : Option (Word × ℕ)) (w : Word) → HoldsWords m list → IsTarget m o → IsStored m w → stored_in (list_after list o) w ≡ written o (stored_in list) w
 list_written m list None w s t l = refl
 list_written m list (Some t) w s k l =

@@ -1,4 +1,4 @@
--- Consequences of an event being the next of its actor.
+-- Lemmas on what is known of an actor's place if its next event is given.
 use Rattle.std.proofs.Common.{◌≡◌, ◌≢◌, ◌⊎◌, ℕ, zero, suc, ◌+◌, ◌-◌, ◌<◌, ◌≤◌, Bool, true, false, ◌&&◌, ap, refl, inl, inr, arith}
 use Rattle.std.specs.Prelude.{Option, Some, None, nat_lt, nat_eq, if◌then◌else◌}
 use Rattle.std.proofs.lemmas.Bool.Decides.{nat_tests}
@@ -23,7 +23,7 @@ is_less a b h = grind (arith, nat_tests)
 pub both_less : (a b c d : ℕ) → (nat_lt a b && nat_lt c d) ≡ true → (a < b) × (c < d)
 both_less a b c d h = grind (arith, nat_tests)
 
--- An event is the next one within a frame, after the start.
+-- After the start, event `e` is the next one of processor `p` within a frame.
 pub record Mid (m : Flight) (p : ℕ) (place : Place) (e : Event) : Type 0 where
   pub f : ℕ
   pub n : ℕ
@@ -40,7 +40,7 @@ mid m p release (At f zero) e i n = let g = (gate (nat_lt f m.frames && nat_lt f
 mid m p release (At f (suc k)) e i n = record { f = f; n = suc k; here = refl; begun = omega arith; next = i }
 mid m p release (Halted h) e i n = mid_restart m p h release (m.restart p) e i n
 
--- A start is the next event, of the first step of a frame or after a halt.
+-- The start is the next event of processor `p`, at the beginning of a frame or after a halt.
 pub record Begin (m : Flight) (p release : ℕ) (place : Place) : Type 0 where
   pub f : ℕ
   pub low : f < release
@@ -64,7 +64,7 @@ begin m p release (At f zero) i = let g = (gate (nat_lt f m.frames && nat_lt f r
 begin m p release (At f (suc k)) i = absurd (begin_plan m p f k (halts_at m (suc k) (m.halt p f)) i)
 begin m p release (Halted h) i = begin_restart m p h release (m.restart p) refl i
 
--- Lemmas on the steps of a plan.
+-- Lemmas on the number of steps before each event of a frame.
 step_look : (m : Flight) (p n q : ℕ) → plan_step m p n ≡ Some (Look (proc_id p) (proc_id q)) → n ≤ m.procs
 step_look m p n q e = grind (arith, nat_tests)
 
@@ -109,7 +109,7 @@ pub halts_here : (m : Flight) (n : ℕ) (o : Option ℕ) → halts_at m n o ≡ 
 halts_here m n None e = cc
 halts_here m n (Some s) e = record { step = s; halts = refl; count = grind (arith, nat_tests) }
 
--- Lemmas on the kernel's steps.
+-- Lemmas on the kernel's next event.
 abbrev tail : Bool → Bool → Bool → ℕ → Option Event
 tail a b c i = if a then (if b then Some (KStore i) else (if c then Some Release else None)) else None
 

@@ -1,4 +1,5 @@
--- If the machine is not over, some actor has a next event. Each word of a bank was stored there last.
+-- Lemmas that some actor has a next event if the machine is not over, and that each word of a bank is the one that
+-- was stored there last.
 use Rattle.std.proofs.Common.{◌≡◌, ◌≢◌, ◌⊎◌, ℕ, zero, suc, ◌+◌, ◌-◌, ◌*◌, ◌/◌, ◌%◌, ◌<◌, ◌≤◌, Bool, true, false, ◌||◌, refl, ap, subst, ◌∙◌, inl, inr, arith}
 use Rattle.std.specs.Prelude.{Option, Some, None, nat_eq, if◌then◌else◌}
 use Rattle.std.proofs.lemmas.Bool.Decides.{nat_tests}
@@ -14,7 +15,7 @@ use Rattle.fail_stop.specs.Ends.{IsOver, IsDone, Stores, IsStoredLast}
 use Rattle.fail_stop.proofs.FrameFacts.{laid_new, laid_past}
 use Rattle.fail_stop.proofs.KernelEvents.{halted_end}
 
--- Some event is next.
+-- Some actor has a next event.
 abbrev pub Goes : Flight → Places → (Word → ℕ) → Type 0
 Goes m at words = (e : Event) × IsNext m at words e
 
@@ -63,7 +64,7 @@ may_halted m p k h e w b =
     or_true true = refl
     or_true false = refl
 
--- The restart of a processor that has halted in frame `h` comes no later than frame `k`.
+-- The restart `o` comes after frame `h` and no later than frame `k`.
 pub record Found (o : Option ℕ) (h k : ℕ) : Type 0 where
   pub r : ℕ
   pub is : o ≡ Some r
@@ -146,7 +147,8 @@ progress_at m at words y bound k (no d) = goes_on m at words y k (omega arith) b
 pub progress : (m : Flight) (at : Places) (words : Word → ℕ) → Flies m → ((p r : ℕ) → m.restart p ≡ Some r → r < m.frames) → Kept m at words → IsOver m at ⊎ Goes m at words
 progress m at words y bound k = progress_at m at words y bound k (ℕ_discrete m.frames 0)
 
--- The word that was stored last in a bank is the word that the bank holds.
+-- If processor `p` stores a word of a bank in frame `f`, then the bank holds the word that was stored last after the
+-- frame.
 last_new : (m : Flight) (p f b i old : ℕ) → Stores m p f b i → IsStoredLast m p (suc f) b i (laid m p f (stores_in m p f) b i old)
 last_new m p f b i old s = inl (f, omega arith, s, laid_new m p f (stores_in m p f) b i old s.0 s.1, (λ later a c d. omega arith))
 

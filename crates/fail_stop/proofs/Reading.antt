@@ -1,4 +1,4 @@
--- The words that a reader and a note find, and the facts of the invariant.
+-- Lemmas that a reader finds the words and images of its frame, and that a note finds those after the frame.
 use Rattle.std.proofs.Common.{◌≡◌, ℕ, suc, ◌+◌, ◌-◌, ◌*◌, ◌/◌, ◌%◌, ◌<◌, ◌≤◌, Bool, true, false, refl, sym, ap, subst, ◌∙◌, arith}
 use Rattle.std.proofs.lemmas.Bool.Decides.{nat_tests}
 use native.Mathlib.Decide.{dec_le}
@@ -70,7 +70,7 @@ pub shows : (m : Flight) (q k j : ℕ) (x : Place) → Flies m → IsPlaced m k 
 shows m q k j (At f n) y r = shows_at m q k j f n r (dec_le f k)
 shows m q k j (Halted h) y s = shows_halted m q k j h y s (dec_le k h)
 
--- Place `x` of a noted processor has the mark and the image after frame `k`.
+-- Place `x` of a processor that is noted in frame `k` has the mark and the image after the frame.
 pub record Gives (m : Flight) (p k : ℕ) (x : Place) : Type 0 where
   pub mark : mark_at m p x ≡ mark_before m p (suc k)
   pub held : (i : ℕ) → i < m.width → bank_at m p x (side m p (suc k)) i ≡ word_in (image_before m p (suc k)) i

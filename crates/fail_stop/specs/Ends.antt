@@ -16,12 +16,12 @@ IsOver m at = (m.frames ≡ 0) ⊎ (((p : ℕ) → p < m.procs → IsDone m p (a
 abbrev pub Stores : Flight → ℕ → ℕ → ℕ → ℕ → Type 0
 Stores m p g b i = (b ≡ 1 - side m p g) × (i < stores_in m p g)
 
--- The word of a bank at the opening. Bank 0 holds the start image, and bank 1 holds zeros.
+-- Word `i` of bank `b` of processor `p` at the opening. Bank 0 holds the start image, and bank 1 holds zeros.
 abbrev pub opening_word : Flight → ℕ → ℕ → ℕ → ℕ
 opening_word m p b i = if nat_eq b 0 then word_in (m.start p) i else 0
 
--- The number `v` is the word that `p` stored last in word `i` of bank `b` in a frame below `f`, or the opening word
--- if `p` stored none.
+-- The number `v` is the value that `p` stored last in word `i` of bank `b` in the frames below `f`, or the opening
+-- word if `p` stored none there.
 abbrev pub IsStoredLast : Flight → ℕ → ℕ → ℕ → ℕ → ℕ → Type 0
 IsStoredLast m p f b i v =
     ((g : ℕ) × (g < f) × Stores m p g b i × (v ≡ word_in (m.draft p g) i) × ((later : ℕ) → g < later → later < f → Stores m p later b i → ⊥))

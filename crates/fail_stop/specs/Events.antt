@@ -27,14 +27,14 @@ pub data Word : Type 0 where
   EndWord : ℕ → Word
   BankWord : ℕ → ℕ → ℕ → Word
 
--- Whether a frame has a halt and the halt is step `n`. The halt comes after the start, the looks and the number of
--- stores that the script gives.
+-- Whether the event of a processor after `n` steps of a frame is its halt, given the step of the halt, or `None`. The
+-- halt comes after the start, the looks and the number of stores that this step gives.
 abbrev pub halts_at : Flight → ℕ → Option ℕ → Bool
 halts_at m n None = false
 halts_at m n (Some s) = nat_eq n (m.procs + 1 + s)
 
--- The event after `n` steps of a frame without a halt, or `None` after the last. The order is start, looks, stores,
--- flip, done.
+-- The event of processor `p` after `n` steps of a frame without a halt, or `None` after the last. The order is start,
+-- looks, stores, flip, done.
 abbrev pub plan_step : Flight → ℕ → ℕ → Option Event
 plan_step m p n =
     if nat_eq n 0 then Some (Start (proc_id p))
@@ -48,8 +48,8 @@ plan_step m p n =
 abbrev pub plan : Flight → ℕ → ℕ → ℕ → Option Event
 plan m p f n = if halts_at m n (m.halt p f) then Some (Halt (proc_id p)) else plan_step m p n
 
--- The next event of a processor that has halted in frame `h`: the start of the frame of its restart once that frame
--- is released, or `None` before.
+-- The next event of processor `p`, which has halted in frame `h`, given the release and the frame of its restart. It
+-- is the start if that frame comes after `h` and is released, and `None` otherwise.
 abbrev pub next_halted : ℕ → ℕ → ℕ → Option ℕ → Option Event
 next_halted p h release None = None
 next_halted p h release (Some r) = if nat_lt h r && nat_lt r release then Some (Start (proc_id p)) else None
@@ -115,7 +115,7 @@ abbrev pub back_at : Option ℕ → Place → Place
 back_at None place = place
 back_at (Some r) place = At r 1
 
--- The place after one further step.
+-- The place after one further step. The place of a halted processor does not change.
 abbrev pub one_on : Place → Place
 one_on (At f n) = At f (suc n)
 one_on (Halted h) = Halted h
@@ -125,7 +125,7 @@ abbrev pub started : Option ℕ → Place → Place
 started restart (At f n) = At f (suc n)
 started restart (Halted h) = back_at restart (Halted h)
 
--- The place at the start of the next frame.
+-- The place at the start of the next frame. The place of a halted processor does not change.
 abbrev pub frame_on : Place → Place
 frame_on (At f n) = At (suc f) 0
 frame_on (Halted h) = Halted h
@@ -135,7 +135,7 @@ abbrev pub halted_there : Place → Place
 halted_there (At f n) = Halted f
 halted_there (Halted h) = Halted h
 
--- The place to which an event moves its actor, processor `q`.
+-- The place of processor `q` after an event of its own. An event of the kernel does not change the place.
 abbrev pub moved : Flight → Event → ℕ → Place → Place
 moved m (Start p) q place = started (m.restart q) place
 moved m (Look p i) q place = one_on place
@@ -185,7 +185,7 @@ abbrev pub is_halted : Place → Bool
 is_halted (At f n) = false
 is_halted (Halted h) = true
 
--- The place of a processor after the whole of frame `f`, given the halt in the frame, if there is one.
+-- The place of a processor after the whole of frame `f`, given the step of its halt in the frame, or `None`.
 abbrev pub after_frame : ℕ → Option ℕ → Place
 after_frame f None = At (suc f) 0
 after_frame f (Some s) = Halted f

@@ -49,7 +49,8 @@ unfoldable pub image_before : Flight → ℕ → ℕ → List ℕ
 image_before m p zero = m.start p
 image_before m p (suc f) = if is_committed m p f then m.draft p f else image_before m p f
 
--- The number of frames up to the last frame below `f` that `p` commits, or 0 if there is none.
+-- The number of frames up to and including the last frame below `f` that processor `p` commits, or 0 if it commits
+-- none.
 unfoldable pub last_commit : Flight → ℕ → ℕ → ℕ
 last_commit m p zero = 0
 last_commit m p (suc f) = if is_committed m p f then suc f else last_commit m p f
@@ -68,7 +69,7 @@ side m p (suc f) = if is_committed m p f then 1 - side m p f else side m p f
 abbrev pub mark_before : Flight → ℕ → ℕ → ℕ
 mark_before m p f = mark_word (last_commit m p f) (side m p f)
 
--- The end word after a frame, given the halt in the frame, if there is one.
+-- The end word of a processor after frame `f`, given the step of its halt in the frame, or `None`.
 abbrev pub end_word_after : ℕ → Option ℕ → ℕ
 end_word_after f None = 2 * suc f
 end_word_after f (Some s) = 2 * f + 1
@@ -78,7 +79,8 @@ unfoldable pub end_before : Flight → ℕ → ℕ → ℕ
 end_before m p zero = 0
 end_before m p (suc f) = if m.up p f then end_word_after f (m.halt p f) else end_before m p f
 
--- The number of stores in a frame in which a processor is up, given the halt in the frame, if there is one.
+-- The number of stores of a processor in a frame in which it is up, given the number of words of an image, and the
+-- step of its halt in the frame, or `None`.
 abbrev pub stores_by : ℕ → Option ℕ → ℕ
 stores_by width None = width
 stores_by width (Some s) = min s width

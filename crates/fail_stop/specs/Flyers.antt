@@ -52,14 +52,14 @@ abbrev pub unit_frame : {X : Type 0} {Y : X → Type 0} → HeldUnit X Y → ℕ
 unit_frame (Up live) = 0
 unit_frame (Down halted) = halted.frame
 
--- A unit is the unit of processor `p` at a place. It has halted if and only if the place is a halted one, and in the
--- same frame.
+-- The unit is that of processor `p` at the place. It has halted if and only if the place is that of a halted
+-- processor, and then in the frame of the place.
 pub record IsUnitAt {X : Type 0} {Y : X → Type 0} (p : ℕ) (place : Place) (unit : HeldUnit X Y) : Type 0 where
   pub number : unit_proc unit ≡ p
   pub down : is_down unit ≡ is_halted place
   pub frame : is_down unit ≡ true → unit_frame unit ≡ frame_of place
 
--- If processor `p`, which is in a frame or has halted in it, has a later restart, the spare rack is present.
+-- If processor `p` has a restart after frame `f`, then the spare rack is present.
 abbrev pub HasSpare : {R : Type 0} → Flight → ℕ → ℕ → Option R → Type 0
 HasSpare m p f spare = (r : ℕ) → m.restart p ≡ Some r → f < r → is_some spare ≡ true
 

@@ -66,7 +66,7 @@ EventsKeep = (spec : Parts) (script : ScriptParts) → Fits spec script
     → Happens (flight_of spec script) at words event at_after words_after
     → Kept (flight_of spec script) at_after words_after
 
--- An event that is the next of its actor preserves the invariant over one list of words.
+-- An event that is the next of its actor preserves the invariant if the words are kept in one list.
 abbrev pub EventsKeepLists : Type 0
 EventsKeepLists = (spec : Parts) (script : ScriptParts) → IsSpec spec → Fits spec script
     → (at : Places) (list : List ℕ) (event : Event) (at_after : Places)

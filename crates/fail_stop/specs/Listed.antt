@@ -13,7 +13,7 @@ index_of (MarkWord p) = 32 + 136 * p
 index_of (EndWord p) = 33 + 136 * p
 index_of (BankWord p b i) = 40 + 136 * p + 64 * b + i
 
--- The number of indices.
+-- The number of entries in the list of shared words.
 abbrev pub word_index_count : ℕ
 word_index_count = 1120
 
@@ -26,7 +26,7 @@ abbrev pub list_after : List ℕ → Option (Word × ℕ) → List ℕ
 list_after list None = list
 list_after list (Some t) = slice_set list (index_of t.0) t.1
 
--- A list has an entry for each word.
+-- A list has an entry for each word of a flight.
 pub record HoldsWords (m : Flight) (list : List ℕ) : Type 0 where
   pub procs : m.procs ≤ 8
   pub width : m.width ≤ 64

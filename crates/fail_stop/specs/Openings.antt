@@ -8,12 +8,13 @@ use Rattle.frame_model.specs.Flights.{is_proc}
 use Rattle.frame_model.specs.States.{area_at, keeper_at}
 use Rattle.fail_stop.specs.Listed.{word_index_count}
 
--- Word `i` of the start image of processor `p`.
+-- Word `i` of the start image of processor `p`, or 0 if `p` is not the keeper of the word's application.
 abbrev pub start_word : List (List ℤ) → List (Option ProcId) → ℕ → ℕ → ℕ
 start_word areas keepers p i =
     if is_proc p (keeper_at keepers (i / 8)) then encode (slice_index_or (area_at areas (i / 8)) (i % 8) (pos 0)) else 0
 
--- Word `r` among the words that processor `p` writes. Bank 0 holds the start image, and all other words are 0.
+-- Word `r`, at the opening, among the words that processor `p` writes. Bank 0 holds the start image, and all other
+-- words are 0.
 abbrev pub proc_opening : List (List ℤ) → List (Option ProcId) → ℕ → ℕ → ℕ
 proc_opening areas keepers p r =
     if nat_lt r 8 then 0 else (if nat_lt r 72 then start_word areas keepers p (r - 8) else 0)

@@ -50,8 +50,8 @@ fn area_kept(snap: &Snapshot, a: u8) -> Area
     }
 }
 
-/// Replaces the slots of the applications that processor `proc` hosts in its image of the previous frame, calling one
-/// box for each. Afterwards `seen` is as the last of these applications saw it.
+/// Replaces, in the image of processor `proc` before the frame, the slot of each application that the processor
+/// hosts, by one call of the application's box. Afterwards `seen` is as the last of these applications saw it.
 pub(crate) fn make_slots(
     proc: ProcId,
     rack: &mut Rack,

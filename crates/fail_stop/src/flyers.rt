@@ -25,7 +25,7 @@ pub enum Unit {
     Down(Halted),
 }
 
-/// A processor in flight, with the boxes for its restart. The boxes are taken when it restarts.
+/// A processor in flight. `spare` holds the boxes for its restart, or `None` once it has restarted.
 #[derive(Drop)]
 pub struct Flyer {
     pub unit: Unit,
@@ -129,7 +129,7 @@ pub fn make_flyers(alloc: Global, boxes: Boxes) -> Result<Vec<Flyer>, NoMemory>
     Ok(flyers)
 }
 
-// Removes and returns the next of these racks.
+// Removes and returns the first of the racks that remain.
 fn next_rack(racks: &mut IntoIter<Rack>) -> Rack
     requires some { 0 < into_iter_len racks.old }
     ensures first { into_iter_items racks.old ≡ result ∷ into_iter_items racks.new }

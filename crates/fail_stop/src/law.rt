@@ -25,8 +25,8 @@ pub fn events_keep()
     ensures { EventsKeep }
 {}
 
-/// States that an event that is the next of its actor preserves the invariant over one list of words, of which it
-/// writes at most one.
+/// States that an event that is the next of its actor preserves the invariant if the words are kept in one list. The
+/// event writes at most one entry of the list.
 pub fn events_keep_lists()
     ensures { EventsKeepLists }
 {}

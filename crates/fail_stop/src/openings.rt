@@ -1,4 +1,4 @@
-//! The words at the opening.
+//! The words at the opening of a flight.
 
 ghost use Rattle.std.specs.Prelude.{◌≡◌, ◌<◌, IfOk};
 ghost use Rattle.fault_script.specs.Fits.{Fits};
@@ -79,7 +79,7 @@ fn proc_opening(sys: &Sys, p: usize, r: usize) -> u64
     }
 }
 
-// Returns word `i` of the start image of a processor.
+// Returns word `i` of the start image of processor `p`, or 0 if `p` is not the keeper of the word's application.
 fn start_word(sys: &Sys, p: usize, i: usize) -> u64
     requires { i < 64 }
     ensures { result ≡ start_word sys.now.areas sys.now.keepers p i }

@@ -9,7 +9,7 @@ use scram_types::ProcId;
 /// The number of entries in the list of shared words.
 pub const WORDS: usize = 1_120;
 
-/// Returns the index of word `i` of the kernel, which is below 20.
+/// Returns the index of word `i` of the kernel's twenty words.
 pub fn kernel_index(i: usize) -> usize
     requires { i < 20 }
     ensures { result ≡ index_of (KernelWord i) }

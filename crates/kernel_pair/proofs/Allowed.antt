@@ -1,4 +1,5 @@
--- Bounds of an event that is next, and the list of events with this event appended.
+-- Lemmas on a next event of a pair: its numbers are bounded, there is room for it, and the events with it appended
+-- are a schedule again.
 use Rattle.std.proofs.Common.{◌≡◌, ℕ, ◌+◌, ◌<◌, ◌≤◌, refl, ap, subst, arith, List, [], ◌∷◌, ◌++◌, length}
 use Rattle.std.specs.Prelude.{Option, Some}
 use Rattle.scram_types.specs.Scripts.{ScriptParts}

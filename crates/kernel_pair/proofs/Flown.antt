@@ -1,4 +1,5 @@
--- A processor in flight after the frame that it makes.
+-- Lemmas that a processor in flight is at its next place after the frame that it makes, with a spare rack for a
+-- restart to come.
 use Rattle.std.proofs.Common.{◌≡◌, ◌∙◌, ℕ, suc, ◌<◌, refl, ap, sym, subst, arith, Bool, true, false, List}
 use Rattle.std.specs.Prelude.{Option, Some, None, is_some, slice_set, if◌then◌else◌}
 use Rattle.app_model.specs.declared.racks.Rack.{Rack}

@@ -1,4 +1,4 @@
--- A pair whose flight goes on, event by event: fewer events remain, or the state has not changed.
+-- Lemmas on a pair whose flight goes on, event by event: fewer events remain, or the state has not changed.
 use Rattle.std.proofs.Common.{◌≡◌, ◌∙◌, ◌⊎◌, ℕ, ◌+◌, ◌<◌, ◌≤◌, ap, sym, subst, arith, inl, inr, length}
 use Rattle.std.specs.Prelude.{Option, Some, None}
 use native.Mathlib.Decide.{ℕ_discrete}
@@ -64,7 +64,7 @@ next_of_unit m halt s u e l i = by_event e i (goes m halt u (s.unit u) (s.unit (
     by_event (Release v) i of = own v (Release v) i of
     by_event (Stop v) i of = own v (Stop v) i of
 
--- If an event is next and the flight goes on, then fewer events remain.
+-- If `e` is a next event, and the flight goes on unless `e` is not a next event, then fewer events remain.
 pub attempted : (old new : PairParts) (e : PairEvent) → IsPairNext (pair_flight old) old.halt (pair_in old) e → IsFlownOn old new (IsPairNext (pair_flight old) old.halt (pair_in old) e → ⊥) → left_in new < left_in old
 attempted old new e next on = by_left (ℕ_discrete (left_in new) (left_in old))
   where
@@ -72,7 +72,7 @@ attempted old new e next on = by_left (ℕ_discrete (left_in new) (left_in old))
     by_left (yes same) = absurd ((on.stuck same).1 next)
     by_left (no other) = let most = on.fewer in omega arith
 
--- No event is next.
+-- No actor has a next event.
 pub record NoneNext (k : PairParts) : Type 0 where
   pub processors : (p : ProcId) (u : ℕ) → p.0 < 8 → u < 2 → IsPairNext (pair_flight k) k.halt (pair_in k) (Fly p u) → ⊥
   pub first : next_unit (pair_flight k) k.halt (pair_in k) 0 ≡ None
@@ -119,7 +119,7 @@ abbrev Processors : PairParts → Type 0
 Processors k = (q : ProcId) (u : ℕ) → q.0 < 8 → u < 2 → IsPairNext (pair_flight k) k.halt (pair_in k) (Fly q u) → ⊥
 
 -- If the flight goes on with all processors and then with unit 0 and unit 1, then it goes on with the whole round:
--- fewer events remain, or no event is next.
+-- fewer events remain, or no actor has a next event.
 pub round_on : (old mid mid2 new : PairParts) → IsFlownOn old mid ((q : ProcId) (u : ℕ) → q.0 < 8 → u < 2 → IsPairNext (pair_flight old) old.halt (pair_in old) (Fly q u) → ⊥)
     → IsFlownOn mid mid2 (next_unit (pair_flight mid) mid.halt (pair_in mid) 0 ≡ None) → IsFlownOn mid2 new (next_unit (pair_flight mid2) mid2.halt (pair_in mid2) 1 ≡ None) → IsFlownOn old new (NoneNext old)
 round_on old mid mid2 new one two_ three =

@@ -1,4 +1,5 @@
--- A processor that has made a frame, part by part, and a bank with the first words of a draft.
+-- Lemmas on the state of a processor that has made a frame, and on a bank to which the first words of a draft are
+-- copied.
 use Rattle.std.proofs.Common.{◌≡◌, ◌∙◌, ℕ, suc, ◌+◌, ◌-◌, ◌*◌, ◌%◌, ◌<◌, Bool, true, false, ◌&&◌, refl, ap, arith, List, [], length}
 use Rattle.std.specs.Prelude.{nat_eq, nat_lt, slice_index_or, slice_set, if◌then◌else◌}
 use Rattle.std.proofs.lemmas.Bool.Decides.{nat_tests}

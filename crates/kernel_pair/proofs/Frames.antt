@@ -23,7 +23,7 @@ pub restart_past_some : (o : Option ℕ) (h f : ℕ) → o ≡ Some f → h < f 
 restart_past_some None h f e l = cc
 restart_past_some (Some r) h f e l = let same : r ≡ f = cc in let low : nat_lt h r ≡ true = grind (arith, nat_tests, same, l) in rw low e
 
--- The words of processor `p` at the beginning of frame `f`.
+-- Processor `p` is up in frame `f`, and its mark and banks are those at the beginning of the frame.
 pub record Begun (m : Flight) (p f : ℕ) (x : Processor) : Type 0 where
   pub up : m.up p f ≡ true
   pub mark : x.mark ≡ mark_before m p f

@@ -1,4 +1,4 @@
--- The facts that hold in a state with the invariant.
+-- In each state with the invariant `PairKept` the facts of `PairHolds` hold.
 use Rattle.std.proofs.Common.{ap, ◌∙◌, ℕ, suc, ◌<◌, List, length}
 use Rattle.std.specs.Prelude.{Option}
 use Rattle.scram_types.specs.declared.ids.ProcId.{ProcId}

@@ -1,4 +1,4 @@
--- The invariant of a flight at its opening, and the kernels at its end.
+-- Lemmas that a flight has its invariant at its opening, and that its kernels have ended all frames at its end.
 use Rattle.std.proofs.Common.{◌≡◌, ◌∙◌, ◌⊎◌, ℕ, suc, ◌<◌, refl, ap, sym, subst, arith, Bool, true, false, inl, inr, List, [], ◌∷◌, ◌++◌, length}
 use Rattle.std.specs.Prelude.{Option, Some, None, drop, is_some, nat_le, slice_index_or, take, if◌then◌else◌}
 use Rattle.std.proofs.lemmas.Bool.Decides.{nat_tests}

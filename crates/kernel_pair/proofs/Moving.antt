@@ -1,4 +1,4 @@
--- An event changes one actor. These are the facts about that actor from which the invariant follows.
+-- An event changes one actor. These lemmas derive the invariant after the event from facts about that actor.
 use Rattle.std.proofs.Common.{◌≡◌, ℕ, zero, suc, ◌<◌, ◌≤◌, arith}
 use Rattle.std.specs.Prelude.{Option}
 use native.Mathlib.Decide.{ℕ_discrete}

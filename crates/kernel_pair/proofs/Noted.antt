@@ -1,4 +1,4 @@
--- The number of frames in which the units have noted every processor, before and after an event.
+-- Lemmas on the number of frames in which a unit has noted every processor, before and after an event.
 use Rattle.std.proofs.Common.{◌≡◌, ◌∙◌, ℕ, suc, ◌<◌, ◌≤◌, refl, ap, sym, arith}
 use Rattle.std.specs.Prelude.{Option, Some, nat_le, if◌then◌else◌}
 use Rattle.std.proofs.lemmas.Bool.Decides.{nat_tests}
@@ -24,7 +24,8 @@ none_noted n k l = grind (arith, nat_tests)
 some_noted : (n j k : ℕ) → j < n → (if nat_le n j then suc k else k) ≡ k
 some_noted n j k l = grind (arith, nat_tests)
 
--- An event that changes a unit without a last note leaves the number of noted frames of each unit unchanged.
+-- If unit `v` is replaced by a unit with the same number of noted frames, then the number of noted frames of each
+-- unit is unchanged.
 with_same : (m : Flight) (s : Pair) (v : ℕ) (x : KernelUnit) → noted_frames m x ≡ noted_frames m (s.unit v) → (u : ℕ) → noted_frames m (with_at s.unit v x u) ≡ noted_frames m (s.unit u)
 with_same m s v x is u = by_place (ℕ_discrete u v)
   where

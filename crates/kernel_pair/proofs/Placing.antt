@@ -1,4 +1,5 @@
--- The words that a processor reads when it makes a frame, and those that a unit notes.
+-- Lemmas that a processor that makes a frame reads the words of that frame, and that a unit notes the marks and
+-- images after its frame.
 use Rattle.std.proofs.Common.{◌≡◌, ℕ, suc, ◌+◌, ◌%◌, ◌<◌, ◌≤◌, true, refl, sym, ap, subst, ◌∙◌, arith}
 use Rattle.std.specs.Prelude.{Option, Some, None}
 use Rattle.std.proofs.lemmas.Bool.Decides.{nat_tests}
@@ -71,7 +72,8 @@ module _ (m : Flight) (halt : Option UnitHalt) (s : Pair) (y : Flies m) (k : Pai
       let c = readies_low m (s.unit u).frame (s.unit u).step low in
       both u l (λ (w : ℕ). (s.unit w).frame ≤ (s.unit u).frame) (omega arith) (omega (arith, a, b, c)) v lv
 
-  -- A processor that unit `u` may note has its mark and its image after the unit's frame.
+  -- The mark and the image of processor `p` are those after the frame of unit `u`, and the frame that `p` makes next
+  -- is later.
   pub record Told (u p : ℕ) : Type 0 where
     pub ahead : (f : ℕ) → frame_to_make (m.restart p) (s.proc p).place ≡ Some f → (s.unit u).frame < f
     pub mark : (s.proc p).mark ≡ mark_before m p (suc (s.unit u).frame)

@@ -1,4 +1,4 @@
--- The place of a unit whose next event is given.
+-- Lemmas on the frame and step of a unit whose next event is known.
 use Rattle.std.proofs.Common.{◌≡◌, ℕ, suc, ◌+◌, ◌-◌, ◌<◌, ◌≤◌, Bool, true, false, ◌&&◌, refl, subst, arith}
 use Rattle.std.specs.Prelude.{Option, Some, None, is_some, nat_lt, nat_eq, if◌then◌else◌}
 use Rattle.std.proofs.lemmas.Bool.Decides.{nat_tests}
@@ -27,7 +27,7 @@ IsOf u (Meet v) = v ≡ u
 IsOf u (Release v) = v ≡ u
 IsOf u (Stop v) = v ≡ u
 
--- The place of unit `u`, in frame `k` after `j` steps, is one at which the event is next.
+-- Unit `u`, in frame `k` after `j` steps, is at a place at which the event may be next.
 abbrev pub Planned : Flight → ℕ → ℕ → ℕ → ℕ → (ℕ → ℕ) → Bool → PairEvent → Type 0
 Planned m u k j ready ends stops (Fly p v) = ⊥
 Planned m u k j ready ends stops (Note v p) = (j < m.procs) × (p ≡ proc_id j) × (may_note m j k (ends j) ≡ true)
@@ -37,7 +37,7 @@ Planned m u k j ready ends stops (Meet v) = (may_meet k ready ≡ true) × Behin
 Planned m u k j ready ends stops (Release v) = Behind m k j 22
 Planned m u k j ready ends stops (Stop v) = stops ≡ true
 
--- The event is an event of unit `u`, which is at a place at which the event is next.
+-- The event is an event of unit `u`, and the unit is at a place at which the event may be next.
 abbrev PlansOwn : Flight → ℕ → ℕ → ℕ → ℕ → (ℕ → ℕ) → Bool → PairEvent → Type 0
 PlansOwn m u k j ready ends stops e = IsOf u e × Planned m u k j ready ends stops e
 

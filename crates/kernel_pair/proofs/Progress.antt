@@ -43,7 +43,7 @@ to_make_now m p k e (Halted h) d i may low high = by_back (back_by (m.restart p)
         there ∙ ap (λ (x : ℕ). Some x) same
     by_back false j = let may2 = may_halted m p k h e end_is j in absurd (cc)
 
--- The unit waits to meet the other unit.
+-- Unit `x` waits to meet the other unit, whose ready word is `ready`.
 record Meeting (m : Flight) (x : KernelUnit) (ready : ℕ) : Type 0 where
   at : x.step ≡ m.procs + 21
   more : suc x.frame < m.frames

@@ -1,4 +1,4 @@
--- A bound on the number of events.
+-- A bound on the number of events of a pair.
 use Rattle.std.proofs.Common.{◌≡◌, ℕ, zero, suc, ◌+◌, ◌-◌, ◌*◌, ◌≤◌, Bool, true, false, ◌&&◌, refl, arith}
 use Rattle.std.specs.Prelude.{Option, Some, None, is_none, nat_eq, if◌then◌else◌}
 use Rattle.std.proofs.lemmas.Bool.Decides.{nat_tests}

@@ -1,4 +1,5 @@
--- The state with another unit or another processor at an index.
+-- If a state has another unit or another processor at an index of its lists, then it represents the pair with that
+-- unit or processor.
 use Rattle.std.proofs.Common.{◌≡◌, ◌∙◌, ℕ, ◌<◌, Bool, true, false, refl, ap, arith, List, length}
 use Rattle.std.specs.Prelude.{nat_eq, slice_index_or, slice_set, if◌then◌else◌}
 use Rattle.std.proofs.lemmas.Bool.Decides.{nat_tests}

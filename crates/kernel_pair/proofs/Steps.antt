@@ -23,7 +23,7 @@ ahead_past : (m : Flight) (k j p f : ℕ) (o r : Option ℕ) → k ≤ f → (g 
 ahead_past m k j p f None r l g e = let same : suc f ≡ g = cc in (omega arith, λ z. omega arith)
 ahead_past m k j p f (Some s) r l g e = let a = (restart_past_is r f g e).1 in (omega arith, λ z. omega arith)
 
--- Lemmas on the words of a unit from one step to the next.
+-- Lemmas that the ready word and the kernel words of a unit change only with the steps that write them.
 ready_low : (m : Flight) (o : Option ℕ) (k a b : ℕ) → a ≤ m.procs + 20 → b ≤ m.procs + 20 → ready_at m o k a ≡ ready_at m o k b
 ready_low m None k a b la lb = rw (readies_low m k a la, readies_low m k b lb) refl
 ready_low m (Some t) k a b la lb = refl
@@ -59,7 +59,7 @@ module _ (m : Flight) (halt : Option UnitHalt) (s : Pair) (y : Flies m) (k : Pai
     x : IsUnit m halt u (s.unit u)
     x = k.units u l
 
-    -- Once all processors are noted, each processor makes a later frame next.
+    -- Once a unit has noted all processors, the frame that each processor makes next is later than the unit's frame.
     past_notes : (j : ℕ) → m.procs ≤ (s.unit u).step → (p : ℕ) → p < m.procs → (f : ℕ) → frame_to_make (m.restart p) (s.proc p).place ≡ Some f → NotBelow (s.unit u).frame j p f
     past_notes j low p lp f e = let a = k.ahead u p l lp f e in let b = a.1 (omega arith) in (a.0, λ g. b)
 

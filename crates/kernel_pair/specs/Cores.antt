@@ -1,4 +1,4 @@
--- A flight whose kernel runs on two units: its kernels and processors in relation to the state of its machine.
+-- The relation of the kernels and processors in flight of a flight on two units to the state of its pair.
 use Rattle.std.specs.Prelude.{◌≡◌, ℕ, List, Option, Some, None}
 use Rattle.scram_kernel.specs.Kernels.{KernelParts, kernel_after}
 use Rattle.fail_stop.specs.declared.flyers.Flyer.{Flyer}
@@ -18,18 +18,20 @@ places_in s p = (s.proc p).place
 abbrev pub IsKernelOf : PairParts → ℕ → KernelParts → Type 0
 IsKernelOf pair u kernel = kernel ≡ kernel_after pair.spec pair.script (noted_frames (pair_flight pair) ((pair_in pair).unit u))
 
--- Each kernel belongs to its unit, and the eight processors in flight are at their places in the machine.
+-- The kernel `kernel` is that of unit 0, `other` is that of unit 1, and the processors in flight are at the places
+-- that they have in the state of the pair.
 pub record PairCoreKeeps {X : Type 0} {Y : X → Type 0} (pair : PairParts) (kernel other : KernelParts) (crew : List (Flyer X Y)) : Type 0 where
   pub first : IsKernelOf pair 0 kernel
   pub second : IsKernelOf pair 1 other
   pub flyers : AreFlyersAt (pair_flight pair) (places_in (pair_in pair)) crew
 
--- A processor in flight after its draft of frame `f`, with the step of its halt in the frame, if there is one.
+-- A processor in flight after its draft of frame `f`, given the step of its halt in the frame, or `None`. With a halt
+-- it has halted, and otherwise it is unchanged.
 abbrev pub flyer_after : {X : Type 0} {Y : X → Type 0} → Option ℕ → ℕ → Flyer X Y → Flyer X Y
 flyer_after None f flyer = flyer
 flyer_after (Some s) f flyer = flyer_halted f flyer
 
--- The event is one of a unit that needs neither a processor nor a word.
+-- The event is one of a unit that involves neither a processor nor a word: `Ready`, `Meet`, `Release` or `Stop`.
 abbrev pub IsTurn : PairEvent → Type 0
 IsTurn (Fly p u) = ⊥
 IsTurn (Note u p) = ⊥

@@ -7,7 +7,8 @@ use Rattle.fail_stop.specs.Kept.{mark_at, end_at, bank_at, kernel_at, release_at
 use Rattle.kernel_pair.specs.declared.events.UnitHalt.{UnitHalt}
 use Rattle.kernel_pair.specs.Pairs.{Processor, KernelUnit, Pair, other_unit, frame_to_make}
 
--- Processor `p` may be at the beginning of frame `f`, since it is up in the frame and done with the preceding frame.
+-- Processor `p` may be in frame `f` after `n` steps. It is at the beginning of the frame, is up in the frame, and is
+-- done with the preceding frame.
 pub record Waiting (m : Flight) (p f n : ℕ) : Type 0 where
   pub fresh : n ≡ 0
   pub within : f ≤ m.frames
@@ -25,7 +26,7 @@ abbrev pub IsStanding : Flight → ℕ → Place → Type 0
 IsStanding m p (At f n) = Waiting m p f n
 IsStanding m p (Halted h) = Down m p h
 
--- The mark, the end word and the banks of processor `p` are those of its place, at which it may be.
+-- Processor `p` may be at the place of `x`, and the mark, the end word and the banks of `x` are those of that place.
 pub record IsProcessor (m : Flight) (p : ℕ) (x : Processor) : Type 0 where
   pub place : IsStanding m p x.place
   pub mark : x.mark ≡ mark_at m p x.place
@@ -40,7 +41,8 @@ readies m k j = if nat_lt (m.procs + 20) j then suc k else k
 abbrev pub meetings : Flight → ℕ → ℕ → ℕ
 meetings m k j = if nat_lt (m.procs + 21) j then suc k else k
 
--- The ready word of a unit that is in frame `k` after `j` steps, or has halted in frame `t`.
+-- The ready word of a unit in frame `k` after `j` steps. It is twice the number of frames in which the unit has been
+-- ready, or `2 * t + 1` if the unit has halted in frame `t`.
 abbrev pub ready_at : Flight → Option ℕ → ℕ → ℕ → ℕ
 ready_at m None k j = 2 * readies m k j
 ready_at m (Some t) k j = 2 * t + 1
@@ -51,8 +53,8 @@ pub record IsNamed (halt : Option UnitHalt) (u : ℕ) : Type 0 where
   pub is : halt ≡ Some named
   pub unit : u ≡ named.unit
 
--- The words of unit `u`, and the marks and images that it has noted, are those of its place. If the flight has no
--- frame, the unit makes no step.
+-- The words of unit `u`, and the marks and images that it has noted, are those of its frame and step. Only the unit
+-- that the halt names has halted. If the flight has no frame, the unit makes no step.
 pub record IsUnit (m : Flight) (halt : Option UnitHalt) (u : ℕ) (x : KernelUnit) : Type 0 where
   pub below : 0 < m.frames → x.frame < m.frames
   pub still : m.frames ≡ 0 → (x.frame ≡ 0) × (x.step ≡ 0)

@@ -25,8 +25,8 @@ abbrev pub BothHaveNoted : Flight → Pair → Type 0
 BothHaveNoted m s = (u k : ℕ) → u < 2 → suc k < (s.unit u).release
     → (k < noted_frames m (s.unit u)) × ((s.unit (other_unit u)).stopped ≡ None → k < noted_frames m (s.unit (other_unit u)))
 
--- A reader by the words of unit `u` finds the kernel image of frame `f`, and each processor's image before the frame in
--- the bank that the reader picks.
+-- The words of unit `u` are the kernel image of frame `f`. The bank that a reader in the frame picks of each
+-- processor holds the processor's image before the frame.
 pub record FindsBy (spec : Parts) (script : ScriptParts) (s : Pair) (u f : ℕ) : Type 0 where
   pub kernel : (i : ℕ) → i < 20 → (s.unit u).kernel i ≡ word_in (kernel_words spec script f) i
   pub picked : (q : ℕ) → q < length spec.procs → pick (s.proc q).mark f ≡ image_bank_after spec script q f
@@ -64,13 +64,13 @@ pub record PairHolds (spec : Parts) (script : ScriptParts) (halt : Option UnitHa
   pub one_stays : OneUnitStays (flight_of spec script) s
   pub goes_on : IsPairOver (flight_of spec script) s ⊎ HasNext (flight_of spec script) halt s
 
--- The facts hold in each state that a schedule reaches from an opening, for every halt of one unit.
+-- The facts of `PairHolds` hold in each state that a schedule reaches from an opening, for every halt of one unit.
 abbrev pub PairsHold : Type 0
 PairsHold = (spec : Parts) (script : ScriptParts) → IsSpec spec → Fits spec script
     → (halt : Option UnitHalt) (first : Pair) (events : List PairEvent) (state : Pair)
     → IsPairOpening (flight_of spec script) first → IsPairSchedule (flight_of spec script) halt first events state → PairHolds spec script halt state
 
--- The invariant holds in each state that a schedule reaches from an opening, for every halt of one unit.
+-- The invariant `PairKept` holds in each state that a schedule reaches from an opening, for every halt of one unit.
 abbrev pub PairsKeep : Type 0
 PairsKeep = (spec : Parts) (script : ScriptParts) → Fits spec script → (halt : Option UnitHalt) (first : Pair) (events : List PairEvent) (state : Pair)
     → IsPairOpening (flight_of spec script) first → IsPairSchedule (flight_of spec script) halt first events state → PairKept (flight_of spec script) halt state

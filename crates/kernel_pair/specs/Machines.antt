@@ -1,4 +1,4 @@
--- A pair with the list of its events, and the invariant of the two.
+-- A pair with the list of its events, and the invariant of a pair with its list.
 use Rattle.std.specs.Prelude.{◌≡◌, ℕ, suc, ◌+◌, ◌++◌, ◌≤◌, List, [], ◌∷◌, Option, Some, slice_index_or}
 use Rattle.scram_types.specs.Scripts.{ScriptParts}
 use Rattle.scram_types.specs.Specification.{IsSpec, Parts}
@@ -25,7 +25,7 @@ pub record PairParts : Type 0 where
 abbrev pub parts_of : Parts → ScriptParts → Option UnitHalt → PairState → List PairEvent → PairParts
 parts_of spec script halt state events = record { spec = spec; script = script; halt = halt; state = state; events = events }
 
--- The flight of a pair's mission.
+-- The flight of a pair's specification and script.
 abbrev pub pair_flight : PairParts → Flight
 pair_flight k = flight_of k.spec k.script
 
@@ -37,8 +37,8 @@ pair_in k = pair_of k.state
 abbrev pub pair_with : PairParts → PairEvent → Pair
 pair_with k event = pair_after (pair_flight k) k.halt (pair_in k) event
 
--- The invariant of a pair. Its events are a schedule from the opening to its state, and there is room for every
--- remaining event.
+-- The invariant of a pair whose list holds `count` events and has room for `room`. The events are a schedule from the
+-- opening to the state, and there is room for every remaining event.
 pub record PairKeeps (spec : Parts) (script : ScriptParts) (halt : Option UnitHalt) (state : PairState) (events : List PairEvent)
     (room count : ℕ) : Type 0 where
   pub facts : IsSpec spec
@@ -46,7 +46,8 @@ pub record PairKeeps (spec : Parts) (script : ScriptParts) (halt : Option UnitHa
   pub replay : IsPairReplay (flight_of spec script) halt events (pair_of state)
   pub room_left : count + pair_left (flight_of spec script) halt (pair_of state) ≤ room
 
--- If the event is a frame, `draft` holds the words of the frame's draft. If it is a store, `word` is the word to store.
+-- If the event is a `Fly`, `draft` holds the words of the draft of the processor's next frame. If it is a `Store`,
+-- `word` is the word to store.
 abbrev pub AreEventWords : Flight → Pair → PairEvent → List ℕ → ℕ → Type 0
 AreEventWords m s (Fly p u) draft word =
     (f : ℕ) → frame_to_make (m.restart p.0) (s.proc p.0).place ≡ Some f → (i : ℕ) → slice_index_or draft i 0 ≡ word_in (m.draft p.0 f) i
@@ -57,7 +58,8 @@ AreEventWords m s (Meet u) draft word = Unit {0}
 AreEventWords m s (Release u) draft word = Unit {0}
 AreEventWords m s (Stop u) draft word = Unit {0}
 
--- The state is the one after the event, and the event is appended to the list of events.
+-- The state of `new` is that of `old` after the event, the event is appended to the list of events, and fewer events
+-- remain.
 pub record IsPairStep (old : PairParts) (event : PairEvent) (new : PairParts) : Type 0 where
   pub spec : new.spec ≡ old.spec
   pub script : new.script ≡ old.script

@@ -92,11 +92,13 @@ plan_unit m u k j ready ends =
     if nat_lt j m.procs then (if may_note m j k (ends j) then Some (Note u (proc_id j)) else None)
     else (if nat_lt (suc k) m.frames then plan_noted m u k j ready else None)
 
--- The next event of unit `u` with state `x`, which has not halted. `stops` is `true` if the unit halts here.
+-- The next event of unit `u` with state `x`, which has not halted, or `None` if it waits or has made its last note.
+-- `stops` is `true` if the unit halts here.
 abbrev pub next_going : Flight → ℕ → KernelUnit → ℕ → (ℕ → ℕ) → Bool → Option PairEvent
 next_going m u x ready ends stops = if stops then Some (Stop u) else plan_unit m u x.frame x.step ready ends
 
--- The next event of unit `u` with state `x`, given the other unit's ready word and the end words.
+-- The next event of unit `u` with state `x`, given the other unit's ready word and the end words of the processors.
+-- It is `None` if the unit waits, has halted or has made its last note, or if the flight has no frame.
 abbrev pub next_by : Flight → Option UnitHalt → ℕ → KernelUnit → ℕ → (ℕ → ℕ) → Option PairEvent
 next_by m halt u x ready ends =
     if nat_eq m.frames 0 then None

@@ -1,4 +1,4 @@
--- The number of remaining events.
+-- The number of events of a pair that remain.
 use Rattle.std.specs.Prelude.{ℕ, zero, suc, ◌+◌, ◌-◌, ◌*◌, ◌&&◌, Option, Some, None, is_none, if◌then◌else◌, nat_eq}
 use Rattle.fail_stop.specs.Flights.{Flight}
 use Rattle.kernel_pair.specs.declared.events.UnitHalt.{UnitHalt}

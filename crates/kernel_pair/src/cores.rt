@@ -13,7 +13,8 @@ use scram_kernel::Kernel;
 use scram_types::{Flown, NoMemory, ProcId, Row, Script, Spec};
 use std::alloc::Global;
 
-/// A flight whose kernel runs on two units, by a specification, a script and a schedule of events. One unit may halt.
+/// A flight of a specification and a script whose kernel runs on two units, one of which may halt. Its events are
+/// made one by one.
 #[derive(Drop)]
 pub struct PairCore<'a> {
     machine: PairMachine<'a>,
@@ -94,7 +95,8 @@ impl<'a> PairCore<'a> {
     ///
     /// # Errors
     ///
-    /// Returns the event if and only if it is not a next event of its actor, whatever its numbers are.
+    /// Returns the event if and only if it is not a next event of its actor. An event whose processor, unit or word
+    /// does not exist is never a next event.
     pub fn step(&mut self, event: PairEvent) -> Result<(), PairEvent>
         ensures next { IfOk result (λ _. IsPairNext (pair_flight self.old) self.old.halt (pair_in self.old) event) }
         ensures step { IfOk result (λ _. IsPairStep self.old event self.new) }
@@ -151,7 +153,7 @@ impl<'a> PairCore<'a> {
             .make(PairEvent::Store(u, i), &[0; 64], words[usize::from(i)]);
     }
 
-    // Makes an event of a unit that needs no processor and no word.
+    // Makes an event of a unit that involves no processor and no word, such as a release.
     fn turn(&mut self, event: PairEvent)
         requires turn { IsTurn event }
         requires next { IsPairNext (pair_flight self.old) self.old.halt (pair_in self.old) event }
@@ -161,7 +163,7 @@ impl<'a> PairCore<'a> {
         self.machine.make(event, &[0; 64], 0);
     }
 
-    // Returns the kernel of unit `u`, which has ended the frames in which the unit has noted every processor.
+    // Returns the kernel of unit `u`. It has ended the frames in which the unit has noted every processor.
     fn kernel(&self, u: u8) -> &Kernel<'a>
         requires { u < 2 }
         ensures { result.now ≡ kernel_after self.now.spec self.now.script (noted_frames (pair_flight self.now) ((pair_in self.now).unit u)) }
@@ -186,8 +188,8 @@ impl<'a> PairCore<'a> {
         self.kernel(unit).rows()
     }
 
-    /// Returns the snapshot of a processor that may make a frame by the words of a unit. It holds the kernel image of
-    /// that frame, and every processor's image before the frame.
+    /// Returns the snapshot of processor `p`, which may make frame `frame` by the words of unit `unit`. It holds the
+    /// kernel image of that frame, and every processor's image before the frame.
     pub fn snapshot(&self, p: ProcId, unit: u8, frame: u32) -> Snapshot
         requires next { IsPairNext (pair_flight self.now) self.now.halt (pair_in self.now) (Fly p unit) }
         requires frame { frame_to_make (restart_of self.now.script p.0) ((pair_in self.now).proc p.0).place ≡ Some frame }

@@ -41,7 +41,7 @@ pub(crate) fn draft(flyers: &mut [Flyer], machine: &PairMachine, p: ProcId, u: u
     }
 }
 
-// Returns the words of the draft of processor `p` in the frame of a snapshot.
+// Returns the words of the draft of processor `p` in frame `frame`, given the snapshot of that frame.
 fn draft_frame(
     flyer: &mut Flyer,
     setup: &Setup,

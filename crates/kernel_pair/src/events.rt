@@ -15,9 +15,9 @@ pub struct UnitHalt {
 /// An event of a processor or of a unit.
 #[derive(Clone, Copy, Debug, PartialEq, Eq)]
 pub enum PairEvent {
-    /// The processor makes its frame by the words of this unit, whole or up to its halt.
+    /// The processor makes its next frame, whole or up to its halt, by the words of this unit.
     Fly(ProcId, u8),
-    /// The unit notes the mark and the image of this processor after the unit's frame.
+    /// The unit notes the mark and the image that this processor has after the unit's frame.
     Note(u8, ProcId),
     /// The unit stores this word of the kernel image of the next frame.
     Store(u8, u8),

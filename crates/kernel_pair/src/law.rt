@@ -11,7 +11,7 @@ pub fn pairs_hold()
     ensures { PairsHold }
 {}
 
-/// States that the invariant holds in each state of each schedule.
+/// States that the invariant `PairKept` holds in each state of each schedule.
 pub fn pairs_keep()
     ensures { PairsKeep }
 {}

@@ -111,7 +111,8 @@ impl<'a> PairMachine<'a> {
         is_next(&self.setup, &self.state, event)
     }
 
-    /// Makes a next event of an actor. `draft` is the draft of a frame, and `word` the word of a store.
+    /// Makes `event`, a next event of its actor. For a `Fly`, `draft` holds the words of the frame's draft, and for a
+    /// `Store`, `word` is the word to store. Other events use neither.
     pub(crate) fn make(&mut self, event: PairEvent, draft: &[u64; 64], word: u64)
         requires next { IsPairNext (pair_flight self.old) self.old.halt (pair_in self.old) event }
         requires words { AreEventWords (pair_flight self.old) (pair_in self.old) event draft.now word }

@@ -18,7 +18,8 @@ use crate::states::PairState;
 use crate::units::UnitState;
 use scram_types::{ProcId, Script, Spec};
 
-/// Makes a next event of an actor. `draft` is the draft of a frame, and `word` the word of a store.
+/// Makes `event`, a next event of its actor. For a `Fly`, `draft` holds the words of the frame's draft, and for a
+/// `Store`, `word` is the word to store. Other events use neither.
 pub(crate) fn make(
     setup: &Setup,
     state: &mut PairState,

@@ -18,7 +18,7 @@ use fail_stop::notes;
 use fault_script::restart_of;
 use scram_types::{ProcId, Script};
 
-/// Returns `true` if an event is a next event of its actor, whatever its numbers are.
+/// Returns `true` if `event` is a next event of its actor. The processor, unit or word of the event need not exist.
 pub(crate) fn is_next(setup: &Setup, state: &PairState, event: PairEvent) -> bool
     ensures { IsTrue result ↔ IsPairNext (flight_by setup.now) setup.now.halt (pair_of state.now) event }
 {

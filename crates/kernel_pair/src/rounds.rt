@@ -11,7 +11,7 @@ use crate::events::PairEvent;
 use scram_types::ProcId;
 
 /// Makes all remaining events in rounds. In a round, each processor makes its next frame if it can. Then unit 0 makes
-/// its events for as long as it has one, and then unit 1 does.
+/// events until it has no next event, and then unit 1 does the same.
 pub fn fly_on(core: &mut PairCore)
     ensures spec { core.new.spec ≡ core.old.spec }
     ensures script { core.new.script ≡ core.old.script }

@@ -64,7 +64,7 @@ fn copied(words: &[u64; 20]) -> [u64; 20]
     *words
 }
 
-// Returns the image of each processor that a reader in a frame finds.
+// Returns, for each processor, the image that a reader in a frame finds.
 fn images_picked(spec: &Spec, procs: &[ProcessorState; 8], frame: u32) -> [Image; 8]
     ensures words { (q : ℕ) → q < 8 → (i : ℕ) → i < 64 → slice_index_or (image_in result q) i (pos 0) ≡ word_seen spec.now procs.now q frame i }
     ensures long { (q : ℕ) → q < 8 → length (image_in result q) ≡ 64 }

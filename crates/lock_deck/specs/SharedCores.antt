@@ -10,7 +10,7 @@ use Rattle.frame_model.specs.Flights.{draft}
 use Rattle.lock_deck.specs.declared.made.Made.{Made}
 use Rattle.lock_deck.specs.declared.made.Made.TheVariants.{Nothing, Started, Moved, Saw, Done, Halted}
 
--- The draft is the draft of processor `p` in its frame of the mission.
+-- The draft `made` is the draft of processor `p` in frame `made.frame` of the mission.
 abbrev pub IsDraftOf : MissionParts → ℕ → Draft → Type 0
 IsDraftOf mission p made = made.image ≡ draft mission.spec mission.script p made.frame
 
@@ -18,11 +18,11 @@ IsDraftOf mission p made = made.image ≡ draft mission.spec mission.script p ma
 abbrev pub IsDraftWord : MissionParts → ℕ → ℕ → ℕ → ℕ → Type 0
 IsDraftWord mission p f i word = word ≡ word_in (draft_words mission.spec mission.script p f) i
 
--- The snapshot is the snapshot of its frame in the mission.
+-- The snapshot is that of the mission in the frame of its kernel image.
 abbrev pub IsSnapshotOf : MissionParts → Snapshot → Type 0
 IsSnapshotOf mission snap = IsSnapshot mission.spec mission.script snap.kernel.frame snap
 
--- If a turn returned a snapshot, a condition holds for the snapshot.
+-- If the result of a turn is a snapshot, then a condition holds for the snapshot.
 abbrev pub IfSaw : Made → (Snapshot → Type 0) → Type 0
 IfSaw Nothing Fact = Unit {0}
 IfSaw Started Fact = Unit {0}

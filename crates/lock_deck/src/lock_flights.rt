@@ -121,7 +121,8 @@ fn make_members(
     Ok(members)
 }
 
-// Takes the last rack and the last spare rack, and adds their processor if the mission has a processor of that number.
+// Takes the last rack and the last spare rack, and adds the processor with these racks if the mission has it. Its
+// number is the number of racks that remain.
 fn add_next(
     mission: &Mission,
     racks: &mut Vec<Rack>,
@@ -139,8 +140,8 @@ fn add_next(
     }
 }
 
-// Takes the last rack and the last spare rack, and returns their processor. Returns `None` if a rack is missing or the
-// mission has no processor of that number.
+// Takes the last rack and the last spare rack, and returns the processor with these racks. Its number is the number
+// of racks that remain. Returns `None` if a rack is missing or the mission has no processor of that number.
 fn next_member(mission: &Mission, racks: &mut Vec<Rack>, spares: &mut Vec<Rack>) -> Option<Member>
     requires few { vec_len racks.old ≤ 8 }
     ensures few { vec_len racks.new ≤ 8 }

@@ -78,7 +78,7 @@ impl<'a, J: FlightOf> SharedCore<'a, J> {
     }
 
     /// Makes the next step of a processor, if there is one. If a store is next and `drafted` is not a draft of the
-    /// processor's current frame, makes no step and returns the snapshot.
+    /// processor's current frame, makes no step and returns the snapshot of that frame.
     pub(crate) fn make_step(&mut self, p: ProcId, drafted: Option<&Draft>) -> Made
         requires { (mission : MissionParts) → J.mission ≡ Some mission → IfSome drafted (λ draft. IsDraftOf mission p.0 draft.now) }
         ensures { (mission : MissionParts) → J.mission ≡ Some mission → IfSaw result (IsSnapshotOf mission) }

@@ -86,7 +86,7 @@ pub(crate) fn make_any(core: &mut Core)
 }
 
 /// Makes the next step of a processor, if there is one. If a store is next and `drafted` is not a draft of the
-/// processor's current frame, makes no step and returns the snapshot.
+/// processor's current frame, makes no step and returns the snapshot of that frame.
 pub(crate) fn make_step(core: &mut Core, p: ProcId, drafted: Option<&Draft>) -> Made
     requires drafted { IfSome drafted (λ draft. IsDraftOf (mission_of core.old.spec core.old.script) p.0 draft.now) }
     ensures saw { IfSaw result (IsSnapshotOf (mission_of core.old.spec core.old.script)) }

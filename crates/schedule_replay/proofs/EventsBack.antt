@@ -22,7 +22,7 @@ use Rattle.schedule_replay.specs.Verbs.{verb_named, word_count}
 use Rattle.schedule_replay.specs.Events.{HasEvent, event_text}
 use Rattle.schedule_replay.specs.Reading.{event_read, event_told, is_legible}
 
--- A line, without its line feed, is printable and encodes an event.
+-- The line, given without its line feed, is printable and encodes the event.
 pub record LineBack (spec : Parts) (line : List ℕ) (event : Event) : Type 0 where
   pub plain : is_plain line ≡ true
   pub read : event_read spec line ≡ Ok event
@@ -54,7 +54,8 @@ name_there spec p sound below =
 both : (a b : Bool) → a ≡ true → b ≡ true → (a && b) ≡ true
 both a b e f = and_from a b e f
 
--- A line with a first word and the name of a processor encodes the event of that kind and processor.
+-- A line of two words, the word of a kind of event and the name of processor `p`, encodes the event of that kind and
+-- processor.
 of_proc : (spec : Parts) (kind : Verb) (word : List ℕ) (event : Event) (p : ProcId) → IsSpec spec → p.0 < length spec.procs → is_visible word ≡ true → length word ≤ 8
     → verb_named word ≡ Some kind → (2 == word_count kind) ≡ true → event_told spec kind (word ∷ proc_name spec p.0 ∷ []) ≡ Some event
     → LineBack spec (line_of (word ∷ proc_name spec p.0 ∷ [])) event

@@ -47,7 +47,7 @@ last_rule None false is = refl
 last_rule (Some e) true is = refl
 last_rule (Some e) false is = cc
 
--- Rule 3: no event has more words than the 16 that a line of a trace may have.
+-- Lemmas on rule 3. No event has more words than the 16 that a line of a trace may have.
 few : (verb : Verb) → word_count verb ≤ 16
 few Start = omega arith
 few Look = omega arith

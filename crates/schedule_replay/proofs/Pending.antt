@@ -26,7 +26,8 @@ module _ (m : Flight) (at : Places) (words : Word → ℕ) where
       let both = first_none (next_below m at words n) (next_of m at words n) is in
       at_or_below n p (ℕ_discrete p n) low both.1 (λ less. none_below n p less both.0)
 
-  -- The event that is found is the next event of the first processor below `n` that has one.
+  -- If processor `p` is the first one below `n + 1` that has a next event, then `next_below` finds that event below
+  -- `n + 1`.
   found_at : (n p : ℕ) (e : Event) → Dec (p ≡ n) → p < suc n → next_below m at words p ≡ None → next_of m at words p ≡ Some e → (p < n → next_below m at words n ≡ Some e) → next_below m at words (suc n) ≡ Some e
   found_at n p e (yes same) low none is before =
       ap (λ o. first_of_two o (next_of m at words n)) (subst (λ k. next_below m at words k ≡ None) same none) ∙ ap (next_of m at words) (sym same) ∙ is

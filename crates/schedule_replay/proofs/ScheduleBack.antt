@@ -1,4 +1,4 @@
--- The text that is written is read back.
+-- The events of a schedule are read back from the text that is written for them.
 use Rattle.std.proofs.Common.{ℕ, suc, ◌≡◌, ◌≤◌, ◌+◌, ◌∙◌, List, [], ◌∷◌, ◌++◌, Result, Ok, Err, length, refl, sym, ap, append_assoc, append-nil}
 use Rattle.std.specs.Prelude.{IfOk, Vec, codes}
 use Rattle.scram_types.specs.Specification.{IsSpec, Parts}

@@ -1,4 +1,4 @@
--- The round-robin schedule has events of the specification.
+-- The specification has each event of the round-robin schedule.
 use Rattle.std.proofs.Common.{ℕ, zero, suc, ◌≡◌, ◌<◌, ◌≤◌, ◌*◌, Bool, true, false, cond, List, [], ◌∷◌, ◌++◌, Option, Some, None, Result, Ok, Err, length, arith}
 use Rattle.std.specs.Prelude.{IfOk, Vec, nat_lt}
 use Rattle.scram_types.specs.declared.memory.NoMemory.{NoMemory}
@@ -14,7 +14,8 @@ use Rattle.fail_stop.specs.ScriptFlights.{flight_of}
 use Rattle.schedule_replay.specs.Events.{HasEvent, HasEvents}
 use Rattle.schedule_replay.specs.Turns.{ending, frames_in_turns, in_turns, releasing, steps_by, turn_of_kernel, turn_of_proc, turns_of_procs}
 
--- Lemmas on the events of the turns.
+-- Lemmas that the specification has each event of a list that is made of lists of its events, and each event of a
+-- turn.
 
 each_append : {A : Type 0} (Fact : A → Type 0) (xs ys : List A) → Each Fact xs → Each Fact ys → Each Fact (xs ++ ys)
 each_append Fact [] ys one two i y there = two i y there

@@ -20,7 +20,7 @@ use Rattle.fail_stop.specs.ScriptFlights.{flight_of}
 use Rattle.schedule_replay.specs.Turns.{LeadsToTheEnd, TurnsLeadToTheEnd, frames_in_turns, releasing, turn_of_proc, turn_of_kernel, turns_of_procs}
 use Rattle.schedule_replay.proofs.TurnsLead.{Leads, ended_at, joined, kept_after, steps_lead}
 
--- There is a restart after frame `h` and no later than frame `f`.
+-- The restart `o` comes after frame `h` and no later than frame `f`.
 record Back (o : Option ℕ) (h f : ℕ) : Type 0 where
   r : ℕ
   is : o ≡ Some r
@@ -35,7 +35,7 @@ not_at_once : (o : Option ℕ) (f : ℕ) → back_by o f f ≡ false
 not_at_once None f = refl
 not_at_once (Some r) f = grind (arith, nat_tests)
 
--- The turn of a processor in frame `f` is still to come.
+-- At the place, the turn of a processor in frame `f` is still to come.
 abbrev Waits : ℕ → Place → Type 0
 Waits f (At g n) = (g ≡ f) × (n ≡ 0)
 Waits f (Halted h) = h < f
@@ -94,7 +94,8 @@ module _ (m : Flight) (y : Flies m) where
             goes = ap (moved m (Start (proc_id p)) p) here ∙ (rw b.is (ap (λ (k : ℕ). At k 1) same));
           }
 
-  -- A processor that is down does not move in its turn.
+  -- If a processor is down in frame `f`, then its place before its turn in the frame is also its place after the
+  -- turn.
   down_went : (s : Machine) (p f : ℕ) (place : Place) → s.at.frame ≡ f → m.up p f ≡ false → IsPlaced m s.at.frame s.at.step p place → Waits f place → Went m p f place
   down_went s p f (At g n) frame down is w = absurd (let same : m.up p f ≡ true = subst (λ (k : ℕ). m.up p k ≡ true) w.0 is.up in let bad : true ≡ false = sym same ∙ down in cc)
   down_went s p f (Halted h) frame down is w = (omega (arith, w), not_back (back_by (m.restart p) h f) refl)
@@ -128,7 +129,7 @@ module _ (m : Flight) (y : Flies m) where
     went = down_went s p f (s.at.proc p) frame down (kept.placed p low) w;
   }
 
-  -- The machine is at the begin of frame `f`.
+  -- The kernel is at the begin of frame `f`, and the turn of each processor in the frame is still to come.
   record Begun (s : Machine) (f : ℕ) : Type 0 where
     kept : Kept m s.at s.words
     frame : s.at.frame ≡ f
@@ -164,7 +165,7 @@ module _ (m : Flight) (y : Flies m) where
       went_by r t p below (yes same) = subst (λ (k : ℕ). Went m k f (t.leads.state.at.proc k)) (sym same) (subst (Went m n f) (sym t.leads.came.here) t.went)
       went_by r t p below (no apart) = subst (Went m p f) (sym (t.leads.came.others p apart)) (r.went p (omega (arith, below, apart)))
 
-  -- Lemmas on the turn of the kernel.
+  -- Lemmas on the turn of the kernel: its notes, and its stores and release.
   noted_end : (s : Machine) (p : ℕ) (place : Place) → Kept m s.at s.words → p < m.procs → s.at.proc p ≡ place → IsPlaced m s.at.frame s.at.step p place → Went m p s.at.frame place → may_note m p s.at.frame (s.words (EndWord p)) ≡ true
   noted_end s p (At g n) kept low here is w =
       let past = w.0 in
@@ -180,7 +181,8 @@ module _ (m : Flight) (y : Flies m) where
       or_true true = refl
       or_true false = refl
 
-  -- The kernel has made `j` steps of frame `f`, and the processors are at the same places as before.
+  -- The events `es` lead from state `s` to a state in which the kernel has made `j` steps of frame `f` and the
+  -- processors are at the same places as in `s`.
   record Kernel (s : Machine) (es : List Event) (f j : ℕ) : Type 0 where
     state : Machine
     schedule : IsSchedule m s es state
@@ -236,7 +238,7 @@ module _ (m : Flight) (y : Flies m) where
         procs = k.procs;
       }
 
-  -- The events lead to the begin of the next frame.
+  -- The events `es` lead from state `s` to the begin of frame `f`.
   record Next (s : Machine) (es : List Event) (f : ℕ) : Type 0 where
     state : Machine
     schedule : IsSchedule m s es state
@@ -297,7 +299,7 @@ module _ (m : Flight) (y : Flies m) where
         begun = x.begun;
       }
 
-  -- Lemmas on the end of the schedule.
+  -- Lemmas that the flight is over after the turns of the last frame.
   went_done : ((p r : ℕ) → m.restart p ≡ Some r → r < m.frames) → (p f : ℕ) (place : Place) → suc f ≡ m.frames → Went m p f place → IsDone m p place
   went_done bound p f (At g n) last w = w.0 ∙ last
   went_done bound p f (Halted h) last w = λ r is. not_late r is (dec_le r h)

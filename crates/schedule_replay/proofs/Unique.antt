@@ -1,4 +1,4 @@
--- A list of events has one state after it, and one answer.
+-- A list of events leads to only one state, and has only one answer apart from out of memory.
 use Rattle.std.proofs.Common.{ℕ, zero, suc, ◌≡◌, ◌≢◌, ◌<◌, ◌≤◌, ◌-◌, ◌*◌, ◌∙◌, List, [], ◌∷◌, Option, Some, Result, Ok, Err, take, arith, refl, sym, ap, subst, inl, inr}
 use Rattle.std.specs.Prelude.{slice_get}
 use Rattle.std.proofs.lemmas.Bool.{cases_order}
@@ -39,7 +39,7 @@ module _ (m : Flight) where
       let more = next_in (happened m s e) es t index event i.1 h in
       record { there = more.there; schedule = (i.0, more.schedule); next = more.next }
 
-  -- In a schedule no event is out of turn.
+  -- If a list of events is a schedule, then each of its events is the next of its actor.
   in_turn : (list : List Event) (at : Places) (words : Word → ℕ) (index : ℕ) (given : Event) (told : Option Event) → IsReplay m list at words → IsIllegal m list index given told → ⊥
   in_turn list at words index given told r j =
       let n = next_in (opening m) list r.state index given r.schedule j.there in
@@ -60,7 +60,7 @@ module _ (m : Flight) where
       by_actor (KStore x) is = is
       by_actor Release is = is
 
-  -- Two replays of one list lead to the same places and the same words.
+  -- The places are the same, and so is each word that is stored.
   record Agrees (at : Places) (words : Word → ℕ) (at2 : Places) (words2 : Word → ℕ) : Type 0 where
     places : at ≡ at2
     words_are : (w : Word) → IsStored m w → words w ≡ words2 w
@@ -98,7 +98,7 @@ module _ (m : Flight) where
   moved_actor : (at : Places) (words : Word → ℕ) (at2 : Places) (words2 : Word → ℕ) (e : Event) → Agrees at words at2 words2 → next_of_actor m at words e ≡ next_of_actor m at2 words2 e
   moved_actor at words at2 words2 e a = actor_same at words words2 a.words_are e ∙ ap (λ (p : Places). next_of_actor m p words2 e) a.places
 
-  -- Lemmas on two answers to one list.
+  -- Lemmas that two answers to one list of events are the same, apart from out of memory.
 
   not_both : (list : List Event) → IsWholeSchedule m list → (events : ℕ) (next : Event) → IsShort m list events next → ⊥
   not_both list w events next s = let a = agree list w.at w.words s.at s.words w.replay s.replay in s.going (subst (λ (p : Places). IsOver m p) a.places w.over)

@@ -1,4 +1,4 @@
--- The next line of a schedule.
+-- Lemmas on how the reading of a schedule goes on or ends after its next line.
 use Rattle.std.proofs.Common.{ℕ, ◌≡◌, ◌<◌, ◌≤◌, ◌+◌, ◌∙◌, List, [], ◌∷◌, ◌++◌, Result, Ok, Err, length, arith, refl, sym, ap}
 use Rattle.std.proofs.lemmas.Bool.{le-ltb}
 use Rattle.scram_types.specs.Specification.{Parts}
@@ -32,7 +32,7 @@ taken spec k so_far text rest behind event read split told here =
     ap (λ (r : Result Event ℕ). read_on k r (λ (e : Event). events_from spec (k + 1) (so_far ++ e ∷ []) (pieces_of 10 behind))) (sym told)
     ∙ step spec k so_far text rest behind read split here
 
--- If a line breaks a rule, then the reading ends with that rule.
+-- If a line breaks a rule, then the reading of the file ends with the fault of that line and rule.
 pub refused : (spec : Parts) (k : ℕ) (so_far : List Event) (text rest behind bytes : List ℕ) (rule : ℕ) → pieces_of 10 rest ≡ text ∷ pieces_of 10 behind
     → event_read spec text ≡ Err rule → length bytes ≤ MAX_SCHEDULE_BYTES → events_from spec k so_far (pieces_of 10 rest) ≡ events_from spec 1 [] (pieces_of 10 bytes)
     → schedule_of spec bytes ≡ Err (schedule_fault k rule)

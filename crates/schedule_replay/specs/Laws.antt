@@ -1,4 +1,4 @@
--- A law of every list of events that is flown as a schedule.
+-- The law that a list of events that is flown as a schedule has only one answer.
 use Rattle.std.specs.Prelude.{◌≡◌, ◌≢◌, List, Result, Err}
 use Rattle.bank_words.specs.declared.events.Event.{Event}
 use Rattle.scram_types.specs.Scripts.{ScriptParts}

@@ -13,15 +13,17 @@ use Rattle.schedule_replay.specs.declared.verbs.Verb.TheVariants.{Start, Look, S
 use Rattle.schedule_replay.specs.Reading.{event_read, is_legible, verb_of}
 use Rattle.schedule_replay.specs.Verbs.{word_count}
 
--- Whether no word is empty and the number of words is that of an event of a kind.
+-- Whether no word is empty and the number of words is that of an event of the kind.
 abbrev pub has_words : List (List ℕ) → Verb → Bool
 has_words words verb = list_all is_filled words && (length words == word_count verb)
 
--- The kind of event whose form the words of a line have, or `None` if they have no form.
+-- The kind of event that the first word of a line names, if the words of the line have the form of that kind.
+-- Otherwise the value is `None`.
 abbrev pub event_form : List ℕ → Option Verb
 event_form line = option_and_then (λ (verb : Verb). if has_words (words_of line) verb then Some verb else None) (verb_of line)
 
--- Whether rule 4 is kept. Each processor is known, and a number is the index of a word of an image or of the kernel.
+-- Whether the words of a line for an event of the kind keep rule 4. Each processor that they name must be known, and
+-- the number of a store must be the index of a word of an image, or of a word of the kernel for `KernelStore`.
 abbrev pub names_event : Parts → List (List ℕ) → Verb → Bool
 names_event spec words Start = is_some (proc_named spec (word_at words 1))
 names_event spec words Look = is_some (proc_named spec (word_at words 1)) && is_some (proc_named spec (word_at words 2))
@@ -33,7 +35,8 @@ names_event spec words Note = is_some (proc_named spec (word_at words 1))
 names_event spec words KernelStore = is_some (spelled_number 20 (word_at words 1))
 names_event spec words Release = true
 
--- Whether a line, without its line feed, breaks the rule of this number. A line that has no form does not break rule 4.
+-- Whether a line, without its line feed, breaks the rule of this number. Only a line that has the form of a kind of
+-- event can break rule 4.
 abbrev pub breaks_event_rule : Parts → List ℕ → ℕ → Bool
 breaks_event_rule spec line rule =
     if rule == BROKEN_LINE then not (is_legible line)

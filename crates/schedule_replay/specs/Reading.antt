@@ -21,7 +21,7 @@ use Rattle.schedule_replay.specs.declared.verbs.Verb.{Verb}
 use Rattle.schedule_replay.specs.declared.verbs.Verb.TheVariants.{Start, Look, Store, Flip, Done, Halt, Note, KernelStore, Release}
 use Rattle.schedule_replay.specs.Verbs.{verb_named, word_count}
 
--- Whether a line that has its line feed keeps rule 1: its bytes are printable, and it is not too long.
+-- Whether a line, given without its line feed, keeps rule 1: it is not too long, and its bytes are printable.
 abbrev pub is_legible : List ℕ → Bool
 is_legible line = nat_le (length line) MAX_EVENT_BYTES && list_all is_printable line
 
@@ -34,12 +34,12 @@ verb_of line = verb_named (word_at (words_of line) 0)
 abbrev pub words_counted : Verb → List (List ℕ) → Option (List (List ℕ))
 words_counted verb words = if length words == word_count verb then Some words else None
 
--- The words of a line for an event of a kind, or `None` if a word is empty or their number is not that of the kind.
--- In the latter case the line breaks rule 3.
+-- The words of a line if none of them is empty and their number is that of an event of the kind. Otherwise the value
+-- is `None`, and the line breaks rule 3.
 abbrev pub words_for : Verb → List ℕ → Option (List (List ℕ))
 words_for verb line = option_and_then (words_counted verb) (words_in line)
 
--- The processor that the second word names, or `None` if it names none.
+-- The processor that the second word of a line names, or `None` if it names none.
 abbrev pub proc_in : Parts → List (List ℕ) → Option ProcId
 proc_in spec words = proc_named spec (word_at words 1)
 
@@ -58,7 +58,7 @@ event_told spec Note words = option_map event.KNote (proc_in spec words)
 event_told spec KernelStore words = option_map event.KStore (spelled_number 20 (word_at words 1))
 event_told spec Release words = Some event.Release
 
--- The event that a printable line encodes, or the first rule that the line breaks.
+-- The event that a line encodes, or the first of the rules 2 to 4 that the line breaks. The line keeps rule 1.
 abbrev pub line_event : Parts → List ℕ → Result Event ℕ
 line_event spec line =
     or_rule UNKNOWN_WORD (verb_of line) (λ (verb : Verb).
@@ -69,29 +69,31 @@ line_event spec line =
 abbrev pub event_read : Parts → List ℕ → Result Event ℕ
 event_read spec line = if is_legible line then line_event spec line else Err BROKEN_LINE
 
--- The fault of a line that breaks a rule, with the numbers of both. Lines are counted from 1.
+-- The fault of line `line`, counted from 1, that breaks rule `rule`.
 abbrev pub schedule_fault : ℕ → ℕ → ScheduleFault
 schedule_fault line rule = record { line = line; rule = rule }
 
--- If a line is read, the reading continues with its event. If the line breaks a rule, the reading ends with the fault
--- of line `k`.
+-- The result of a reading that has reached line `k`, given the event that the line encodes or the rule that it
+-- breaks. For an event it is the value of `next` for the event, and for a rule the fault of line `k`.
 abbrev pub read_on : ℕ → Result Event ℕ → (Event → Result (List Event) ScheduleFault) → Result (List Event) ScheduleFault
 read_on k (Ok event) next = next event
 read_on k (Err rule) next = Err (schedule_fault k rule)
 
--- The events of the preceding lines followed by those of the lines from line `k` on, or a fault. The text after the
--- last line feed must be empty.
+-- The events `so_far` of the preceding lines followed by the events of the given lines, or the fault of the first of
+-- these that breaks a rule. The first given line has number `k`. The last is the text after the last line feed, which
+-- must be empty.
 abbrev pub events_from : Parts → ℕ → List Event → List (List ℕ) → Result (List Event) ScheduleFault
 events_from spec k so_far [] = Ok so_far
 events_from spec k so_far (last ∷ []) = if is_filled last then Err (schedule_fault k BROKEN_LINE) else Ok so_far
 events_from spec k so_far (line ∷ next ∷ lines) =
     read_on k (event_read spec line) (λ (event : Event). events_from spec (k + 1) (so_far ++ event ∷ []) (next ∷ lines))
 
--- The events that the lines encode, or a fault. A file that is too long breaks rule 5 at line 0.
+-- The events that the lines of a file encode, or the fault of the first line that breaks a rule. A file that is too
+-- long breaks rule 5 at line 0.
 abbrev pub schedule_of : Parts → List ℕ → Result (List Event) ScheduleFault
 schedule_of spec bytes = if nat_lt MAX_SCHEDULE_BYTES (length bytes) then Err (schedule_fault 0 TOO_LONG) else events_from spec 1 [] (pieces_of 10 bytes)
 
--- The reader answers with the result of the reading, or with out of memory.
+-- The answer of the reader has the events or the fault of the given result of the reading, or is out of memory.
 abbrev pub AnswersSchedule : {A : Type 0} → Result (List Event) ScheduleFault → Result (Vec Event A) ScheduleError → Type 0
 AnswersSchedule reading (Ok list) = reading ≡ Ok list.items
 AnswersSchedule reading (Err (Fault fault)) = reading ≡ Err fault

@@ -13,14 +13,15 @@ use Rattle.fail_stop.specs.Schedules.{IsSchedule, Machine, opening}
 use Rattle.fail_stop.specs.ScriptFlights.{flight_of}
 use Rattle.fault_script.specs.Fits.{Fits}
 
--- The steps of processor `p` in a frame after its stores. They are the flip and the end of the frame, or its halt,
--- before which a flip may come.
+-- The steps of processor `p` in a frame after its stores, given the step of its halt in the frame, or `None`. Without
+-- a halt they are the flip and the end of the frame. With a halt they are the halt, preceded by the flip if the step
+-- is greater than the width of an image.
 abbrev pub ending : Flight → ℕ → Option ℕ → List Event
 ending m p None = Flip (proc_id p) ∷ Done (proc_id p) ∷ []
 ending m p (Some step) = if nat_lt m.width step then Flip (proc_id p) ∷ Halt (proc_id p) ∷ [] else Halt (proc_id p) ∷ []
 
--- All steps of processor `p` in a frame, given its halt there, if any. They are the start, a look at each processor,
--- the stores and the last steps.
+-- All steps of processor `p` in a frame, given the step of its halt in the frame, or `None` if it does not halt
+-- there. They are the start, a look at each processor, the stores, and the steps after the stores.
 abbrev pub steps_by : Flight → ℕ → Option ℕ → List Event
 steps_by m p halt =
     Start (proc_id p) ∷ (listed_below (λ (q : ℕ). Look (proc_id p) (proc_id q)) m.procs
@@ -30,12 +31,13 @@ steps_by m p halt =
 abbrev pub turn_of_proc : Flight → ℕ → ℕ → List Event
 turn_of_proc m p f = if m.up p f then steps_by m p (m.halt p f) else []
 
--- All steps of the processors below `n` in frame `f`, by processor.
+-- All steps of the processors below `n` in frame `f`, in the order of the processors.
 abbrev pub turns_of_procs : Flight → ℕ → ℕ → List Event
 turns_of_procs m f zero = []
 turns_of_procs m f (suc n) = turns_of_procs m f n ++ turn_of_proc m n f
 
--- The steps of the kernel in frame `f` after its notes, or the empty list if the frame is the last.
+-- The stores and the release that the kernel makes in frame `f` after its notes, or the empty list if the frame is
+-- the last.
 abbrev pub releasing : Flight → ℕ → List Event
 releasing m f = if nat_lt (suc f) m.frames then listed_below KStore 20 ++ Release ∷ [] else []
 

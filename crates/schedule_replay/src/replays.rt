@@ -20,7 +20,7 @@ use event_core::flyers::Flyers;
 use scram_types::{Flown, NoMemory, ProcId, Script, Spec};
 use std::alloc::Global;
 
-/// The reason why a list was not flown as a schedule to the end.
+/// The reason why a list of events was not flown as a schedule to the end of the flight.
 #[derive(Clone, Copy, Debug)]
 pub enum ReplayError {
     /// The event at this index, counted from 0, is the first that is not the next of its actor. `next` is the actor's
@@ -128,7 +128,7 @@ fn events_made(core: &Core) -> u32
     core.history().len() as u32
 }
 
-// Returns the word with which an event is made. The word is right if the event is the next of its actor.
+// Returns the word for the step of an event if the event is the next of its actor, or 0 if it is not.
 fn word_where_next(core: &Core, spec: &Spec, flyers: &mut Flyers, event: Event) -> u64
     requires spec { core.now.spec ≡ spec.now }
     requires fits { FlyBy core.now flyers.old }
@@ -143,7 +143,7 @@ fn word_where_next(core: &Core, spec: &Spec, flyers: &mut Flyers, event: Event) 
     }
 }
 
-// Returns the flight's rows and reports if it is over. Otherwise the error is the event that would come next.
+// Returns the rows and reports if the flight is over. Otherwise returns an error with the event that would come next.
 fn land(core: Core, spec: &Spec, events: &[Event]) -> Result<Flown, ReplayError>
     requires spec { core.spec ≡ spec.now }
     requires history { core.history ≡ events.now }

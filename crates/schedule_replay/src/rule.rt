@@ -1,4 +1,5 @@
-//! The numbers of the rules of a schedule. A fault shows its number, so the numbers never change.
+//! The numbers of the rules of a schedule. A fault shows the number of the rule that is broken. Therefore the numbers
+//! never change.
 
 /// The line lacks its line feed, has a byte that is not printable, or is too long.
 pub const BROKEN_LINE: u8 = 1;
@@ -6,7 +7,7 @@ pub const BROKEN_LINE: u8 = 1;
 /// The line's first word is not the first word of any event.
 pub const UNKNOWN_WORD: u8 = 2;
 
-/// The line has an empty word, or not the number of words of its kind of event.
+/// The line has an empty word, or its number of words is not that of its kind of event.
 pub const NO_FORM: u8 = 3;
 
 /// A processor is unknown, or a number is out of range or not spelled as it is printed.

@@ -14,8 +14,8 @@ use scram_types::Spec;
 use std::alloc::Global;
 use trace_text::pieces::split_once;
 
-/// The number of the first line that breaks a rule, counted from 1, and of the first rule that it breaks, 1 to 5. A
-/// schedule that is too long breaks rule 5 at line 0.
+/// The number of the first line that breaks a rule, counted from 1, and the number of the first rule that the line
+/// breaks, 1 to 5. A schedule that is too long breaks rule 5 at line 0.
 #[derive(Clone, Copy, Debug, PartialEq, Eq)]
 pub struct ScheduleFault {
     pub line: u32,

@@ -1,4 +1,4 @@
--- An accepted specification gives the law an accepted plan.
+-- The plan of an accepted specification is an accepted plan.
 use Rattle.std.proofs.Common.{◌≡◌, ℕ, zero, suc, ◌+◌, ◌<◌, ◌≤◌, Bool, true, false, refl, arith, ◌⊎◌, ◌≢◌, ap, sym, List, [], ◌∷◌, length, not}
 use mathlib.Core.Logic.{inl, inr}
 use Rattle.std.specs.Prelude.{Option, Some, None, slice_get, is_some, option_and_then, nat_lt, ◌&&◌, ◌==◌, ◌^◌, if◌then◌else◌}
@@ -63,7 +63,7 @@ on_placed (Some p) h = (p, refl)
 pub placed : (spec : Parts) (c : ConfId) (a : ℕ) → is_on spec c a ≡ true → (p : Place) × (place_of spec c a ≡ Some p)
 placed spec c a h = on_placed (place_of spec c a) h
 
--- If an application has a place in a configuration, then the configuration and the application exist.
+-- Configuration `c` exists, and application `a` has place `p` in it.
 pub record IsThere (spec : Parts) (c : ConfId) (a : ℕ) (p : Place) : Type 0 where
   pub conf : Conf
   pub there : slice_get spec.confs c.0 ≡ Some conf

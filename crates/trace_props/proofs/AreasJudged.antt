@@ -1,4 +1,5 @@
--- The first frame in which a reconfiguration breaks SP4, or a proof that it keeps SP4.
+-- The judging of SP4 gives the first frame in which a reconfiguration breaks SP4, or a proof that the reconfiguration
+-- keeps SP4.
 use Rattle.std.proofs.Common.{◌≡◌, ℕ, zero, suc, ◌+◌, ◌-◌, ◌≤◌, true, false, refl, arith, ap, sym, ◌∙◌, List, [], ◌∷◌, ◌⊎◌}
 use mathlib.Core.Logic.{inl, inr}
 use Rattle.std.specs.Prelude.{Option, Some, None, ℤ, slice_get, not, option_and_then, if◌then◌else◌}
@@ -29,7 +30,7 @@ use Rattle.trace_props.proofs.Differing.{same_id}
 use Rattle.trace_props.proofs.Ranging.{lies_is, lies_of}
 use Rattle.trace_props.proofs.TargetsJudged.{in_span, up_to_end}
 
--- Lemmas on SP4 and numbers within their interval.
+-- Lemmas that the test of SP4 decides whether a number is within an interval.
 outside_of : (low high x : ℤ) → not (lies_in low high x) ≡ true → Between (low, high) x → ⊥
 outside_of low high x h between = true_false (lies_in low high x) (lies_is low high x between) (not-true (lies_in low high x) h)
 

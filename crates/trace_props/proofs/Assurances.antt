@@ -1,4 +1,4 @@
--- Consequences of the coupling for each reconfiguration.
+-- Lemmas that each reconfiguration keeps its promises, since the reading of rows agrees with the mode.
 use Rattle.std.proofs.Common.{◌≡◌, ℕ, suc, ◌-◌, ◌<◌, ◌≤◌, refl, arith, subst}
 use Rattle.std.specs.Prelude.{Option, Some, None}
 use Rattle.trace_props.proofs.Plans.{Plan, IsAcceptedPlan}

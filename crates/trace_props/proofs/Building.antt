@@ -1,4 +1,4 @@
--- An accepted specification gives the law a build of which it is true.
+-- The build of an accepted specification satisfies `IsBuilt`.
 use Rattle.std.proofs.Common.{◌≡◌, ℕ, ◌<◌, ◌≤◌, true, refl, arith, ◌⊎◌, ap, sym, length}
 use mathlib.Core.Logic.{inl, inr}
 use Rattle.std.specs.Prelude.{Option, Some, None, slice_get, option_and_then}

@@ -1,4 +1,4 @@
--- Rows that are made by orders show what the law requires.
+-- Lemmas that rows that result from orders satisfy `CourseRowUnder`.
 use Rattle.std.proofs.Common.{◌≡◌, ℕ, zero, suc, ◌+◌, ◌-◌, ◌<◌, ◌≤◌, Bool, true, false, refl, arith, ◌⊎◌, ap, sym, ◌∙◌}
 use mathlib.Core.Logic.{inl, inr}
 use Rattle.std.specs.Prelude.{Option, Some, None, if◌then◌else◌, nat_eq, nat_lt, nat_le, ◌&&◌}
@@ -41,7 +41,7 @@ pub least_none : (test : ℕ → Bool) (i n : ℕ) → least_from test i n ≡ N
 least_none test i zero h j from below = absurd (omega arith)
 least_none test i (suc n) h j from below = least_none_in test i n j (test i) refl h from (λ e k. least_none test (suc i) n e j k (omega arith))
 
--- An order that neither runs an application nor has it off. Its act fits no place.
+-- The order neither runs an application nor has it off. The act of such an order fits no place.
 abbrev pub Idle : CourseOrder → Type 0
 Idle (Run p) = ⊥
 Idle (Halt k n p) = Unit {0}
@@ -95,7 +95,7 @@ place_same p q h = place_made p.mode.0 p.proc.0 q.mode.0 q.proc.0 (equal p.mode.
 pub place_self : (p : Place) → place_eq p p ≡ true
 place_self p = and_true _ _ (equal_test p.mode.0 p.mode.0 refl) (equal_test p.proc.0 p.proc.0 refl)
 
--- A run order that was committed fits exactly its own place.
+-- Lemmas that the act of a run order fits no place but the order's own, and fits that place if it was committed.
 ran_none : (b : Bool) (p : Place) → course_is_off (if b then Ran p else Lost) ≡ true → ⊥
 ran_none true p h = true_false false h refl
 ran_none false p h = true_false false h refl
@@ -119,8 +119,8 @@ lost_running : (commits : ℕ → Bool) (there : Option Place) → course_fits_p
 lost_running commits None h = absurd (true_false true refl h)
 lost_running commits (Some p) h = (p, refl, ran_not (commits p.proc.0) p h)
 
--- The phase is the running one if and only if the mode is to run its target, its configuration exists, and the
--- running phase has the mode's target.
+-- The phase agrees with the mode in frame `f`. It is the running phase if and only if the mode is to run its target,
+-- its configuration exists, and the running phase has the mode's target.
 abbrev pub InPhase : Plan → CourseMode → ℕ → CoursePhase → Type 0
 InPhase plan mode f ph = (runs_in ph ≡ course_is_running plan mode f) × (conf_of ph < plan.configurations) × (runs_in ph ≡ true → conf_of ph ≡ course_target mode)
 
@@ -220,7 +220,7 @@ module _ (plan : Plan) (course : Course) (accepted : IsAcceptedPlan plan) where
     lost_in acts committed (Preparing c age) r is h = absurd (true_false false r refl)
     lost_in acts committed (Initialising c age) r is h = absurd (true_false false r refl)
 
-    -- Row `f` of a run has the contents that the law requires of it.
+    -- Row `f` of a run agrees with the mode of its frame.
     row_under : (f : ℕ) → f < course.frames → (m : CourseMode) → course_mode_at plan course f ≡ m → Ranged plan m → CourseRowUnder plan course f m
     row_under f inside m moded r = record {
       only = λ j h. let o = only_in acts (commits f) ph j i.1 is (rw (run.runs_is f j inside) at h) in (rw i.0 at o.0, sym (i.2 o.0) ∙ o.1);

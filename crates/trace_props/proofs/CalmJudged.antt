@@ -1,4 +1,4 @@
--- The frame in which SP6 is broken: the first calm row that does not satisfy the demands.
+-- The judging of SP6 gives the first calm row that does not satisfy the demands, or a proof that SP6 holds.
 use Rattle.std.proofs.Common.{◌≡◌, ℕ, zero, suc, ◌-◌, ◌<◌, ◌≤◌, Bool, true, false, not, refl, arith, ap, sym, ◌∙◌, List, [], ◌∷◌, length}
 use mathlib.Core.Logic.{inl, inr}
 use Rattle.std.specs.Prelude.{Option, Some, None, slice_get, option_map, nat_le}
@@ -50,7 +50,7 @@ lost_none : (acts : List Act) → ((a : ℕ) → act_at acts a ≡ act.Lost → 
 lost_none [] whole = refl
 lost_none (x ∷ xs) whole = rw (not_true (is_lost x) (λ h. whole 0 (lost_is x h)), lost_none xs (λ a. whole (suc a))) refl
 
--- If the environment of a row is not another one than the environment before, then both are equal.
+-- If the test for another environment fails, then the environment of a row equals the one before.
 unchanged : (v : Env) (o before : Option Env) → o ≡ Some v → is_another_env o before ≡ false → before ≡ o
 unchanged v None before e h = cc
 unchanged v (Some w) None e h = absurd (true_false true refl h)

@@ -12,7 +12,8 @@ use Rattle.trace_props.proofs.Counting.{count_changed, count_le, count_same}
 use Rattle.trace_props.proofs.Deadlines.{Deadlines, bound_of, in_bound, kept_in, further_cases}
 use Rattle.trace_props.proofs.Coupling.{Coupled, changed_when, coupled}
 
--- Facts on the mode of frame `f` that do not depend on the rows that were read.
+-- The facts on the mode of frame `f` that do not depend on the rows. The configuration of a stable mode is chosen
+-- again, and a moving mode keeps its deadlines.
 abbrev pub TimedIn : Plan → Course → ℕ → CourseMode → Type 0
 TimedIn plan course f (Stable c) = (plan.choose c (course.env f) ≡ c) × (c < plan.configurations)
 TimedIn plan course f (Moving from halting to since) = (first : ℕ) × Deadlines plan course first f from halting to since
@@ -107,13 +108,13 @@ module _ (plan : Plan) (course : Course) (accepted : IsAcceptedPlan plan) (withi
       none_or_more : (n : ℕ) → (n ≡ 0) ⊎ (1 ≤ n)
       none_or_more n = grind arith
 
--- The arithmetic of a reconfiguration that follows another one: it is over within `b` frames after `s`.
+-- The arithmetic for a reconfiguration that follows another one: it is over less than `b` frames after `s`.
 followed : (f since halted p i h pj ij q x t b s : ℕ) → f ≤ since + halted + p + i → since ≤ s → halted + 2 ≤ q → p + i + 1 + h ≤ q → 2 ≤ x → 1 + h + x * q + pj + ij ≤ t → t ≤ b
     → suc f + h + pj + ij < s + b
 followed f since halted p i h pj ij q x t b s settled old short slow twice enough most = let m : 2 * q ≤ x * q = grind arith in omega arith
 
--- A moving mode dates from frame `s` or before, or its target is chosen again and it ends less than `b` frames after
--- `s`.
+-- The mode is stable, or moves since frame `s` or before, or its target is chosen again and its phases are over less
+-- than `b` frames after `s`.
 abbrev pub EndsSoon : Plan → Course → ℕ → ℕ → ℕ → CourseMode → Type 0
 EndsSoon plan course s b f (Stable c) = Unit {0}
 EndsSoon plan course s b f (Moving from halting to since) =

@@ -1,4 +1,5 @@
--- The frame in which a reconfiguration breaks SP5, or a proof that it keeps SP5.
+-- The judging of SP5 gives the frame in which a reconfiguration breaks SP5, or a proof that the reconfiguration keeps
+-- SP5.
 use Rattle.std.proofs.Common.{◌≡◌, ℕ, zero, suc, ◌+◌, ◌-◌, ◌<◌, ◌≤◌, true, false, refl, arith, ap, sym, ◌∙◌, List, [], ◌∷◌, length, ◌⊎◌, subst}
 use mathlib.Core.Logic.{inl, inr}
 use Rattle.std.specs.Prelude.{Option, Some, None, slice_get, ◌==◌, ◌&&◌, ◌||◌, nat_le, is_some, option_map}
@@ -25,7 +26,7 @@ use Rattle.trace_props.proofs.TimesKept.{not_same}
 use Rattle.trace_props.proofs.TargetsJudged.{Judges}
 use Rattle.scram_types.specs.Lookups.{env_before, env_in}
 
--- Lemmas on SP5 and changes of the environment.
+-- Lemmas that the test of SP5 decides whether the environment changes in a row.
 row_past : (rows : List Row) (f : ℕ) → slice_get rows f ≡ None → length rows ≤ f
 row_past [] f h = omega arith
 row_past (row ∷ rows) zero h = absurd (let no : ◌≡◌ {A = Option Row} (Some row) None = h in cc)

@@ -1,4 +1,5 @@
--- Areas, by the act that wrote them last, with invariants and preconditions.
+-- Definitions for the areas of a course: the act that wrote an area last, the laws of areas, invariants and
+-- preconditions.
 use Rattle.std.specs.Prelude.{◌≡◌, ℕ, zero, suc, ◌<◌, ◌≤◌, ◌⊎◌, Bool, true, List, ℤ, Option, Some, None}
 use Rattle.trace_props.proofs.Plans.{Plan, IsAcceptedPlan, IsPlanTarget}
 use Rattle.trace_props.proofs.Courses.{Course, CourseReading.Leaving, CourseReport, course_reading_before, course_report_at, IsCourseWithin}
@@ -74,7 +75,7 @@ IsPlacedInTarget plan build i a o = (j : ℕ) × IsPlanTarget plan i j × (build
 abbrev pub IsPlacedInEither : Plan → Build → ℕ → ℕ → Option Place → Type 0
 IsPlacedInEither plan build i a o = (build.place i a ≡ o) ⊎ IsPlacedInTarget plan build i a o
 
--- The writer's ranges are listed for an invariant of source `i`.
+-- The ranges of writer `w` are among those that an invariant for source `i` has to hold.
 abbrev pub IsListed : Plan → Build → ℕ → ℕ → Written → Type 0
 IsListed plan build i a (DidRun p) = IsPlacedInEither plan build i a (Some p)
 IsListed plan build i a (DidHalt p) = IsPlacedInEither plan build i a (Some p)

@@ -1,4 +1,4 @@
--- The kernel's mode and its decision at the start of a frame.
+-- Definitions of the kernel's mode over a course, and of its decision at the start of a frame.
 use Rattle.std.specs.Prelude.{ℕ, ◌+◌, ◌-◌, Bool, true, ◌&&◌, Option, Some, None, if◌then◌else◌, nat_eq, nat_lt, nat_le}
 use Rattle.scram_types.specs.declared.rows.Env.{Env}
 use Rattle.trace_props.proofs.Plans.{Plan, plan_halting}
@@ -12,7 +12,7 @@ abbrev pub course_target : CourseMode → ℕ
 course_target (Stable c) = c
 course_target (Moving from halting to since) = to
 
--- Whether the orders of the frame are to run the target.
+-- Whether the orders of a frame in a mode are to run the mode's target.
 abbrev pub course_is_running : Plan → CourseMode → ℕ → Bool
 course_is_running plan (Stable c) frame = true
 course_is_running plan (Moving from halting to since) frame = nat_le (plan_halting plan halting + plan.preparing to + plan.initialising to) (frame - since)

@@ -118,7 +118,7 @@ course_runs build acts c = all_below (λ a. course_fits_place (build.place c a) 
 abbrev pub course_acts_at : Plan → Build → Course → (ℕ → ℕ → Bool) → ℕ → ℕ → CourseAct
 course_acts_at plan build course commits f a = course_act_of (commits f) (course_order_in build (course_phase plan (course_mode_at plan course f) f) a)
 
--- The facts on an accepted build.
+-- The facts on the build of an accepted specification.
 pub record IsBuilt (plan : Plan) (build : Build) : Type 0 where
   pub placed_in : (c a : ℕ) (p : Place) → build.place c a ≡ Some p → c < plan.configurations
   pub first_halts : (c : ℕ) → c < plan.configurations → (a : ℕ) × (p : Place) × (a < build.apps) × (build.place c a ≡ Some p) × (build.halt_offset c a ≡ 0)

@@ -1,4 +1,5 @@
--- Modes, the reading of rows and its reports, over environments and rows as functions of the frame.
+-- Definitions of a course, which gives environments and rows as functions of the frame, and of its modes, the reading
+-- of its rows and its reports.
 use Rattle.std.specs.Prelude.{◌≡◌, ℕ, zero, suc, ◌+◌, ◌-◌, ◌<◌, ◌≤◌, Bool, true, false, ◌&&◌, Option, Some, None, if◌then◌else◌}
 use Rattle.scram_types.specs.declared.rows.Env.{Env}
 use Rattle.trace_props.proofs.Plans.{Plan}
@@ -16,7 +17,7 @@ abbrev pub course_changes_at : Plan → (ℕ → Env) → ℕ → Bool
 course_changes_at plan env zero = false
 course_changes_at plan env (suc f) = plan.differ (env f) (env (suc f))
 
--- The number of change frames up to a frame.
+-- The number of change frames up to and including a frame.
 abbrev pub course_changes_upto : Plan → (ℕ → Env) → ℕ → ℕ
 course_changes_upto plan env zero = 0
 course_changes_upto plan env (suc f) = course_changes_upto plan env f + (if plan.differ (env f) (env (suc f)) then 1 else 0)
@@ -67,7 +68,8 @@ pub record IsCourseWithin (plan : Plan) (course : Course) : Type 0 where
   pub scope : (f : ℕ) → f ≤ course.frames → plan.in_scope (course.env f) ≡ true
   pub few : (f : ℕ) → f ≤ course.frames → course_changes_upto plan course.env f ≤ course_changes_upto plan course.env (f - plan.window) + plan.changes + 1
 
--- The contents of row `f` agree with a mode.
+-- Row `f` agrees with a mode. It runs no configuration but the mode's target, and that only if the mode is to run it.
+-- If it is to run the target and does not, the target cannot run in this frame's environment or in the next.
 pub record CourseRowUnder (plan : Plan) (course : Course) (f : ℕ) (mode : CourseMode) : Type 0 where
   pub only : (j : ℕ) → course.runs f j ≡ true → (course_is_running plan mode f ≡ true) × (course_target mode ≡ j)
   pub lost : course_is_running plan mode f ≡ true → course.runs f (course_target mode) ≡ false → plan.is_runnable (course_target mode) (course.env f) ≡ true → plan.is_runnable (course_target mode) (course.env (suc f)) ≡ false

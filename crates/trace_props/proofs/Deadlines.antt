@@ -41,7 +41,7 @@ pub record Deadlines (plan : Plan) (course : Course) (first f from : ℕ) (halti
 scaled : (a b q : ℕ) → a ≤ b → a * q ≤ b * q
 scaled a b q h = grind arith
 
--- The arithmetic of a step: frame `f` is before the end of the bound `t` that counts from frame `first`.
+-- The arithmetic of a step: frame `f + 1` is within the bound `t` that counts from frame `first`.
 pub in_time : (f first since halted h q x d p i t : ℕ) → f ≤ since + halted + p + i → since + halted ≤ first + h + d * q → d ≤ x → 1 + h + x * q + p + i ≤ t → suc f ≤ first + t
 in_time f first since halted h q x d p i t a b c e = let m : d * q ≤ x * q = grind arith in omega arith
 

@@ -1,4 +1,5 @@
--- The reports, compared with the reconfigurations that are read.
+-- The comparison of the reports with the reconfigurations that are read gives the frame in which SP1 is broken, or a
+-- proof that SP1 holds.
 use Rattle.std.proofs.Common.{◌≡◌, ℕ, zero, suc, ◌+◌, ◌-◌, ◌<◌, ◌≤◌, true, false, refl, arith, ap, sym, ◌∙◌, List, [], ◌∷◌, length, ◌⊎◌}
 use mathlib.Core.Logic.{inl, inr}
 use Rattle.std.specs.Prelude.{Option, Some, None, min, slice_get, ◌==◌, ◌&&◌}
@@ -18,7 +19,7 @@ use Rattle.trace_props.specs.Judging.{begin_told, compare, compare_with, differe
 use Rattle.trace_props.proofs.Firsts.{IsLeastOf}
 use Rattle.trace_props.proofs.Tests.{by_test}
 
--- Lemmas on equal reports.
+-- Lemmas that the test of two reports for equality decides whether they are equal.
 pub same_id : (c d : ConfId) → (c.0 == d.0) ≡ true → c ≡ d
 same_id c d h = ap conf_id (equal c.0 d.0 h)
 
@@ -51,7 +52,7 @@ report_self one =
     and_true (one.from.0 == one.from.0 && is_same_target one.to one.to && one.begin == one.begin) _
     (and_true (one.from.0 == one.from.0 && is_same_target one.to one.to) _ (and_true (one.from.0 == one.from.0) _ (equal_test one.from.0 one.from.0 refl) (target_self one.to)) (equal_test one.begin one.begin refl)) (equal_test one.end one.end refl)
 
--- Lemmas on equal lists.
+-- Lemmas that two lists of reports are equal if they are equal at each index.
 past_none : (k : ℕ) → slice_get {X = Report} [] k ≡ None
 past_none k = slice_get_past {X = Report} [] k (omega arith)
 
@@ -106,7 +107,7 @@ agrees_all spec rows told all (r ∷ read) place rest s h =
     let here : slice_get all place ≡ Some r = ap (slice_get all) (omega arith) ∙ rest 0 in
     agrees_all spec rows told all read (suc place) (λ k. ap (slice_get all) (omega arith) ∙ rest (suc k)) (judge spec rows told s (Some r)) (agrees_next told all place r here s.agreement h)
 
--- If two lists differ, then they have one first difference, in one frame.
+-- Lemmas that two lists that differ have only one first difference, so that SP1 is broken in only one frame.
 places : (a b : ℕ) → (a < b) ⊎ ((b < a) ⊎ (a ≡ b))
 places a b = grind arith
 

@@ -84,7 +84,8 @@ before = env 1 0
 abbrev after : Env
 after = env 1 1
 
--- An environment with another set of processors, by which the table does not choose: a quiet change.
+-- An environment with another set of processors that are up. The table does not depend on this set, so that a change
+-- of it is quiet.
 abbrev other : Env
 other = env 0 0
 
@@ -123,14 +124,14 @@ told_otherwise = refl
 told_beyond : first_break spec good (moved 1 2 4 ∷ moved 1 9 12 ∷ []) ≡ broken Sp1 9
 told_beyond = refl
 
--- SP2 is broken in the end.
+-- SP2 is broken in the end of the reconfiguration.
 abbrev unchosen : List Row
 unchosen = row before (ran 1) 1 10 ∷ row before (ran 1) 1 10 ∷ row other act.Held 1 10 ∷ row other act.Held 4 10 ∷ row other (ran 2) 1 10 ∷ []
 
 not_chosen : first_break spec unchosen (moved 1 2 4 ∷ []) ≡ broken Sp2 4
 not_chosen = refl
 
--- SP3 is broken in the end or in the last row.
+-- SP3 is broken in the end of the reconfiguration, or in the last row if the reconfiguration is unfinished.
 late : first_break (spec_of (bound 0 1 1 ∷ []) Retarget [] []) good (moved 1 2 4 ∷ []) ≡ broken Sp3 4
 late = refl
 
@@ -149,7 +150,7 @@ cut_late = refl
 cut_in_time : first_break (spec_of (bound 0 1 1 ∷ bound 0 0 2 ∷ []) Retarget [] []) unfinished (cut_off 2 4 ∷ []) ≡ None
 cut_in_time = refl
 
--- SP4 is broken in the row.
+-- SP4 is broken in the row that breaks an invariant or does not meet a precondition.
 abbrev charged : Option ConfId → ℕ → Invariant
 charged from greatest = record { from = from; app = record { 0 = 0 }; variable = 1; least = pos 0; greatest = pos greatest }
 
@@ -182,7 +183,7 @@ unmet : first_break (spec_with [] (begun 1 ∷ [])) good (moved 1 2 4 ∷ []) �
 unfolding word
 unmet = refl
 
--- SP5 is broken in the begin.
+-- SP5 is broken in the begin of the reconfiguration.
 abbrev causeless : List Row
 causeless = row after (ran 1) 1 10 ∷ row after (ran 1) 1 10 ∷ row after act.Held 1 10 ∷ row after act.Held 4 10 ∷ row after (ran 2) 1 10 ∷ []
 
@@ -202,7 +203,8 @@ caused_next = refl
 not_asked : first_break spec (row before (ran 1) 1 10 ∷ row before act.Lost 1 10 ∷ []) (cut_off 1 2 ∷ []) ≡ None
 not_asked = refl
 
--- A reconfiguration that begins as another one ends, which saw a change. Settled targets may be left in this way.
+-- A reconfiguration that begins in the row after the end of another one, which saw a change. If targets are settled,
+-- that change is its cause.
 abbrev followed : List Row
 followed =
     row before (ran 1) 1 10 ∷ row after act.Held 1 10 ∷ row before act.Held 4 10 ∷ row before (ran 2) 1 10 ∷ row before act.Held 1 10 ∷ row before act.Held 4 10 ∷ row before (ran 1) 1 10 ∷ []

@@ -1,4 +1,5 @@
--- Invariants and preconditions of an accepted specification hold what the law requires of them.
+-- Lemmas that the invariants and preconditions of an accepted specification satisfy `HoldsListedRanges` and
+-- `HoldsInitialisedRange`.
 use Rattle.std.proofs.Common.{◌≡◌, ℕ, ◌<◌, true, refl, arith, ap, List, length}
 use mathlib.Core.Logic.{inl, inr}
 use Rattle.std.specs.Prelude.{Option, Some, None, ℤ, pos, slice_get, ◌&&◌}
@@ -24,14 +25,14 @@ use Rattle.trace_props.proofs.Products.{build_of, is_env, halting_number, plan_o
 use Rattle.trace_props.specs.Judging.{lies_in}
 use Rattle.trace_props.proofs.Ranging.{area_of, area_test, laws_of, lies_held, range_of}
 
--- An invariant, as the law states it.
+-- The invariant over a course that an invariant of a specification gives.
 abbrev pub invariant_of : told_invariants.Invariant → CourseInvariant
 invariant_of inv = record { source = halting_number inv.from; app = inv.app.0; holds = λ v. lies_in inv.least inv.greatest (word v inv.variable) }
 
 abbrev pub precondition_of : told_preconditions.Precondition → CoursePrecondition
 precondition_of pre = record { conf = pre.conf.0; app = pre.app.0; holds = λ v. lies_in pre.least pre.greatest (word v pre.variable) }
 
--- If an invariant's source includes `i` under the law, then it includes `i` in the specification.
+-- If the invariant over a course is for source `i`, then so is the invariant of the specification.
 source_is : (from : Option ConfId) (i : ℕ) → SpeaksOfSource (halting_number from) i → has_source from (conf_id i) ≡ true
 source_is None i h = refl
 source_is (Some c) i h = rw h (equal_test i i refl)

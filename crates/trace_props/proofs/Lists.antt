@@ -1,4 +1,4 @@
--- Properties of each item of a list.
+-- Lemmas on a property that each item of a list has.
 use Rattle.std.proofs.Common.{◌≡◌, ℕ, zero, suc, arith, List, [], ◌∷◌, ◌++◌}
 use Rattle.std.specs.Prelude.{Option, Some, None, slice_get}
 use Rattle.std.proofs.lemmas.Option.{slice_get_within}

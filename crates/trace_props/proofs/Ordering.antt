@@ -12,8 +12,8 @@ use Rattle.frame_model.specs.Readings.{arrival, arrive, as_list, close, ended_in
 use Rattle.frame_model.specs.Runs.{running, runs}
 use Rattle.trace_props.proofs.Tests.{by_test}
 
--- The reconfigurations still to be read. The first of the rows is the row of frame `f`, and there are `n` rows in
--- all.
+-- The reconfigurations that are still to be read off `rows`, given the reading before them. The first of the rows is
+-- the row of frame `f`, and `n` is the number of all rows of the trace.
 abbrev pub still_read : Parts → Reading → ℕ → List Row → ℕ → List Report
 still_read spec rd f rows n = ended_in spec rd f rows ++ as_list (close (reading_after spec rd f rows) n)
 
@@ -23,7 +23,8 @@ abbrev pub Ordered : ℕ → List Report → Type 0
 Ordered low [] = Unit {0}
 Ordered low (r ∷ read) = (low ≤ r.begin) × (r.begin ≤ r.end) × Ordered (suc r.end) read
 
--- A reconfiguration under way began at or after frame `low` and at or before frame `f`.
+-- A reconfiguration under way began at or after frame `low` and at or before frame `f`. If none is under way, `low`
+-- is at most `f`.
 abbrev BeginsIn : Reading → ℕ → ℕ → Type 0
 BeginsIn (Steady c) low f = low ≤ f
 BeginsIn (Leaving c begin) low f = (low ≤ begin) × (begin ≤ f)

@@ -38,7 +38,7 @@ pub record IsPlanTarget (plan : Plan) (i j : ℕ) : Type 0 where
   pub scope : plan.in_scope seen ≡ true
   pub chosen : plan.choose i seen ≡ j
 
--- The facts on an accepted plan.
+-- The facts on the plan of an accepted specification.
 pub record IsAcceptedPlan (plan : Plan) : Type 0 where
   pub start_in : plan.start < plan.configurations
   pub choose_in : (c : ℕ) (v : Env) → c < plan.configurations → plan.choose c v < plan.configurations

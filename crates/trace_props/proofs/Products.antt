@@ -1,4 +1,4 @@
--- The plan, the build and the course that a specification and a script give the law.
+-- The plan and the build of a specification, and the course of a script.
 use Rattle.std.specs.Prelude.{ℕ, Bool, true, false, not, ◌&&◌, ◌==◌, ◌^◌, nat_lt, length, slice_get, Option, Some, None}
 use Rattle.std.specs.Option.{option_map_or}
 use Rattle.scram_types.specs.declared.ids.ConfId.{ConfId}
@@ -27,7 +27,7 @@ use Rattle.trace_props.proofs.CourseModes.{CourseMode, CourseMode.Stable, Course
 use Rattle.trace_props.proofs.Courses.{Course}
 use Rattle.trace_props.proofs.CourseRows.{CoursePhase, CoursePhase.Running, CoursePhase.Halting, CoursePhase.Preparing, CoursePhase.Initialising, Build}
 
--- Factor `x` has one of its values, or 0 if there is no such factor.
+-- Whether factor `x` has one of its values in an environment, or 0 if there is no such factor.
 abbrev pub has_value : Parts → Env → ℕ → Bool
 has_value spec v x = nat_lt (factor_in v x) (option_map_or (λ (factor : Factor). length factor.values) (slice_get spec.factors x) 1)
 

@@ -1,4 +1,5 @@
--- The promises for each reconfiguration that is read off the rows.
+-- Definitions of the promises for each reconfiguration that is read off the rows, and of the central facts on its
+-- moving frames.
 use Rattle.std.specs.Prelude.{◌≡◌, ℕ, suc, ◌+◌, ◌-◌, ◌*◌, ◌<◌, ◌≤◌, ◌⊎◌, true, false, Option, Some}
 use Rattle.trace_props.proofs.Plans.{Plan, IsAcceptedPlan, plan_further, plan_halting}
 use Rattle.trace_props.proofs.CourseModes.{CourseMode, CourseMode.Stable, CourseMode.Moving}
@@ -44,7 +45,8 @@ pub record IsCourseAllAssured (plan : Plan) (course : Course) : Type 0 where
 abbrev pub Reconfigures : Type 0
 Reconfigures = (plan : Plan) (course : Course) → IsAcceptedPlan plan → IsCourseWithin plan course → IsCourseFlown plan course → IsCourseAllAssured plan course
 
--- The first moving frame of a reconfiguration that began in frame `s`.
+-- The first moving frame of a reconfiguration that began in frame `s`, given the mode of that frame. It is `s` if the
+-- mode is a moving one, or else the frame after `s`.
 abbrev pub course_first_moving_in : CourseMode → ℕ → ℕ
 course_first_moving_in (Stable c) s = suc s
 course_first_moving_in (Moving from halting to since) s = s

@@ -65,7 +65,7 @@ area_is range area h = each_all (λ i. lies_in (range i).0 (range i).1 (word are
 pub area_of : (range : ℕ → ℤ × ℤ) (area : List ℤ) → area_test range area ≡ true → (i : ℕ) → i < 8 → Between (range i) (word area i)
 area_of range area h i below = lies_of (range i).0 (range i).1 (word area i) (all_at (λ i. lies_in (range i).0 (range i).1 (word area i)) 8 h i below)
 
--- The ranges of the act that wrote an area last.
+-- The range of each word of an area, given the act that wrote the area last.
 abbrev pub range_of : ℕ → Written → ℕ → ℤ × ℤ
 range_of kind (DidRun p) = during kind 1 p.mode.0
 range_of kind (DidHalt p) = during kind 2 p.mode.0
@@ -112,7 +112,7 @@ eight_or value d (suc (suc (suc (suc (suc (suc zero)))))) h = refl
 eight_or value d (suc (suc (suc (suc (suc (suc (suc zero))))))) h = refl
 eight_or value d (suc (suc (suc (suc (suc (suc (suc (suc a)))))))) h = absurd (omega arith)
 
--- The task of an order.
+-- The kernel's task for an order of a course.
 abbrev pub task_of_order : CourseOrder → Task
 task_of_order (Run p) = tasks.task_at order.Run p
 task_of_order (Halt k n p) = tasks.task_at (order.Halt k n) p

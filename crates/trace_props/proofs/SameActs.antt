@@ -1,4 +1,4 @@
--- The acts of rows are the law's.
+-- The acts in the rows of a script are those of its course.
 use Rattle.std.proofs.Common.{◌≡◌, ℕ, zero, suc, ◌-◌, ◌<◌, Bool, true, false, refl, arith, ap, sym, ◌∙◌, length}
 use Rattle.std.specs.Prelude.{Option, Some, None, nat_lt, if◌then◌else◌}
 use Rattle.scram_types.specs.declared.ids.ConfId.{ConfId}
@@ -27,7 +27,7 @@ use Rattle.trace_props.proofs.CourseRows.{CoursePhase, CourseOrder, CourseAct, C
 use Rattle.trace_props.proofs.Products.{build_of, course_of, course_mode_of, course_phase_of, plan_of, runs_in_row}
 use Rattle.trace_props.proofs.SameModes.{same_mode}
 
--- The act that a row shows.
+-- The act that a row shows for an act of a course.
 abbrev pub shown : CourseAct → told_acts.Act
 shown (Ran p) = act.Ran p.mode p.proc
 shown (Halted k n p) = act.Halting k n p.proc
@@ -60,7 +60,7 @@ shown_if false x y = refl
 abbrev made : Bool → told_orders.Order → Place → told_acts.Act
 made committed o p = if committed then act_of_order o p.mode p.proc else act.Lost
 
--- If three orders of the law show the acts of three orders of the kernel, then so do the orders that two tests pick.
+-- If three orders of a course show the acts of three orders of the kernel, then so do the orders that two tests pick.
 two_tests : (commits : ℕ → Bool) (a b : Bool) (p : Place) (x y z : CourseOrder) (q r s : told_orders.Order)
     → shown (course_act_of commits x) ≡ made (commits p.proc.0) q p → shown (course_act_of commits y) ≡ made (commits p.proc.0) r p → shown (course_act_of commits z) ≡ made (commits p.proc.0) s p
     → shown (course_act_of commits (if a then x else (if b then y else z))) ≡ made (commits p.proc.0) (if a then q else (if b then r else s)) p
@@ -101,7 +101,7 @@ act_same spec commits (told.Halting c age) a = halting_same commits (halt_offset
 act_same spec commits (told.Preparing c age) a = preparing_same commits (prepare_time spec c a) age (place_of spec c a)
 act_same spec commits (told.Initialising c age) a = init_same commits (init_offset spec c a) (init_time spec c a) age (place_of spec c a)
 
--- The phases of the kernel are the law's.
+-- Lemmas that the phases of the kernel are those of a course.
 three_phases : (a b : Bool) (x y z : told_phases.Phase) → course_phase_of (if a then x else (if b then y else z)) ≡ (if a then course_phase_of x else (if b then course_phase_of y else course_phase_of z))
 three_phases true b x y z = refl
 three_phases false true x y z = refl
@@ -136,7 +136,7 @@ eight_at value (suc (suc (suc (suc (suc (suc (suc (suc a)))))))) h = absurd (ome
 abbrev pub committed : Parts → ScriptParts → ℕ → ℕ → Bool
 committed spec script f p = commits spec script p f
 
--- The act of each application in a row is the one that the law's act shows.
+-- The act of each application in a row is the one that its act in the course shows.
 pub row_act : (spec : Parts) (script : ScriptParts) (f a : ℕ) → a < 8
     → act_at (row_at spec script f).acts a ≡ shown (course_acts_at (plan_of spec) (build_of spec) (course_of spec script) (committed spec script) f a)
 row_act spec script f a below =

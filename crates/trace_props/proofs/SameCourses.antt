@@ -1,4 +1,5 @@
--- The rows of a script are those of a run of the law, and a script within its assumption is within the law's.
+-- The rows of a script are those of a run of its course, and the course of a script within its assumption keeps to
+-- the failure assumption.
 use Rattle.std.proofs.Common.{◌≡◌, ℕ, zero, suc, ◌+◌, ◌-◌, ◌<◌, ◌≤◌, Bool, true, false, not, refl, arith, ◌⊎◌, ap, ◌∙◌, List, [], ◌∷◌, length}
 use mathlib.Core.Logic.{inl, inr}
 use Rattle.std.specs.Prelude.{Some, None, slice_get, nat_le, ◌&&◌, ◌==◌, ◌^◌, if◌then◌else◌}

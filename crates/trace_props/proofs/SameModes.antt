@@ -1,4 +1,4 @@
--- The modes that are decided are the law's.
+-- The modes that are decided for a script are those of its course.
 use Rattle.std.proofs.Common.{◌≡◌, ℕ, zero, suc, ◌-◌, Bool, true, false, refl, arith, ap, sym, ◌∙◌}
 use Rattle.std.specs.Prelude.{Option, Some, None, nat_lt, ◌&&◌, ◌==◌, if◌then◌else◌}
 use Rattle.scram_types.specs.declared.ids.ConfId.{ConfId}
@@ -39,7 +39,8 @@ wanted_same : (policy : Policy) (spec : Parts) (from to : ConfId) (v : Env)
 wanted_same Retarget spec from to v = refl
 wanted_same Settle spec from to v = wanted_if (is_runnable spec to v) to (choose spec from v)
 
--- The mode that three tests pick among the kernel's modes is the law's mode that they pick.
+-- The mode that three tests pick among modes of the kernel becomes the mode that they pick among the same modes of a
+-- course.
 four_ways : (a b c : Bool) (w x y z : KMode) → course_mode_of (if a then w else (if b then x else (if c then y else z))) ≡ (if a then course_mode_of w else (if b then course_mode_of x else (if c then course_mode_of y else course_mode_of z)))
 four_ways true b c w x y z = refl
 four_ways false true c w x y z = refl

@@ -1,4 +1,4 @@
--- The reconfigurations that are read off the rows are those of the law.
+-- The reconfigurations that are read off the rows of a script are those of its course.
 use Rattle.std.proofs.Common.{◌≡◌, ℕ, zero, suc, ◌<◌, ◌≤◌, Bool, true, false, refl, arith, ap, sym, ◌∙◌, List, [], ◌++◌, length, ◌⊎◌}
 use mathlib.Core.Logic.{inl, inr}
 use Rattle.std.specs.Prelude.{Option, Some, None, slice_get, option_map, if◌then◌else◌}
@@ -26,7 +26,7 @@ told_reading (Leaving c s) = told.Leaving (conf_id c) s
 abbrev pub told_report : CourseReport → told_reports.Report
 told_report r = record { from = conf_id r.from; to = Some (conf_id r.to); begin = r.begin; end = r.end }
 
--- The rows of the first `n` frames.
+-- The rows of the first `n` frames of a script.
 abbrev pub rows_below : Parts → ScriptParts → ℕ → List Row
 rows_below spec script n = listed_below (row_at spec script) n
 
@@ -60,8 +60,8 @@ module _ (spec : Parts) (script : ScriptParts) where
         ∙ ap (λ rd. readings.read_row spec rd n (row_at spec script n).acts) (reading_same n)
         ∙ read_same n (course_reading_before (plan_of spec) (course_of spec script) n)
 
-    -- With a further row, the list of ended reconfigurations grows by the report of the law in its frame, if there is
-    -- one.
+    -- With a further row, the list of ended reconfigurations grows by the report of the course in its frame, if there
+    -- is one.
     pub ended_more : (n : ℕ) → readings.ended spec (rows_below spec script (suc n))
         ≡ readings.ended spec (rows_below spec script n) ++ readings.as_list (option_map told_report (course_report_at (plan_of spec) (course_of spec script) n))
     ended_more n =
@@ -71,7 +71,7 @@ module _ (spec : Parts) (script : ScriptParts) where
         ∙ ap (λ rd. readings.ended spec (rows_below spec script n) ++ readings.as_list (readings.report_of spec rd n (row_at spec script n).acts)) (reading_same n)
         ∙ ap (λ o. readings.ended spec (rows_below spec script n) ++ readings.as_list o) (report_same n (course_reading_before (plan_of spec) (course_of spec script) n))
 
-    -- A reconfiguration that has ended is the report of the law in some frame below `frames`.
+    -- A reconfiguration that has ended is the report of the course in some frame below `frames`.
     pub record IsEnded (frames : ℕ) (x : told_reports.Report) : Type 0 where
       pub frame : ℕ
       pub inside : frame < frames
@@ -91,7 +91,7 @@ module _ (spec : Parts) (script : ScriptParts) where
         (each_option (IsEnded frames) (option_map told_report (course_report_at (plan_of spec) (course_of spec script) n)) (ended_one frames n (omega arith) (course_report_at (plan_of spec) (course_of spec script) n) refl))
         k x (ap (λ xs. slice_get xs k) (sym (ended_more n)) ∙ h)
 
-    -- Each of the law's reconfigurations has an index in the list.
+    -- Lemmas that each reconfiguration of the course has an index in the list of those that are read.
     below_or_last : (k n : ℕ) → k < suc n → (k < n) ⊎ (k ≡ n)
     below_or_last k n h = grind arith
 

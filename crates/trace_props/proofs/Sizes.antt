@@ -1,4 +1,4 @@
--- Rows show at most as many reconfigurations as there are rows.
+-- The number of reconfigurations that rows show is at most the number of rows.
 use Rattle.std.proofs.Common.{ℕ, suc, ◌+◌, ◌≤◌, Bool, true, false, arith, List, [], ◌∷◌, length}
 use Rattle.std.specs.Prelude.{Option, Some, None, if◌then◌else◌}
 use Rattle.std.proofs.Math.ListN.{length-append}

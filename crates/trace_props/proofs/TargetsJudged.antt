@@ -1,4 +1,5 @@
--- The frame in which a reconfiguration breaks SP2 or SP3, or a proof that it keeps them.
+-- The judging of SP2 and SP3 gives the frame in which a reconfiguration breaks them, or a proof that the
+-- reconfiguration keeps them.
 use Rattle.std.proofs.Common.{◌≡◌, ℕ, ◌+◌, ◌-◌, ◌<◌, ◌≤◌, Bool, true, false, refl, arith, ap, sym, ◌∙◌, List}
 use Rattle.std.specs.Prelude.{Option, Some, None, slice_get, ◌==◌, nat_le, option_map}
 use Rattle.scram_types.specs.declared.ids.ConfId.{ConfId}
@@ -35,7 +36,7 @@ in_span test r f from up_to passes = record { from = from; up_to = omega arith; 
 pub up_to_end : (begin end f : ℕ) → begin ≤ f → f < begin + (end + 1 - begin) → f ≤ end
 up_to_end begin end f from inside = omega arith
 
--- Lemmas on SP2.
+-- Lemmas on the judging of SP2.
 module _ (spec : Parts) (rows : List Row) (from to : ConfId) where
   choice_of : (f : ℕ) (o : Option Row) → slice_get rows f ≡ o → chooses_in spec from to o ≡ true → (row : Row) × (slice_get rows f ≡ Some row) × (choose spec from row.env ≡ to)
   choice_of f None e h = absurd (true_false false h refl)
@@ -75,7 +76,7 @@ module _ (spec : Parts) (rows : List Row) (r : Report) where
   pub sp2_judged : Judges (KeepsSp2 spec rows r) r.end (unchosen_at spec rows r)
   sp2_judged = unchosen_judged r.to refl
 
--- Lemmas on SP3.
+-- Lemmas on the judging of SP3.
 late_judged : (spec : Parts) (r : Report) (o : Option ℕ) → bound_on spec r.from r.to ≡ o → Judges (KeepsSp3 spec r) (last_frame r) (late_by r o)
 late_judged spec r None e = ((λ keeps. some_none keeps.bound (sym (sym e ∙ keeps.given))), refl)
 late_judged spec r (Some bound) e = by_test {A = Option ℕ} (Judges (KeepsSp3 spec r) (last_frame r)) (nat_le (r.end - r.begin) bound) None (Some (last_frame r))

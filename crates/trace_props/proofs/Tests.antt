@@ -1,4 +1,4 @@
--- Proofs on an `if`, branch by branch.
+-- A fact on an `if` that follows from the facts on its branches.
 use Rattle.std.proofs.Common.{◌≡◌, Bool, true, false, refl}
 use Rattle.std.specs.Prelude.{if◌then◌else◌}
 

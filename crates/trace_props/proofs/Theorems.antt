@@ -1,4 +1,5 @@
--- The theorem: all properties hold for every mission, and the central facts in each of its moving frames.
+-- The theorems that all properties hold for every mission, and that the central facts hold in each of its moving
+-- frames.
 use Rattle.std.proofs.Common.{◌≡◌, ℕ, ◌+◌, ◌*◌, ◌≤◌, false, refl, ap, sym, ◌∙◌}
 use Rattle.std.specs.Prelude.{Option}
 use Rattle.scram_types.specs.declared.ids.ConfId.{ConfId}

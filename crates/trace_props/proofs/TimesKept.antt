@@ -1,4 +1,4 @@
--- Each reconfiguration that the rows of a script show keeps the second, the third and the fifth property.
+-- Each reconfiguration that the rows of a script show keeps SP2, SP3 and SP5.
 use Rattle.std.proofs.Common.{◌≡◌, ℕ, zero, suc, ◌<◌, true, false, not, refl, arith, ap, sym, ◌∙◌, length}
 use mathlib.Core.Logic.{inl, inr}
 use Rattle.std.specs.Prelude.{Some, None, slice_get, option_map, ◌==◌}
@@ -94,7 +94,7 @@ module _ (spec : Parts) (script : ScriptParts) where
           ]
         ]
 
-    -- The timing properties of a reconfiguration.
+    -- The reconfiguration keeps SP2, SP3 and SP5.
     pub record KeepsTimes (r : told_reports.Report) : Type 0 where
       pub sp2 : KeepsSp2 spec (rows_of spec script) r
       pub sp3 : KeepsSp3 spec r

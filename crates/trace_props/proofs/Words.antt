@@ -1,4 +1,4 @@
--- Words past the end of an area.
+-- Each word past the end of an area is 0.
 use Rattle.std.proofs.Common.{◌≡◌, ℕ, zero, suc, ◌≤◌, refl, arith, List, [], ◌∷◌, length}
 use Rattle.std.specs.Prelude.{ℤ, pos, slice_index_or}
 use Rattle.scram_types.specs.Numbers.{word}

@@ -148,7 +148,7 @@ is_mission = record {
   within = (leaves_nowhere spec script).within refl;
 }
 
--- The mission has one reconfiguration.
+-- The mission has one reconfiguration, which begins in frame 3 and ends in frame 6.
 moves_once : reports_of spec script ≡ moved 1 3 6 ∷ []
 moves_once = refl
 

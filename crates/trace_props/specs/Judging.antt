@@ -56,12 +56,14 @@ is_same_target (Some one) (Some other) = one.0 == other.0
 abbrev pub is_same_report : Report → Report → Bool
 is_same_report one other = one.from.0 == other.from.0 && is_same_target one.to other.to && one.begin == other.begin && one.end == other.end
 
--- The agreement after the next reconfiguration that is read is compared with the report at its index.
+-- The agreement after a reconfiguration is compared with the report at its index, `place`, or with `None` if there is
+-- no such report.
 abbrev pub compare_with : ℕ → Option Report → Report → Agreement
 compare_with place None read = Apart read.begin
 compare_with place (Some one) read = if is_same_report one read then Alike (place + 1) else Apart (min one.begin read.begin)
 
--- The agreement of the reports with the reconfigurations that are read, after one further reconfiguration.
+-- The agreement of the reports with the reconfigurations that are read, after one further reconfiguration. A
+-- difference that was found before remains.
 abbrev pub compare : List Report → Agreement → Report → Agreement
 compare told (Alike place) read = compare_with place (slice_get told place) read
 compare told (Apart frame) read = Apart frame
@@ -77,12 +79,13 @@ abbrev pub difference : List Report → Agreement → Option ℕ
 difference told (Alike place) = begin_told (slice_get told place)
 difference told (Apart frame) = Some frame
 
--- Whether the table chooses a configuration in the environment of a row (SP2). The value is `false` if there is no row.
+-- Whether the table chooses configuration `to` from `from` in the environment of a row (SP2). The value is `false` if
+-- there is no row.
 abbrev pub chooses_in : Parts → ConfId → ConfId → Option Row → Bool
 chooses_in spec from to None = false
 chooses_in spec from to (Some row) = (choose spec from row.env).0 == to.0
 
--- Whether row `f` exists and the table chooses a configuration in its environment.
+-- Whether row `f` exists and the table chooses configuration `to` from `from` in its environment.
 abbrev pub chooses : Parts → List Row → ConfId → ConfId → ℕ → Bool
 chooses spec rows from to f = chooses_in spec from to (slice_get rows f)
 
@@ -91,7 +94,8 @@ abbrev pub unless_chosen : Option ℕ → ℕ → Option ℕ
 unless_chosen None end = Some end
 unless_chosen (Some f) end = None
 
--- The frame in which SP2 is broken, or `None` if SP2 is kept, given the reconfiguration's target.
+-- The frame in which SP2 is broken, or `None` if SP2 is kept, given the reconfiguration's target. An unfinished
+-- reconfiguration has no target and keeps SP2.
 abbrev pub unchosen_to : Parts → List Row → Report → Option ConfId → Option ℕ
 unchosen_to spec rows r None = None
 unchosen_to spec rows r (Some to) = unless_chosen (least_from (chooses spec rows r.from to) r.begin (r.end + 1 - r.begin)) r.end
@@ -138,13 +142,13 @@ lesser_frame None other = other
 lesser_frame (Some one) None = Some one
 lesser_frame (Some one) (Some other) = Some (min one other)
 
--- The first frame in which an invariant of a list is broken, an earlier frame that was found before, or `None` if
--- there is neither.
+-- The first frame in which an invariant of the list is broken, or `least`, a frame that was found before, if that is
+-- smaller or the only one. It is `None` if there is neither.
 abbrev pub least_unkept : List Row → Report → Option ℕ → List Invariant → Option ℕ
 least_unkept rows r least [] = least
 least_unkept rows r least (inv ∷ invs) = least_unkept rows r (lesser_frame least (unkept_from rows r inv)) invs
 
--- Whether an optional target is a configuration. An unfinished reconfiguration has no target.
+-- Whether an optional target is configuration `conf`. An unfinished reconfiguration has no target.
 abbrev pub goes_to : Option ConfId → ConfId → Bool
 goes_to None conf = false
 goes_to (Some to) conf = to.0 == conf.0
@@ -161,14 +165,14 @@ breaks_target_precondition row to pre = goes_to to pre.conf && breaks_preconditi
 abbrev pub unmet_in : Parts → Row → Option ConfId → Bool
 unmet_in spec row to = list_any (breaks_target_precondition row to) spec.preconditions
 
--- The frame before a given end if its row does not meet some precondition of the target, or `None` if it meets them
--- all.
+-- The frame before a given end if it has a row that does not meet some precondition of the target, or `None`
+-- otherwise.
 abbrev pub unmet_before : Parts → List Row → Option ConfId → ℕ → Option ℕ
 unmet_before spec rows to zero = None
 unmet_before spec rows to (suc f) = option_and_then (λ (row : Row). if unmet_in spec row to then Some f else None) (slice_get rows f)
 
--- The frame before the end of a reconfiguration if its row does not meet some precondition of the target, or `None`
--- if it meets them all.
+-- The frame before the end of a reconfiguration if it has a row that does not meet some precondition of the target,
+-- or `None` otherwise.
 abbrev pub unmet_at : Parts → List Row → Report → Option ℕ
 unmet_at spec rows r = unmet_before spec rows r.to r.end
 
@@ -176,7 +180,7 @@ unmet_at spec rows r = unmet_before spec rows r.to r.end
 abbrev pub unkept_at : Parts → List Row → Report → Option ℕ
 unkept_at spec rows r = least_unkept rows r (unmet_at spec rows r) spec.invariants
 
--- Whether an environment is present and differs from the preceding one (SP5).
+-- Whether an environment is present and differs from the preceding one, if that is present (SP5).
 abbrev pub is_another_env : Option Env → Option Env → Bool
 is_another_env None before = false
 is_another_env (Some env) None = true
@@ -191,8 +195,8 @@ abbrev pub settles : Policy → Bool
 settles Retarget = false
 settles Settle = true
 
--- Whether targets are settled, and the preceding reconfiguration ended in the preceding row and saw a change after its
--- begin.
+-- Whether targets are settled, and the preceding reconfiguration ended in the row before the begin of `r` and saw a
+-- change of the environment after its own begin.
 abbrev pub follows : Parts → List Row → Option Report → Report → Bool
 follows spec rows None r = false
 follows spec rows (Some before) r =
@@ -237,12 +241,13 @@ opening_judgement = record { agreement = Alike 0; broken = None; before = None }
 abbrev pub conclusion : List Report → Judgement → Option Broken
 conclusion told judgement = earlier (broken_at Sp1 (difference told judgement.agreement)) judgement.broken
 
--- The first frame from which on the environment is the one of row `f`, given that frame for the preceding row (SP6).
+-- The first frame from which the environment has stayed that of row `f`, given this frame for the preceding row
+-- (SP6).
 abbrev pub held_by : List Row → ℕ → ℕ → ℕ
 held_by rows zero since = 0
 held_by rows (suc f) since = if is_another_env (env_in rows (suc f)) (env_in rows f) then suc f else since
 
--- The first frame from which on the environment is the one of row `f`.
+-- The first frame from which the environment has stayed that of row `f`.
 abbrev pub held_since : List Row → ℕ → ℕ
 held_since rows zero = 0
 held_since rows (suc f) = held_by rows (suc f) (held_since rows f)
@@ -270,8 +275,8 @@ abbrev pub unsatisfied_in : Parts → Option Row → Bool
 unsatisfied_in spec None = false
 unsatisfied_in spec (Some row) = is_unsatisfied spec row
 
--- Whether row `f` loses no application and does not satisfy the demands, and its environment has held for a number of
--- frames.
+-- Whether row `f` loses no application and does not satisfy the demands, and its environment has held from frame
+-- `since` for at least `frames` frames.
 abbrev pub breaks_after : Parts → List Row → ℕ → ℕ → ℕ → Bool
 breaks_after spec rows frames f since = nat_le frames (f - since) && unsatisfied_in spec (slice_get rows f)
 

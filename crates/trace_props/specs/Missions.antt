@@ -27,21 +27,23 @@ abbrev pub ReconfigurationsAreAssured : Type 0
 ReconfigurationsAreAssured = (spec : Parts) (script : ScriptParts) → IsSpec spec → IsMission (mission_of spec script)
     → HoldsAll spec (rows_of spec script) (reports_of spec script)
 
--- The frame in which the reconfiguration of frame `f` began, given the reading of the rows before frame `f`.
+-- The begin of the reconfiguration to which frame `f` belongs, given the reading of the rows before `f`. It is `f` if
+-- no reconfiguration is under way there.
 abbrev pub begin_in : Reading → ℕ → ℕ
 begin_in (Steady c) f = f
 begin_in (Leaving c begin) f = begin
 
--- The frame in which the reconfiguration of frame `f` of a mission began.
+-- The begin of the reconfiguration to which frame `f` of a mission belongs.
 abbrev pub begin_at : Parts → ScriptParts → ℕ → ℕ
 begin_at spec script f = begin_in (reading_of spec (listed_below (row_at spec script) f)) f
 
--- The first moving frame of a reconfiguration: its begin, or the frame after it.
+-- The first moving frame of a reconfiguration, given its begin and the mode of that frame. It is the begin if the
+-- mode is a moving one, or else the frame after it.
 abbrev pub first_moving_in : KMode → ℕ → ℕ
 first_moving_in (Stable c) begin = suc begin
 first_moving_in (Moving from halting to since) begin = begin
 
--- The first moving frame of the reconfiguration of frame `f` of a mission.
+-- The first moving frame of the reconfiguration to which frame `f` of a mission belongs.
 abbrev pub first_moving : Parts → ScriptParts → ℕ → ℕ
 first_moving spec script f = first_moving_in (decided spec script (begin_at spec script f)) (begin_at spec script f)
 
@@ -49,7 +51,7 @@ first_moving spec script f = first_moving_in (decided spec script (begin_at spec
 abbrev pub changes_since : Parts → ScriptParts → ℕ → ℕ
 changes_since spec script f = changes_upto spec script f - changes_upto spec script (first_moving spec script f)
 
--- A property holds for each moving frame of a mission, including the frame after the last one.
+-- A property holds for each moving frame of a mission, up to and including the frame after the last one.
 abbrev pub InMovingFrames : (Parts → ScriptParts → ℕ → ConfId → Option ConfId → ConfId → ℕ → Type 0) → Type 0
 InMovingFrames Fact = (spec : Parts) (script : ScriptParts) → IsSpec spec → IsMission (mission_of spec script)
     → (f : ℕ) (from : ConfId) (halting : Option ConfId) (to : ConfId) (since : ℕ) → f ≤ script.frames → decided spec script f ≡ Moving from halting to since

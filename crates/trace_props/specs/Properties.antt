@@ -72,7 +72,8 @@ pub record KeepsSp4 (spec : Parts) (rows : List Row) (r : Report) : Type 0 where
   pub ready : Each (λ (pre : Precondition). r.to ≡ Some pre.conf → (f : ℕ) (row : Row) → suc f ≡ r.end
       → slice_get rows f ≡ Some row → PreconditionHolds pre row) spec.preconditions
 
--- Another reconfiguration ended in the row before the begin of `r`, and saw a change after its own begin.
+-- Targets are settled, and another reconfiguration ended in the row before the begin of `r` and saw a change of the
+-- environment after its own begin.
 pub record FollowsAnother (spec : Parts) (rows : List Row) (r : Report) : Type 0 where
   pub settles : spec.policy ≡ Settle
   pub before : Report

@@ -5,16 +5,18 @@ ghost use Rattle.trace_props.specs.Judging.{compare, difference, is_same_report,
 
 use scram_types::{ConfId, Report};
 
-/// The agreement of two lists so far.
+/// The agreement of the reports with the reconfigurations that have been read so far.
 #[derive(Clone, Copy, Debug, PartialEq, Eq)]
 pub(crate) enum Agreement {
-    /// The first reconfigurations that are read equal the first reports. The field is their number.
+    /// Each reconfiguration that has been read equals the report at its index. The field is the number of these
+    /// reconfigurations.
     Alike(usize),
-    /// A reconfiguration that is read differs from the report at its index. The frame is the smaller begin of the two.
+    /// A reconfiguration that has been read differs from the report at its index, or there is no such report. The
+    /// field is the smaller begin of the two, or the begin of the reconfiguration.
     Apart(u32),
 }
 
-// Compares the next reconfiguration that is read with its report.
+// Returns the agreement after the next reconfiguration that is read is compared with the report at its index.
 pub(crate) fn compare(told: &[Report], so_far: Agreement, read: Report) -> Agreement
     ensures { result ≡ compare told.now so_far read }
 {

@@ -27,8 +27,8 @@ pub(crate) fn unsatisfied_at(spec: &Spec, rows: &[Row]) -> Option<u32>
     None
 }
 
-// Returns the first frame from which on the environment is the one of row `frame`, given that frame for the preceding
-// row.
+// Returns the first frame from which the environment has stayed that of row `frame`, given this frame for the
+// preceding row.
 fn held_by(rows: &[Row], frame: usize, since: usize) -> usize
     ensures { result ≡ held_by rows.now frame since }
 {
@@ -91,7 +91,8 @@ fn is_satisfied(spec: &Spec, row: &Row) -> bool
     satisfies(spec, &row.env, running(spec, &row.acts))
 }
 
-// Returns `true` if the running configuration satisfies the demands in an environment.
+// Returns `true` if the running configuration satisfies the demands in an environment. If no configuration runs,
+// returns `true` if no demand matches the environment.
 fn satisfies(spec: &Spec, env: &Env, running: Option<ConfId>) -> bool
     ensures { result ≡ satisfies spec.now env.now running }
 {

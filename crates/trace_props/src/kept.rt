@@ -58,8 +58,8 @@ fn breaks_invariant(row: &Row, inv: &Invariant) -> bool
     !lies_in(inv.least, inv.greatest, word_in(row, inv.app, inv.variable))
 }
 
-// Returns the frame before the end if its row does not meet some precondition of the target, or `None` if it meets
-// them all.
+// Returns the frame before the end if it has a row that does not meet some precondition of the target, or `None`
+// otherwise.
 fn unmet_at(spec: &Spec, rows: &[Row], read: Report) -> Option<u32>
     ensures { result ≡ unmet_at spec.now rows.now read }
 {
