@@ -47,7 +47,8 @@ abbrev pub AnswersUnread : ℕ → ℕ × List ℕ → List ℕ → Answer
 AnswersUnread limit long name before after reads status text =
     AnswersLonger limit long name before after reads status text ⊎ AnswersFailed name before after reads status text
 
--- The answer to the bytes of the file of this name. If the file was not read or is too long, the answer reports that.
+-- The answer if `name` is the name of a file of at most `limit` bytes: the answer to these bytes. If the file was not
+-- read or is longer, the answer reports that.
 abbrev pub AnswersFile : ℕ → ℕ × List ℕ → List ℕ → (List ℕ → Answer) → Answer
 AnswersFile limit long name Answers before after reads status text =
     AnswersBytes limit name Answers before after reads status text ⊎ AnswersUnread limit long name before after reads status text

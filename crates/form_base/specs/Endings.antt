@@ -101,7 +101,8 @@ pub record Ends (Answers : Answer) (names : List (List ℕ)) (before after : Fil
   pub written : status ≢ UNWRITTEN_OUTPUT
   pub shown : Shown status text
 
--- The sink is certain to take the out-of-memory line, and every answer to reads of the map's files without a fault.
+-- The sink is certain to take the out-of-memory line. It is also certain to take every answer that follows from reads
+-- of the map's files without a fault.
 pub record HasRoom (Answers : Answer) (map : FileMap) (files : FilesState) (sink : SinkState) : Type 0 where
   pub room : ℕ
   pub told : sink.surely ≡ Some room
