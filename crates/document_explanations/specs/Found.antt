@@ -26,11 +26,11 @@ is_version_of d versions.SecondOn = has_policy d
 is_version_of d versions.Third = has_demands d
 is_version_of d versions.Second = has_version 2 d
 
--- Whether the table of an object of a document has a member with this name.
+-- Whether the table of `object` has a member with this name for the version of document `d`.
 abbrev pub is_known : Data → Object → List ℕ → Bool
 is_known d object name = option_map_or (λ (m : Member). is_version_of d m.versions) (member_named (members_of object) name) false
 
--- Whether the table of `object` has a member with this name for the version of document `d`.
+-- The names of those members that the table of `object` does not have for the version of document `d`, in byte order.
 abbrev pub further_names : Data → Object → Members → List (List ℕ)
 further_names d object no_members = []
 further_names d object (member name value members) =
