@@ -164,8 +164,8 @@ word_found word.Lost = refl
 words_differ : (what other : ActWord) → word_text what ≡ word_text other → word_number what ≡ word_number other
 words_differ what other e = same_some (word_number what) (word_number other) (sym (word_found what) ∙ ap (number_in word_names) e ∙ word_found other)
 
--- Two boxes show the same of the same number of rows from the same row on, given `n` and `m`, which are one less than
--- the numbers of rows.
+-- Two boxes show the same, begin in the same row and have the same number of rows. `n` and `m` are one less than
+-- their numbers of rows.
 pub record SameEnds (k n j m : ℕ) (alike : Bool) : Type 0 where
   pub same : alike ≡ true
   pub first : k ≡ j
