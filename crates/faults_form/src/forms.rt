@@ -63,7 +63,7 @@ pub fn faults<F: Files, K: Sink>(
     }
 }
 
-/// Reads the specification, and returns its family, or the refusal if it is not accepted.
+/// Reads the specification, and returns its family, or the refusal if it cannot be read or is not accepted.
 fn read_family<F: Files>(
     alloc: Global,
     question: FaultsQuestion<'_>,
