@@ -1,4 +1,4 @@
--- Lemmas on values without floats.
+-- Lemmas that a value has no float after its floats are replaced by texts.
 use Rattle.std.proofs.Common.{◌≡◌, false, refl}
 use Rattle.serde_json.specs.Data.{Data, Items, Members, Num, array, boolean, float, item, member, negative, no_items, no_members, null, number, object, string, unsigned}
 use Rattle.serde_json.specs.Written.{has_float, items_have_float, members_have_float}

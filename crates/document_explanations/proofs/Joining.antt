@@ -1,4 +1,4 @@
--- Lemmas on texts that are concatenated piece by piece.
+-- Lemmas that appending pieces of a text one by one is the same as appending their concatenation.
 use Rattle.std.proofs.Common.{◌≡◌, ℕ, List, ◌++◌, Result, Ok, Err, OnOk, ap, sym, ◌∙◌, append_assoc}
 use Rattle.std.specs.Prelude.{codes}
 
