@@ -1,4 +1,4 @@
--- Lemmas on flying the lines of a file in order.
+-- Lemmas that the lines of a file are flown in order, and that the lines for their outcomes are printed or cut off.
 use Rattle.std.proofs.Common.{◌≡◌, ◌∙◌, ℕ, ◌+◌, List, [], ◌∷◌, ◌++◌, arith, length, append_assoc, append-nil, refl, sym, ap, map, subst, inl}
 use Rattle.std.specs.Prelude.{Result, Ok, Err}
 use Rattle.form_base.specs.declared.status.TheConstants.{ANSWERED}
