@@ -77,7 +77,7 @@ lanes_same name body other (suc n) r s mine theirs e =
       append_cancel_left (116 ∷ []) r s last.1,
     )
 
--- Lemmas on the lanes of a sheet.
+-- Lemmas that the specification has the items that the lanes of its sheet show, and that there are at most 22 lanes.
 
 inside_by : (a b : Bool) (spec : Parts) (n f p : ℕ) → nat_lt n f ≡ a → nat_lt n (f + p) ≡ b → n < f + p + length spec.apps
     → IsShownIn spec (cond a (InFactor n) (cond b (InProcessor (n - f)) (InApplication (n - (f + p)))))

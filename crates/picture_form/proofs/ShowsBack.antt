@@ -36,7 +36,7 @@ use Rattle.picture_form.specs.Spans.{act_label, class_text, label_of, lane_name,
 use Rattle.picture_form.proofs.Cuts.{both_over, field}
 use Rattle.picture_form.proofs.RectsBack.{frames_same, frames_tail}
 
--- Lemmas on names.
+-- Lemmas that all bytes of names are from 48 to 126.
 
 option_over : {A : Type 0} (name : A → List ℕ) (o : Option A) → ((x : A) → o ≡ Some x → is_name (name x) ≡ true) → all_over 48 (option_map_or name o []) ≡ true
 option_over name None h = refl
@@ -94,7 +94,7 @@ class_over spec (InFactor i) row known = let v = known.values i in decimal_over 
 class_over spec (InProcessor p) row known = refl
 class_over spec (InApplication a) row known = word_over (act_word (act_of row a))
 
--- Lemmas on the act of an application.
+-- Lemmas that all bytes in the texts of an act are from 32 to 126.
 
 mode_over : (spec : Parts) (a : ℕ) (app : AppSpec) (mode : Mode) → IsSpec spec → slice_get spec.apps a ≡ Some app → IsSome (mode_in app.modes mode.0) → all_over 48 (mode_text app.kind.0 mode.0) ≡ true
 mode_over spec a app mode sound there listed =
