@@ -49,7 +49,7 @@ fronts_same style n a b g h u m w q z y r s ends other_ends grid other_grid fron
     (ap (λ (rest : List ℕ). (u ++ m) ++ rest) (sym begins) ∙ top ∙ ap (λ (rest : List ℕ). (w ++ q) ++ rest) other_begins) in
     record { front = both.0; rest = begins ∙ ap (λ (rest : List ℕ). 60 ∷ rest) both.1 ∙ sym other_begins }
 
--- Lemmas on the lanes of a picture, in order.
+-- Lemmas that two pictures whose lanes have the same names and the same text have the same text in each lane.
 
 -- The text of lane `k`: its name, and the text after the name.
 abbrev lanes_with : (ℕ → List ℕ) → (ℕ → List ℕ) → ℕ → List ℕ

@@ -162,7 +162,7 @@ pub lane_walk : (spec : Parts) (sheet : Sheet) (rows : List Row) (strip : Strip)
 lane_walk spec sheet rows strip sound inside low known few =
     ap (walk no_name Start) (spans_whole spec sheet rows strip) ∙ boxes_walk spec sheet strip rows 0 None sound inside low known (omega (arith, few))
 
--- Lemmas on reconfigurations.
+-- Lemmas that the boxes of reconfigurations consist of whole lines.
 
 -- If a bound is given, it has at most 1000 frames.
 abbrev IsGiven : Option ℕ → Type 0
