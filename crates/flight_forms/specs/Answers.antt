@@ -68,7 +68,8 @@ pub record IsReplayAnswer (spec : Parts) (script : ScriptParts) (list : List Eve
   pub had_memory : flown ≢ Err replay_error.NoMemory
   pub gives : Gives (replay_answer spec script flown) status text
 
--- The answer of `replay` after all files have been read.
+-- The answer of `replay` after all files have been read: the answer of a replay by `list`, or the refusal if the
+-- specification and the script do not form a mission.
 abbrev pub ListAnswers : Parts → ScriptParts → List Event → Answer
 ListAnswers spec script list = WithoutFiles (UnlessRefused (mission_refusal spec script) (IsReplayAnswer spec script list))
 
