@@ -53,7 +53,7 @@ abbrev pub env_after_all : Parts → Env → List StateWord → Result Env State
 env_after_all spec v [] = Ok v
 env_after_all spec v (word ∷ words) = option_map_or (λ (w : Env). env_after_all spec w words) (env_after spec v word) (Err word)
 
--- Whether an application is placed on processor `p`.
+-- Whether there is a place, and it is on processor `p`.
 abbrev pub is_placed_on : ℕ → Option Place → Bool
 is_placed_on p None = false
 is_placed_on p (Some place) = place.proc.0 == p

@@ -125,7 +125,7 @@ fn is_used(spec: &Spec, c: ConfId, p: u8) -> bool
     }
 }
 
-/// Returns `true` if an application is placed on processor `p`.
+/// Returns `true` if there is a place, and it is on processor `p`.
 pub fn is_placed_on(place: &Option<Place>, p: u8) -> bool
     ensures { result ≡ is_placed_on p place.now }
 {
