@@ -22,8 +22,8 @@ pub struct Filling {
     pub refusal: Option<Shown>,
 }
 
-/// Returns sufficient bounds of a specification. They are the given bounds, each raised as far as required, followed by
-/// the missing bounds, by source and then by target.
+/// Returns sufficient bounds of a specification. They are the given bounds, each raised as far as required, followed
+/// by the missing bounds in the order of their sources and then of their targets.
 ///
 /// # Errors
 ///
