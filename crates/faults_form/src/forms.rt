@@ -1,4 +1,5 @@
-//! The form `faults`, which prints the family of fault scripts of a specification.
+//! The form `faults`, which prints the family of fault scripts of a specification: the scripts with a given number of
+//! faults that keep to its failure assumption.
 
 ghost use Rattle.std.specs.Prelude.{◌≡◌, ◌+◌, ◌*◌, ◌≤◌, ◌∷◌, [], length};
 ghost use Rattle.coverage_check.specs.Acceptance.{first_refusal};
