@@ -42,7 +42,7 @@ pub record AnswersLonger (limit : ℕ) (long : ℕ × List ℕ) (name : List ℕ
 abbrev pub AnswersFailed : List ℕ → Answer
 AnswersFailed name before after reads status text = (reads ≡ []) × Rose before.faults after.faults × Gives (UNREAD_FILE, read_line name) status text
 
--- The file of this name is too long or was not read, and the answer reports which of the two.
+-- The file of this name was not read or has more than `limit` bytes, and the answer reports which is the case.
 abbrev pub AnswersUnread : ℕ → ℕ × List ℕ → List ℕ → Answer
 AnswersUnread limit long name before after reads status text =
     AnswersLonger limit long name before after reads status text ⊎ AnswersFailed name before after reads status text

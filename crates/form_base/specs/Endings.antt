@@ -72,7 +72,7 @@ pub record StoppedIn (old new : SinkState) (text : List ℕ) : Type 0 where
   pub parts : taken old ++ text ≡ new.sent ++ rest
   pub rose : Rose old.faults new.faults
 
--- If the sink is certain to take as many bytes as the text has, its fault count did not rise.
+-- If the sink is certain to take at least the number of bytes that the text has, its fault count did not rise.
 abbrev pub IsQuietFor : List ℕ → SinkState → SinkState → Type 0
 IsQuietFor text old new = IfSome old.surely (λ room. length text ≤ room → Unrisen old.faults new.faults)
 
