@@ -42,7 +42,7 @@ abbrev pub need_line : Parts → ConfId → AppId → AppId → List ℕ
 need_line spec c a b =
     codes "  in " ++ conf_name spec c.0 ++ codes " " ++ app_name spec a.0 ++ codes " is on and " ++ app_name spec b.0 ++ codes " is off\n"
 
--- The line with the number of environments in scope and the maximum number of them.
+-- The line with the number of environments in scope and the maximum number that may be in scope.
 abbrev pub states_line : Parts → List ℕ
 states_line spec = codes "  states " ++ decimal (states spec) ++ codes ", at most " ++ decimal MAX_ENVIRONMENTS ++ codes "\n"
 
