@@ -42,7 +42,7 @@ abbrev pub need_line : Parts → ConfId → AppId → AppId → List ℕ
 need_line spec c a b =
     codes "  in " ++ conf_name spec c.0 ++ codes " " ++ app_name spec a.0 ++ codes " is on and " ++ app_name spec b.0 ++ codes " is off\n"
 
--- The line with the number of environments in scope and the maximum number of them.
+-- The line with the number of environments in scope and the maximum number that may be in scope.
 abbrev pub states_line : Parts → List ℕ
 states_line spec = codes "  states " ++ decimal (states spec) ++ codes ", at most " ++ decimal MAX_ENVIRONMENTS ++ codes "\n"
 
@@ -60,38 +60,39 @@ load_line spec c p =
     codes "  in " ++ conf_name spec c.0 ++ codes " " ++ proc_name spec p.0 ++ codes " carries " ++ decimal (load_below spec c p.0 (length spec.apps))
     ++ codes " of " ++ decimal (capacity_of spec p.0) ++ codes "\n"
 
--- The number of rule `k` and its target, in words.
+-- The text that rule `k` chooses the target `to`.
 abbrev pub chooses_text : Parts → ℕ → ConfId → List ℕ
 chooses_text spec k to = codes " rule " ++ decimal k ++ codes " chooses " ++ conf_name spec to.0
 
--- The number of rule `k` and its target, in words. If there is no such rule, the words are that no rule fits.
+-- The text of rule `k` and its target, or the text that no rule fits if there is no rule `k`.
 abbrev pub fitting_text : Parts → ℕ → List ℕ
 fitting_text spec k =
     option_map_or (λ (rule : Choice). chooses_text spec k rule.to) (slice_get spec.rules k) (codes " no rule fits")
 
--- The number and the target of the first rule that fits a configuration in an environment, in words.
+-- The text of the first rule that fits configuration `c` in environment `v` and of its target, or the text that no
+-- rule fits.
 abbrev pub chosen_text : Parts → ConfId → Env → List ℕ
 chosen_text spec c v = fitting_text spec (first_rule spec.rules c v)
 
--- A configuration, an environment and the choice there, in words.
+-- The text of configuration `c`, environment `v` and the choice from `c` in `v`.
 abbrev pub situation_text : Parts → ConfId → Env → List ℕ
 situation_text spec c v = codes "from " ++ conf_name spec c.0 ++ codes " in " ++ env_text spec v ++ chosen_text spec c v
 
--- The start of a line, with a configuration, an environment and the choice there.
+-- The start of a line, with configuration `c`, environment `v` and the choice from `c` in `v`.
 abbrev pub situation_piece : Parts → ConfId → Env → List ℕ
 situation_piece spec c v = codes "  " ++ situation_text spec c v
 
--- The end of a line, with the choice from the chosen target.
+-- The end of a line, with the further choice from the target that is chosen from `c` in `v`.
 abbrev pub unsettled_piece : Parts → ConfId → Env → List ℕ
 unsettled_piece spec c v = codes ", from which" ++ chosen_text spec (choose spec c v) v ++ codes "\n"
 
--- The end of a line, with the way in which the choice fails a requirement.
+-- The end of a line, with the way in which the choice from `c` in `v` fails a requirement.
 abbrev pub unmet_piece : Parts → Requirement → ConfId → Env → List ℕ
 unmet_piece spec requirement.HasRule c v = codes "\n"
 unmet_piece spec requirement.CanRun c v = needs_piece spec v (first_rule spec.rules c v)
 unmet_piece spec requirement.Stays c v = unsettled_piece spec c v
 
--- The line for a choice that fails a requirement.
+-- The line for the choice from `c` in `v`, which fails the requirement `asked`.
 abbrev pub unmet_line : Parts → Requirement → ConfId → Env → List ℕ
 unmet_line spec asked c v = situation_piece spec c v ++ unmet_piece spec asked c v
 
@@ -120,16 +121,16 @@ abbrev pub place_mode_text : Parts → AppId → Option Place → List ℕ
 place_mode_text spec a None = codes "off"
 place_mode_text spec a (Some place) = mode_text (kind_of_app spec a.0) place.mode.0
 
--- The number, the application and the variable of an invariant or a precondition.
+-- The text of the number, the application and the variable of an invariant or a precondition.
 abbrev pub subject_text : Parts → Limits → List ℕ
 subject_text spec limits =
     codes " " ++ decimal limits.item ++ codes " " ++ app_name spec limits.app.0 ++ codes " " ++ variable_text spec limits.app limits.variable
 
--- The interval that is given and the interval that is needed, in words.
+-- The text of the interval that is given and the interval that is needed.
 abbrev pub intervals_text : Limits → List ℕ
 intervals_text limits = codes " " ++ extremes_text limits.given ++ codes " needs " ++ extremes_text limits.needed ++ codes ": "
 
--- The number, the application, the variable and the intervals of an invariant or a precondition.
+-- The text of the number, the application, the variable and the intervals of an invariant or a precondition.
 abbrev pub limits_text : Parts → Limits → List ℕ
 limits_text spec limits = subject_text spec limits ++ intervals_text limits
 
@@ -158,7 +159,7 @@ missed_line_of spec k pre =
 abbrev pub missed_line : Parts → ℕ → List ℕ
 missed_line spec k = option_map_or (missed_line_of spec k) (slice_get spec.preconditions k) []
 
--- The start of a line, with demand `k`, a configuration, an environment and the choice there.
+-- The start of a line, with demand `k`, configuration `c`, environment `v` and the choice from `c` in `v`.
 abbrev pub demand_piece : Parts → ConfId → ℕ → Env → List ℕ
 demand_piece spec c k v = codes "  demand " ++ demand_name spec k ++ codes " " ++ situation_text spec c v
 
@@ -188,7 +189,7 @@ first_on_missed spec demand c = least_from (is_on_missed spec demand c) 0 (lengt
 abbrev pub first_off_missed : Parts → Demand → ConfId → Option ℕ
 first_off_missed spec demand c = least_from (is_off_missed spec demand c) 0 (length spec.apps)
 
--- The name of application `a`, and in words that it is off or in a mode.
+-- The name of application `a`, followed by the text that it is off if it has no place, or by the mode of its place.
 abbrev pub whereabouts_text : Parts → ℕ → Option Place → List ℕ
 whereabouts_text spec a None = app_name spec a ++ codes " is off"
 whereabouts_text spec a (Some place) = app_name spec a ++ codes " is in " ++ mode_text (kind_of_app spec a) place.mode.0
@@ -208,16 +209,16 @@ app_missed_text spec demand c (Some a) = codes ", in which " ++ whereabouts_text
 abbrev pub none_of_text : Parts → Demand → List ℕ
 none_of_text spec demand = codes ", which is none of " ++ members_text spec demand.to
 
--- The way in which configuration `c` fails a demand, in words.
+-- The text of the way in which configuration `c` fails a demand.
 abbrev pub missed_text : Parts → Demand → ConfId → List ℕ
 missed_text spec demand c =
     if is_empty_or_holds demand.to c then app_missed_text spec demand c (first_on_missed spec demand c) else none_of_text spec demand
 
--- The end of a line, with the way in which the choice fails demand `k`.
+-- The end of a line, with the way in which the configuration that is chosen from `c` in `v` fails demand `k`.
 abbrev pub missed_piece : Parts → ConfId → ℕ → Env → List ℕ
 missed_piece spec c k v = option_map_or (λ (demand : Demand). missed_text spec demand (choose spec c v)) (slice_get spec.demands k) [] ++ codes "\n"
 
--- The line for a choice that fails demand `k`.
+-- The line for the choice from configuration `c` in environment `v`, which fails demand `k`.
 abbrev pub demand_line : Parts → ConfId → ℕ → Env → List ℕ
 demand_line spec c k v = demand_piece spec c k v ++ missed_piece spec c k v
 

@@ -18,7 +18,7 @@ use scram_types::{AppId, ConfId, Demand, Env, Mode, Modes, Place, Spec};
 use trace_text::lines::Line;
 use trace_text::row_lines::name_of_mode;
 
-// Returns the start of a line, with demand `k`, a configuration, an environment and the choice there.
+// Returns the start of a line, with demand `k`, configuration `c`, an environment and the choice from `c` in it.
 pub(crate) fn make_demand_piece(spec: &Spec, c: ConfId, k: u32, env: &Env) -> Line
     requires { IsEnv spec.now env.now }
     ensures { result ≡ demand_piece spec.now c k env.now }
@@ -31,7 +31,8 @@ pub(crate) fn make_demand_piece(spec: &Spec, c: ConfId, k: u32, env: &Env) -> Li
     line
 }
 
-// Returns the end of a line, with the way in which the choice fails demand `k`.
+// Returns the end of a line, with the way in which the configuration that is chosen from `c` in an environment fails
+// demand `k`.
 pub(crate) fn make_missed_piece(spec: &Spec, c: ConfId, k: u32, env: &Env) -> Line
     ensures { result ≡ missed_piece spec.now c k env.now }
 {
@@ -43,7 +44,7 @@ pub(crate) fn make_missed_piece(spec: &Spec, c: ConfId, k: u32, env: &Env) -> Li
     line
 }
 
-// Appends the way in which configuration `c` fails a demand, in words.
+// Appends the text of the way in which configuration `c` fails a demand.
 fn add_missed(line: &mut Line, spec: &Spec, demand: &Demand, c: ConfId)
     requires { length line.old + 300 ≤ MAX_LINE_BYTES }
     ensures text { line.new ≡ line.old ++ missed_text spec.now demand.now c }

@@ -77,7 +77,7 @@ fn add_limits(line: &mut Line, spec: &Spec, limits: &Limits)
     add_intervals(line, limits);
 }
 
-// Appends the number, the application and the variable of an invariant or a precondition.
+// Appends the text of the number, the application and the variable of an invariant or a precondition.
 fn add_subject(line: &mut Line, spec: &Spec, limits: &Limits)
     requires { length line.old + 50 ≤ MAX_LINE_BYTES }
     ensures text { line.new ≡ line.old ++ subject_text spec.now limits.now }
@@ -91,7 +91,7 @@ fn add_subject(line: &mut Line, spec: &Spec, limits: &Limits)
     line.text(variable_text(spec, limits.app, limits.variable).as_bytes());
 }
 
-// Appends the interval that is given and the interval that is needed, in words.
+// Appends the text of the interval that is given and the interval that is needed.
 fn add_intervals(line: &mut Line, limits: &Limits)
     requires { length line.old + 100 ≤ MAX_LINE_BYTES }
     ensures text { line.new ≡ line.old ++ intervals_text limits.now }

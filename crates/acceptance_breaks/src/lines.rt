@@ -27,7 +27,7 @@ pub(crate) fn make_need_line(spec: &Spec, c: ConfId, a: AppId, b: AppId) -> Line
     line
 }
 
-// Returns the line with the number of environments in scope and the maximum number of them.
+// Returns the line with the number of environments in scope and the maximum number that may be in scope.
 pub(crate) fn make_states_line(spec: &Spec) -> Line
     ensures { result ≡ states_line spec.now }
 {

@@ -141,7 +141,8 @@ fn add_both(text: &mut Vec<u8>, piece: &Line, end: &Line) -> Result<(), NoMemory
     add(text, end)
 }
 
-// Appends the line with the number of places that have no line of their own, or nothing if the number is 0.
+// Appends the line with the number of places that have no line of their own, given the number `count` of all places.
+// Appends nothing if each place has a line.
 fn add_more(text: &mut Vec<u8>, count: usize) -> Result<(), NoMemory>
     ensures { OnOk result (text.new.items ≡ text.old.items ++ more_text count) }
 {

@@ -1,4 +1,4 @@
--- Lemmas on the text of a share.
+-- Lemmas that the text for a share is the line of its rule, or the empty text if the share has no environment.
 use Rattle.std.proofs.Common.{◌≡◌, ◌∙◌, ℕ, ap, sym, List, []}
 use Rattle.std.specs.Prelude.{Option, Some, None}
 use Rattle.std.specs.Option.{option_map_or}

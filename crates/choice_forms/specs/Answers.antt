@@ -13,7 +13,8 @@ use Rattle.choice_forms.specs.declared.states.StateWord.{StateWord}
 use Rattle.choice_forms.specs.Choosing.{choose_answer}
 use Rattle.choice_forms.specs.Tables.{choices_text}
 
--- The answer to `choices`. If too many environments are in scope, `shown` is the refusal.
+-- The answer to `choices` about a specification. `shown` is the refusal if too many environments are in scope, and
+-- `None` otherwise.
 abbrev pub choices_answer : Parts → Option Shown → ℕ × List ℕ
 choices_answer spec (Some shown) = (NOT_ACCEPTED, shown_line spec shown)
 choices_answer spec None = (ANSWERED, choices_text spec)
@@ -22,7 +23,8 @@ choices_answer spec None = (ANSWERED, choices_text spec)
 abbrev pub ChoicesAnswers : List ℕ → Answer
 ChoicesAnswers specification = AsksSpecification specification (λ (spec : Parts). WithoutFiles (Gives (choices_answer spec (state_refusal spec))))
 
--- If `choices` ends with status 0, it has read no other file, and the text lists the choices of the specification.
+-- If `choices` ends with status 0, it has read only the file of the specification, and the text lists the choices of
+-- the specification.
 abbrev pub AssuresChoices : List ℕ → History → List ℕ → Type 0
 AssuresChoices specification = OfSpecification specification (λ (spec : Parts) (reads : History) (text : List ℕ). (reads ≡ []) × (text ≡ choices_text spec))
 
@@ -31,8 +33,8 @@ AssuresChoices specification = OfSpecification specification (λ (spec : Parts) 
 abbrev pub ChooseAnswers : List ℕ → List ℕ → List StateWord → Answer
 ChooseAnswers specification conf state = AsksSpecification specification (λ (spec : Parts). WithoutFiles (Gives (choose_answer spec conf state)))
 
--- If `choose` ends with status 0, it has read no other file, each word names something of the specification, and the
--- text is the line of the choice.
+-- If `choose` ends with status 0, it has read only the file of the specification. The specification has every name in
+-- the words, and the text is the line of the choice.
 abbrev pub AssuresChoose : List ℕ → List ℕ → List StateWord → History → List ℕ → Type 0
 AssuresChoose specification conf state =
     OfSpecification specification (λ (spec : Parts) (reads : History) (text : List ℕ). (reads ≡ []) × Gives (choose_answer spec conf state) ANSWERED text)

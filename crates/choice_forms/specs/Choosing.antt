@@ -41,17 +41,19 @@ valued spec v factor value =
 abbrev pub taken_down : Parts → Env → List ℕ → Option Env
 taken_down spec v proc = option_map (λ (p : ProcId). record { up = others_up v.up p.0; factors = v.factors }) (proc_named spec proc)
 
--- The environment `v` changed by a word of a state, or `None` if the word names nothing of the specification.
+-- The environment `v` changed by a word of a state, or `None` if the specification does not have the factor, value or
+-- processor that the word names.
 abbrev pub env_after : Parts → Env → StateWord → Option Env
 env_after spec v (Value factor value) = valued spec v factor value
 env_after spec v (Down proc) = taken_down spec v proc
 
--- The environment `v` changed by the words of a state, or the first word that names nothing of the specification.
+-- The environment `v` changed by the words of a state, or the first word with a name that the specification does not
+-- have.
 abbrev pub env_after_all : Parts → Env → List StateWord → Result Env StateWord
 env_after_all spec v [] = Ok v
 env_after_all spec v (word ∷ words) = option_map_or (λ (w : Env). env_after_all spec w words) (env_after spec v word) (Err word)
 
--- Whether an application is placed on processor `p`.
+-- Whether there is a place, and it is on processor `p`.
 abbrev pub is_placed_on : ℕ → Option Place → Bool
 is_placed_on p None = false
 is_placed_on p (Some place) = place.proc.0 == p
@@ -77,11 +79,13 @@ state_text spec v = if have_changed spec (opening_env spec) v then difference_te
 abbrev pub rule_needs : Parts → ℕ → Env → List ℕ
 rule_needs spec k v = option_map_or (λ (rule : Choice). needs_text spec rule.to v) (slice_get spec.rules k) []
 
--- The first piece of a choice's line: the configuration, the state, the rule and its target.
+-- The first piece of the line of a choice from configuration `c` in environment `v`: the configuration, the
+-- environment, rule `k` and its target.
 abbrev pub choice_piece : Parts → ConfId → Env → ℕ → List ℕ
 choice_piece spec c v k = codes "choice " ++ conf_name spec c.0 ++ codes " in " ++ state_text spec v ++ ruled_text spec k
 
--- The second piece of a choice's line: the processors that the target needs, and the line feed.
+-- The second piece of the line of a choice in environment `v`: the processors that the target of rule `k` needs but
+-- that are down, and the line feed.
 abbrev pub needs_piece : Parts → Env → ℕ → List ℕ
 needs_piece spec v k = rule_needs spec k v ++ codes "\n"
 
@@ -89,21 +93,22 @@ needs_piece spec v k = rule_needs spec k v ++ codes "\n"
 abbrev pub chosen_line : Parts → ConfId → Env → List ℕ
 chosen_line spec c v = choice_piece spec c v (first_rule spec.rules c v) ++ needs_piece spec v (first_rule spec.rules c v)
 
--- The refusal of a word that names nothing of the specification.
+-- The line that refuses a word with a name that the specification does not have.
 abbrev pub no_name_line : List ℕ → List ℕ
 no_name_line word = codes "refused: no such name " ++ word ++ codes "\n"
 
--- The status and the line report that the word names nothing of the specification, or that there was no memory for
--- that line.
+-- The status and the line report that the specification does not have a name in the word, or that there was no memory
+-- for that line.
 abbrev pub IsUnknown : List ℕ → ℕ × List ℕ → Type 0
 IsUnknown word refusal = (refusal ≡ (UNKNOWN_NAME, no_name_line word)) ⊎ (refusal ≡ (OUT_OF_MEMORY, memory_line))
 
--- The answer for the choice in an environment, or for the word of a state that names nothing.
+-- The answer for the choice from configuration `c`, given the environment, or the refusal, given a word of the state
+-- with an unknown name.
 abbrev pub chosen_in : Parts → ConfId → Result Env StateWord → ℕ × List ℕ
 chosen_in spec c (Ok v) = (ANSWERED, chosen_line spec c v)
 chosen_in spec c (Err word) = (UNKNOWN_NAME, no_name_line (state_word_text word))
 
--- The answer for the choice from a configuration, or for a word that names no configuration.
+-- The answer for the choice from a configuration, or the refusal of the name `conf` if no configuration has it.
 abbrev pub chosen_from : Parts → Option ConfId → List ℕ → List StateWord → ℕ × List ℕ
 chosen_from spec None conf words = (UNKNOWN_NAME, no_name_line conf)
 chosen_from spec (Some c) conf words = chosen_in spec c (env_after_all spec (opening_env spec) words)

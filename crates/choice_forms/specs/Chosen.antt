@@ -4,6 +4,6 @@ use Rattle.form_base.specs.declared.status.TheConstants.{ANSWERED}
 use Rattle.form_base.specs.Answers.{Gives}
 use Rattle.choice_forms.specs.declared.choosing.Chosen.{Chosen}
 
--- The answer has status 0, and its text consists of the two pieces.
+-- The answer has status 0, and its text consists of the two pieces of `chosen`.
 abbrev pub GivesChosen : Chosen → ℕ → List ℕ → Type 0
 GivesChosen chosen = Gives (ANSWERED, chosen.choice ++ chosen.needs)

@@ -20,11 +20,11 @@ choice_text spec i k =
     option_map_or (λ (first : Env). choice_line spec i k (count_where spec (is_ruled_by spec (conf_id i) k)) first)
     (first_where spec (is_ruled_by spec (conf_id i) k)) []
 
--- The lines of configuration `i`, by rule.
+-- The lines of configuration `i`, in the order of the rules.
 abbrev pub choices_text_from : Parts → ℕ → List ℕ
 choices_text_from spec i = texts_below (choice_text spec i) (suc (length spec.rules))
 
--- The lines of all configurations, by configuration.
+-- The lines of all configurations, in the order of the configurations.
 abbrev pub choices_text : Parts → List ℕ
 choices_text spec = texts_below (choices_text_from spec) (length spec.confs)
 

@@ -43,8 +43,8 @@ struct Chosen {
 }
 
 /// Prints the choice from a configuration in a state, by the specification in a file. The line has the rule, its
-/// target, and the processors that the target needs but that are down. If a word names nothing of the specification,
-/// the first such word is refused instead.
+/// target, and the processors that the target needs but that are down. If the specification does not have a name in
+/// the words, the first such word is refused instead.
 pub fn choose<F: Files, K: Sink>(
     alloc: Global,
     question: Question<'_>,
@@ -121,7 +121,7 @@ fn make_chosen(spec: &Spec, c: ConfId, env: &Env) -> Chosen
 }
 
 // Returns the opening environment of a flight after each word of a state has changed it. The error is the first word
-// that names nothing of the specification.
+// with a name that the specification does not have.
 fn env_after_all<'a>(spec: &Spec, state: &'a [StateWord]) -> Result<Env, &'a StateWord>
     ensures env { IfOk result (λ v. env_after_all spec.now (opening_env spec.now) state.now ≡ Ok v) }
     ensures belongs { IfOk result (λ v. IsEnv spec.now v) }
@@ -200,7 +200,7 @@ fn others_up(up: u8, p: u8) -> u8
     if has_bit(up, p) { up - (1 << p) } else { up }
 }
 
-// Returns the refusal of a word of a state that names nothing of the specification.
+// Returns the refusal of a word of a state with a name that the specification does not have.
 fn no_word(alloc: Global, word: &StateWord) -> Refusal
     ensures { IsUnknown (state_word_text word.now) (answer_of result) }
 {
@@ -216,8 +216,8 @@ fn no_word(alloc: Global, word: &StateWord) -> Refusal
     }
 }
 
-// Returns the refusal of a word that names nothing of the specification, or the out-of-memory refusal if there is no
-// memory for its line.
+// Returns the refusal of a word with a name that the specification does not have, or the out-of-memory refusal if
+// there is no memory for its line.
 fn no_name(alloc: Global, word: &str) -> Refusal
     ensures { IsUnknown word.now (answer_of result) }
 {

@@ -12,8 +12,9 @@ use scram_types::bits::has_bit;
 use scram_types::{ConfId, Env, Place, Spec};
 use trace_text::lines::Line;
 
-/// Returns the line of rule `k` and configuration `from`. It has the number of environments in scope in which the rule
-/// is the first that fits, and the first of them. If `k` is past the last rule, no rule fits in these environments.
+/// Returns the line of rule `k` and configuration `from`. `count` is the number of environments in scope in which the
+/// rule is the first that fits, and `first` is the first of these environments. If `k` is past the last rule, no rule
+/// fits in these environments.
 pub fn make_choice_line(spec: &Spec, from: ConfId, k: usize, count: u32, first: &Env) -> Line
     ensures { result ≡ choice_line spec.now from.0 k count first.now }
 {
@@ -125,7 +126,7 @@ fn is_used(spec: &Spec, c: ConfId, p: u8) -> bool
     }
 }
 
-/// Returns `true` if an application is placed on processor `p`.
+/// Returns `true` if there is a place, and it is on processor `p`.
 pub fn is_placed_on(place: &Option<Place>, p: u8) -> bool
     ensures { result ≡ is_placed_on p place.now }
 {

@@ -66,7 +66,7 @@ act_fields spec kind act =
 abbrev pub word_field : ℕ → List ℤ → ℕ → List ℕ
 word_field kind area i = option_map_or (λ (variable : List ℕ). codes "," ++ signed_decimal (slice_index_or area i (pos 0))) (name_in (variable_names kind) i) []
 
--- The fields of application `a` in a row.
+-- The fields of application `a` in a row: the fields of its act, and the words of its area that its kind uses.
 abbrev pub app_fields : Parts → Row → ℕ → AppSpec → List ℕ
 app_fields spec row a app =
     act_fields spec app.kind.0 (act_of row a) ++ texts_below (word_field app.kind.0 (slice_index_or row.areas a [])) 8

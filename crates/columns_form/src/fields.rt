@@ -102,7 +102,8 @@ fn add_world_fields(line: &mut Line, world: &World)
     line.signed(&world.bank);
 }
 
-/// Returns the fields of application `a` in a row.
+/// Returns the fields of application `a` in a row: the fields of its act, and the words of its area that its kind
+/// uses.
 pub fn make_app_fields(spec: &Spec, row: &Row, a: usize, app: &AppSpec) -> Line
     requires { a < 8 }
     ensures { result ≡ app_fields spec.now row.now a app.now }

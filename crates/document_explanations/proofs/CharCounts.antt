@@ -1,4 +1,4 @@
--- Lemmas on the first characters of a text.
+-- Lemmas on the first characters of a text, and on a text that is cut to its first 60 characters.
 use Rattle.std.proofs.Common.{◌≡◌, ℕ, suc, ◌+◌, ◌-◌, ◌<◌, ◌≤◌, Bool, true, false, cond, List, [], ◌∷◌, ◌++◌, length, refl, sym, ap, ◌∙◌, arith, append-nil, ne_eqb}
 use Rattle.std.specs.Prelude.{◌==◌, codes, nat_lt}
 use Rattle.std.specs.Fmt.{char_count, format_spec, is_char_start, padded, styled_text, take_chars}

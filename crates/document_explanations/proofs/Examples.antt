@@ -1,4 +1,4 @@
--- Examples of expected and found values, which are computed and compared with their words.
+-- Examples of the texts for expected and found values. Each text is computed and compared with the correct one.
 use Rattle.std.proofs.Common.{◌≡◌, ℕ, List, [], ◌∷◌, ◌++◌, Some, None, refl, decimal}
 use Rattle.std.specs.Option.{option_map_or}
 use Rattle.std.specs.Prelude.{◌+◌, codes, is_some, neg_ℤ, pos, true}
@@ -15,8 +15,8 @@ use Rattle.document_explanations.specs.declared.objects.Text.TheVariants as text
 use Rattle.document_explanations.specs.declared.rules.DocumentKind.{DocumentKind}
 use Rattle.document_explanations.specs.declared.rules.DocumentKind.TheVariants.{Specification, Script}
 
--- The words for the expected value at a path of a document where a rule is broken, or the empty text if there is
--- none.
+-- The text that describes the expected value at a path of a document where a rule is broken, or the empty text if
+-- there is none.
 abbrev wanted_in : DocumentKind → ℕ → List ℕ → List ℕ
 wanted_in kind rule path = option_map_or (wanted_text None) (wanted_at kind rule path) []
 
@@ -46,7 +46,7 @@ modes : wanted_in Specification 13 (codes ".demands.0.on.0.modes.1")
     codes "datalink: fast slow, task: full reduced minimal"
 modes = refl
 
--- If a member is missing, the words are those for its object.
+-- If a member is missing, the expected value of its object is described.
 name_missing : wanted_in Specification 3 (codes ".factors.1.name") ≡ codes "name, values"
 name_missing = refl
 
@@ -72,7 +72,7 @@ elements : found_text_at Specification 6 (codes ".demands") (object members) ≡
 unfolding members
 elements = refl
 
--- Each rule of both kinds of document has words.
+-- Each rule of both kinds of document has a text.
 specification_rules : all_below (λ (k : ℕ). is_some (broken_rule Specification (k + 1))) 25 ≡ true
 specification_rules = refl
 

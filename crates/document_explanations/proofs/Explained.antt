@@ -1,4 +1,4 @@
--- Refusals with an explanation, and refusals without one if memory runs out.
+-- A lemma on the choice between a refusal with an explanation and an out-of-memory refusal.
 use Rattle.std.proofs.Common.{◌⊎◌, inl, inr}
 
 -- If the first of two cases implies a fact, then this fact or the second case holds.

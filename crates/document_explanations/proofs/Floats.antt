@@ -1,4 +1,4 @@
--- Lemmas on values without floats.
+-- Lemmas that a value has no float after its floats are replaced by texts.
 use Rattle.std.proofs.Common.{◌≡◌, false, refl}
 use Rattle.serde_json.specs.Data.{Data, Items, Members, Num, array, boolean, float, item, member, negative, no_items, no_members, null, number, object, string, unsigned}
 use Rattle.serde_json.specs.Written.{has_float, items_have_float, members_have_float}
@@ -9,7 +9,7 @@ no_float (unsigned n) = refl
 no_float (negative z) = refl
 no_float (float x) = refl
 
--- A value in the form in which it is shown has no float.
+-- A value in which each float is replaced by a text has no float.
 mutual
   pub has_no_float : (d : Data) → has_float (without_floats d) ≡ false
   has_no_float null = refl

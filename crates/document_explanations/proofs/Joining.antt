@@ -1,4 +1,4 @@
--- Lemmas on texts that are concatenated piece by piece.
+-- Lemmas that appending pieces of a text one by one is the same as appending their concatenation.
 use Rattle.std.proofs.Common.{◌≡◌, ℕ, List, ◌++◌, Result, Ok, Err, OnOk, ap, sym, ◌∙◌, append_assoc}
 use Rattle.std.specs.Prelude.{codes}
 
@@ -24,7 +24,7 @@ joined_three a b c d = three_more a b c d ∙ ap (λ (rest : List ℕ). a ++ res
 pub joined_four : (a b c d e : List ℕ) → (((a ++ b) ++ c) ++ d) ++ e ≡ a ++ (b ++ c ++ d ++ e)
 joined_four a b c d e = four_more a b c d e ∙ ap (λ (rest : List ℕ). a ++ rest) (sym (three_more b c d e))
 
--- The words of the rule that a document is not longer than a limit, in bytes.
+-- The text of the rule that a document has at most `limit` bytes.
 abbrev pub limit_end : List ℕ → List ℕ
 limit_end limit = codes "more than" ++ (codes " " ++ limit ++ codes " bytes")
 

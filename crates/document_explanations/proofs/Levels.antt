@@ -28,8 +28,8 @@ above_more : (level : List ℕ) (levels : List (List ℕ)) (w : Wanted) → 0 < 
 above_more level [] w some = absurd (omega (arith, some))
 above_more level (next ∷ levels) w some = refl
 
--- The expected value after several levels, or above the last of them, is found by the first level and then by the
--- others.
+-- The expected value along all levels of a text, or along all but the last, is reached by descending the first level
+-- and then the others.
 pub step_whole : (text level rest : List ℕ) (w : Wanted) → pieces_of 46 text ≡ level ∷ pieces_of 46 rest
     → wanted_along (pieces_of 46 text) w ≡ option_and_then (wanted_along (pieces_of 46 rest)) (wanted_below w level)
 step_whole text level rest w pieces = ap (λ (levels : List (List ℕ)). wanted_along levels w) pieces

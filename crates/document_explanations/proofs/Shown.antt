@@ -1,4 +1,4 @@
--- Lemmas on copies of values without floats.
+-- Lemmas that a value whose items or members are copied without floats is the value without floats.
 use Rattle.std.proofs.Common.{◌≡◌, ℕ, List, [], ◌∷◌, map, Ordering, Less, Equal, Greater, nat_cmp, refl, sym, ap, ◌∙◌}
 use Rattle.std.specs.Cmp.Lexicographic.{slice_cmp}
 use Rattle.std.specs.Ordering.{match_ordering}

@@ -26,22 +26,23 @@ is_version_of d versions.SecondOn = has_policy d
 is_version_of d versions.Third = has_demands d
 is_version_of d versions.Second = has_version 2 d
 
--- Whether the table of an object of a document has a member with this name.
+-- Whether the table of `object` has a member with this name for the version of document `d`.
 abbrev pub is_known : Data → Object → List ℕ → Bool
 is_known d object name = option_map_or (λ (m : Member). is_version_of d m.versions) (member_named (members_of object) name) false
 
--- The names of the members that are not in the table of their object, in byte order.
+-- The names of those members that the table of `object` does not have for the version of document `d`, in byte order.
 abbrev pub further_names : Data → Object → Members → List (List ℕ)
 further_names d object no_members = []
 further_names d object (member name value members) =
     if is_known d object name then further_names d object members else name ∷ further_names d object members
 
--- The names of the members that are not in the table of their object, as JSON texts.
+-- The names of those members that the table of `object` does not have for the version of document `d`, as JSON texts
+-- separated by a comma and a space.
 abbrev pub further_text : Data → Object → Members → List ℕ
 further_text d object members = listed (map quoted (further_names d object members))
 
--- The names of the members that are not in the table of the expected object, or the empty text if no object is
--- expected.
+-- The names of the members of `value` that are not in the table of the expected object, or the empty text if no
+-- object is expected or `value` is not an object.
 abbrev pub further_members : Data → Option Wanted → Data → List ℕ
 further_members d None value = []
 further_members d (Some (wanted.Object object)) value = option_map_or (further_text d object) (as_object value) []
@@ -49,11 +50,12 @@ further_members d (Some (wanted.List length element)) value = []
 further_members d (Some (wanted.Number number)) value = []
 further_members d (Some (wanted.Text text)) value = []
 
--- The number of elements of a list, in words, or the empty text if the value is not a list.
+-- The number of elements of a list, followed by `elements`, or the empty text if the value is not a list.
 abbrev pub elements_text : Data → List ℕ
 elements_text value = option_map_or (λ (items : Items). decimal (items_len items) ++ codes " elements") (as_array value) []
 
--- The text that is shown for a value at a path where a rule is broken.
+-- The text that is shown for `value`, which was found at a path of document `d` where `rule` is broken: the names of
+-- the members that are not known, the number of elements if the length is wrong, or otherwise the value itself.
 abbrev pub found_in : DocumentKind → ℕ → List ℕ → Data → Data → List ℕ
 found_in kind rule path d value =
     if rule == FURTHER_MEMBER then further_members d (wanted_at kind rule path) value

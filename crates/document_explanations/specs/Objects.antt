@@ -34,31 +34,31 @@ later name versions wanted = record { name = name; versions = versions; wanted =
 abbrev pub has : List ℕ → Wanted → Member
 has name wanted = later name versions.All wanted
 
--- A list of `least` to `most` elements.
+-- An expected list of `least` to `most` elements.
 abbrev pub list : ℕ → ℕ → Element → Wanted
 list least most element = wanted.List (extent.Within least most) element
 
--- A list of `least` to `most` objects.
+-- An expected list of `least` to `most` objects.
 abbrev pub objects : ℕ → ℕ → Object → Wanted
 objects least most object = list least most (element.Object object)
 
--- A list of up to `most` texts.
+-- An expected list of up to `most` texts.
 abbrev pub texts : ℕ → Text → Wanted
 texts most text = list 0 most (element.Text text)
 
--- A number from `least` to `greatest`.
+-- An expected number from `least` to `greatest`.
 abbrev pub whole : ℕ → ℕ → Wanted
 whole least greatest = wanted.Number (number.Whole least greatest)
 
--- A number from `least` to `greatest`, which may be negative.
+-- An expected number from `least` to `greatest`, which may be negative.
 abbrev pub signed : ℤ → ℤ → Wanted
 signed least greatest = wanted.Number (number.Signed least greatest)
 
--- An end of an interval.
+-- The expected value of an end of an interval: a number from `-MAX_INTERVAL_END` to `MAX_INTERVAL_END`.
 abbrev pub interval_end : Wanted
 interval_end = signed (neg_ℤ MAX_INTERVAL_END) MAX_INTERVAL_END
 
--- The members of an invariant or a precondition that follow its configuration.
+-- The members of an invariant or a precondition after the first one, which names its configuration.
 abbrev pub interval_members : List Member
 interval_members =
     has (codes "app") (wanted.Text text.Application) ∷

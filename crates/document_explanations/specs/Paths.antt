@@ -21,7 +21,7 @@ abbrev pub after_dot : List ℕ → List ℕ
 after_dot [] = []
 after_dot (b ∷ path) = if b == 46 then path else []
 
--- The levels of a text, which dots separate. An empty text has no levels.
+-- The levels of a text, separated by dots. An empty text has no levels.
 abbrev pub levels_in : List ℕ → List (List ℕ)
 levels_in [] = []
 levels_in (b ∷ text) = pieces_of 46 (b ∷ text)
@@ -35,15 +35,16 @@ abbrev pub wanted_element : Element → Wanted
 wanted_element (element.Object object) = wanted.Object object
 wanted_element (element.Text text) = wanted.Text text
 
--- The expected value one level below, or `None` if there is no such level. It is the same for all elements of a list.
+-- The expected value one level below an expected value, or `None` if there is no such level. All elements of a list
+-- have the same expected value.
 abbrev pub wanted_below : Wanted → List ℕ → Option Wanted
 wanted_below (wanted.Object object) level = option_map (λ (member : Member). member.wanted) (member_named (members_of object) level)
 wanted_below (wanted.List length element) level = Some (wanted_element element)
 wanted_below (wanted.Number number) level = None
 wanted_below (wanted.Text text) level = None
 
--- The expected value at the end of some levels that start at a value of which `w` is expected, or `None` if there are
--- no such levels.
+-- The expected value that is reached from the expected value `w` along the levels, or `None` if there are no such
+-- levels.
 abbrev pub wanted_along : List (List ℕ) → Wanted → Option Wanted
 wanted_along [] w = Some w
 wanted_along (level ∷ levels) w = option_and_then (wanted_along levels) (wanted_below w level)
@@ -59,15 +60,17 @@ all_but_last (level ∷ next ∷ levels) = level ∷ all_but_last (next ∷ leve
 abbrev pub wanted_levels : ℕ → List ℕ → List (List ℕ)
 wanted_levels rule path = if rule == MISSING_MEMBER then all_but_last (levels_of path) else levels_of path
 
--- The expected value at a path where a rule of a document is broken, or `None` if the document has no such path.
+-- The expected value at a path where a rule of a document is broken, or the expected value of the object if a member
+-- of it is missing. It is `None` if the document has no such path.
 abbrev pub wanted_at : DocumentKind → ℕ → List ℕ → Option Wanted
 wanted_at kind rule path = wanted_along (wanted_levels rule path) (wanted.Object (root_of kind))
 
--- The member whose name is a level, or else the element whose index is the level, or `None` if there is neither.
+-- The member of `d` whose name is `level`, or else the element of `d` whose index is `level`, or `None` if there is
+-- neither.
 abbrev pub child : List ℕ → Data → Option Data
 child level d = option_or (get level d) (option_and_then (λ (i : ℕ). at i d) (spelled_number INDEX_END level))
 
--- The value at the end of some levels that start at a value, or `None` if there is none.
+-- The value that is reached from the value `d` along the levels, or `None` if there is none.
 abbrev pub value_along : List (List ℕ) → Data → Option Data
 value_along [] d = Some d
 value_along (level ∷ levels) d = option_and_then (value_along levels) (child level d)

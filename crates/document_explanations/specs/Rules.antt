@@ -1,4 +1,4 @@
--- The rules of specifications and scripts, in words.
+-- The rules of specifications and scripts, each with the text that is shown if the rule is broken.
 use Rattle.std.specs.Prelude.{ℕ, ◌==◌, Bool, true, false, List, [], ◌∷◌, ◌++◌, Option, Some, None, codes, decimal, if◌then◌else◌}
 use Rattle.std.specs.Option.{option_map_or, option_or}
 use Rattle.scram_types.specs.declared.limits.TheConstants.{MAX_SCRIPT_BYTES, MAX_SPECIFICATION_BYTES}
@@ -30,11 +30,11 @@ pub record DocumentRule : Type 0 where
 abbrev pub rule_read : TableRule → DocumentRule
 rule_read r = record { number = r.number; text = r.text.now; limit = r.limit; shows = r.shows }
 
--- A rule without a limit.
+-- A rule with this number and this text, without a limit. `shows` are the parts of its explanation.
 abbrev pub says : ℕ → List ℕ → Shows → DocumentRule
 says number text shows = record { number = number; text = text; limit = None; shows = shows }
 
--- The rule that a document is not longer than a limit.
+-- The rule with this number, that a document has at most `limit` bytes.
 abbrev pub has_limit : ℕ → ℕ → DocumentRule
 has_limit number limit = record { number = number; text = codes "more than"; limit = Some limit; shows = Nothing }
 
@@ -94,7 +94,7 @@ broken_rule kind number = option_or (rule_in common_rules number) (rule_in (own_
 abbrev pub limit_text : ℕ → List ℕ
 limit_text limit = codes " " ++ decimal limit ++ codes " bytes"
 
--- The words of a rule, including its limit if there is one.
+-- The text of a rule, followed by its limit if there is one.
 abbrev pub rule_words : DocumentRule → List ℕ
 rule_words rule = rule.text ++ option_map_or limit_text rule.limit []
 

@@ -1,4 +1,4 @@
--- The answer to the file of a script, in which a broken rule is explained.
+-- The answer to a script's file. If the file breaks a rule, the answer explains the rule.
 use Rattle.std.specs.Prelude.{◌≡◌, ℕ, List, [], ◌++◌, None, Some}
 use Rattle.scram_types.specs.declared.limits.TheConstants.{MAX_SCRIPT_BYTES}
 use Rattle.scram_types.specs.Scripts.{ScriptParts}
@@ -12,7 +12,7 @@ use Rattle.flight_forms.specs.Lines.{script_line}
 use Rattle.document_explanations.specs.Explanations.{explanation}
 use Rattle.document_explanations.specs.declared.rules.DocumentKind.TheVariants.{Script}
 
--- The lines that follow the first line if the bytes break a rule of scripts for a specification.
+-- The lines that follow the first line of the refusal of bytes that break a rule of scripts for a specification.
 abbrev pub script_explanation : Parts → DocFault → List ℕ → List ℕ
 script_explanation spec fault bytes = explanation Script (Some spec) fault.rule fault.path (document bytes)
 
@@ -30,8 +30,8 @@ pub record BreaksExplainedScript (spec : Parts) (refusal : ℕ × List ℕ) (byt
 abbrev pub long_explained_script : ℕ × List ℕ
 long_explained_script = (long_script.0, long_script.1 ++ explanation Script None rule.TOO_LONG [] None)
 
--- The answer to the name of a script's file, given `Then`, which gives the answer to the script in the file. A broken
--- rule is explained.
+-- The answer if `name` is the name of a script's file: the answer `Then` to the script in the file, or the refusal of
+-- a file that was not read, is too long or breaks a rule. A broken rule is explained.
 abbrev pub AsksExplainedScript : Parts → List ℕ → (ScriptParts → Answer) → Answer
 AsksExplainedScript spec name Then =
     AnswersFile MAX_SCRIPT_BYTES long_explained_script name (AnswersDocument (SaysScript spec) (BreaksExplainedScript spec) Then)

@@ -1,4 +1,4 @@
--- The answer to the file of a specification, in which a broken rule is explained.
+-- The answer to a specification's file. If the file breaks a rule, the answer explains the rule.
 use Rattle.std.specs.Prelude.{◌≡◌, ℕ, List, [], ◌++◌, None}
 use Rattle.scram_types.specs.declared.limits.TheConstants.{MAX_SPECIFICATION_BYTES}
 use Rattle.scram_types.specs.Specification.{Parts}
@@ -12,7 +12,7 @@ use Rattle.form_base.specs.Specifications.{BreaksSpecification, SaysSpecificatio
 use Rattle.document_explanations.specs.Explanations.{explanation}
 use Rattle.document_explanations.specs.declared.rules.DocumentKind.TheVariants.{Specification}
 
--- The lines that follow the first line if the bytes break a rule of specifications.
+-- The lines that follow the first line of the refusal of bytes that break a rule of specifications.
 abbrev pub specification_explanation : DocFault → List ℕ → List ℕ
 specification_explanation fault bytes = explanation Specification None fault.rule fault.path (document bytes)
 
@@ -31,8 +31,8 @@ pub record BreaksExplainedSpecification (refusal : ℕ × List ℕ) (bytes : Lis
 abbrev pub long_explained_specification : ℕ × List ℕ
 long_explained_specification = (long_specification.0, long_specification.1 ++ explanation Specification None rule.TOO_LONG [] None)
 
--- The answer to the name of a specification's file, given `Then`, which gives the answer to the specification in the
--- file. A broken rule is explained.
+-- The answer if `name` is the name of a specification's file: the answer `Then` to the specification in the file, or
+-- the refusal of a file that was not read, is too long or breaks a rule. A broken rule is explained.
 abbrev pub AsksExplainedSpecification : List ℕ → (Parts → Answer) → Answer
 AsksExplainedSpecification name Then =
     AnswersFile MAX_SPECIFICATION_BYTES long_explained_specification name (AnswersDocument SaysSpecification BreaksExplainedSpecification Then)

@@ -1,14 +1,14 @@
--- Values in the form in which they are shown.
+-- The texts that explanations show for JSON values.
 use Rattle.std.specs.Prelude.{ℕ, List, codes, if◌then◌else◌}
 use Rattle.serde_json.specs.Data.{Data, Items, Members, Num, array, boolean, item, member, no_items, no_members, null, number, object, string}
 use Rattle.serde_json.specs.Find.{is_float}
 use Rattle.serde_json.specs.Written.{compact_text}
 
--- A number, or a text in place of a number that is read as a float.
+-- The number `n` as a value, or the text `a float` in its place if `n` is read as a float.
 abbrev pub unless_float : Num → Data
 unless_float n = if is_float n then string (codes "a float") else number n
 
--- A value in which each number that is read as a float is replaced by a text.
+-- A value in which each number that is read as a float is replaced by the text `a float`.
 abbrev mutual
   pub without_floats : Data → Data
   without_floats null = null
@@ -26,6 +26,7 @@ abbrev mutual
   members_without_floats no_members = no_members
   members_without_floats (member k d ms) = member k (without_floats d) (members_without_floats ms)
 
--- The text of a value in the form in which it is shown, without spaces.
+-- The JSON text of a value without spaces, in which each number that is read as a float is replaced by the text `a
+-- float`.
 abbrev pub value_text : Data → List ℕ
 value_text d = compact_text (without_floats d)

@@ -1,4 +1,4 @@
--- Expected values in words.
+-- The texts that describe expected values.
 use Rattle.std.specs.Prelude.{ℕ, ◌+◌, List, [], ◌∷◌, ◌++◌, Option, Some, None, codes, decimal, map}
 use Rattle.std.specs.Fmt.{signed_decimal}
 use Rattle.std.specs.Option.{option_map_or}
@@ -22,7 +22,7 @@ use Rattle.document_explanations.specs.declared.objects.Wanted.{Wanted}
 use Rattle.document_explanations.specs.declared.objects.Wanted.TheVariants as wanted
 use Rattle.spec_members.specs.Names.{name_of_proc}
 
--- The texts that follow the first, each preceded by a comma and a space.
+-- The texts, each preceded by a comma and a space.
 abbrev pub further_listed : List (List ℕ) → List ℕ
 further_listed [] = []
 further_listed (text ∷ texts) = codes ", " ++ text ++ further_listed texts
@@ -32,14 +32,14 @@ abbrev pub listed : List (List ℕ) → List ℕ
 listed [] = []
 listed (text ∷ texts) = text ++ further_listed texts
 
--- The versions that have a member, in words, or the empty text if all versions have it.
+-- The text that states which versions have a member, preceded by a space, or the empty text if all versions have it.
 abbrev pub versions_text : Versions → List ℕ
 versions_text versions.All = []
 versions_text versions.SecondOn = codes " where scram is 2 or 3"
 versions_text versions.Third = codes " where scram is 3"
 versions_text versions.Second = codes " where scram is 2"
 
--- The name of a member, and in words the versions that have it.
+-- The name of a member, followed by the text that states which versions have it.
 abbrev pub member_wanted : Member → List ℕ
 member_wanted member = member.name ++ versions_text member.versions
 
@@ -53,7 +53,7 @@ abbrev pub spaced : List (Option (List ℕ)) → List ℕ
 spaced [] = []
 spaced (name ∷ names) = name_spaced name ++ spaced names
 
--- The names of the variables that are used, each preceded by a space.
+-- The names of these variables, each preceded by a space. A variable without a name is left out.
 abbrev pub variables_spaced : List Variable → List ℕ
 variables_spaced variables = spaced (map (λ (variable : Variable). variable.name) variables)
 
@@ -78,7 +78,7 @@ names_spaced (name ∷ names) = codes " " ++ name ++ names_spaced names
 abbrev pub factor_and_values : Factor → List ℕ
 factor_and_values factor = factor.name ++ codes ":" ++ names_spaced factor.values
 
--- The names of the factors and of their values, or `-` if there are no factors.
+-- The names of the factors, each followed by the names of its values, or `-` if there are no factors.
 abbrev pub factors_and_values : List Factor → List ℕ
 factors_and_values [] = codes "-"
 factors_and_values (factor ∷ factors) = listed (map factor_and_values (factor ∷ factors))
@@ -91,17 +91,17 @@ script_factors spec = option_map_or (λ (spec : Parts). spec.factors) spec []
 abbrev pub script_procs : Option Parts → List Proc
 script_procs spec = option_map_or (λ (spec : Parts). spec.procs) spec []
 
--- The step of a frame that follows the mark, or 0 if there is no specification.
+-- The number of the step that follows the mark in a frame, or 0 if there is no specification.
 abbrev pub step_after_mark : Option Parts → ℕ
 step_after_mark spec = option_map_or (λ (spec : Parts). words spec + 1) spec 0
 
--- The expected number of elements of a list, in words.
+-- The text that describes the expected number of elements of a list.
 abbrev pub length_wanted : Length → List ℕ
 length_wanted (extent.Within least most) = decimal least ++ codes " to " ++ decimal most ++ codes " elements"
 length_wanted extent.Halts =
     codes "0 to " ++ decimal (halts_limit First) ++ codes " elements, 0 to " ++ decimal (halts_limit Second) ++ codes " where scram is 2"
 
--- The expected number, in words. `spec` is the specification that a script is for.
+-- The text that describes an expected number. `spec` is the specification that a script is for.
 abbrev pub number_text : Option Parts → Number → List ℕ
 number_text spec number.SpecificationVersion = codes "1, 2 or 3"
 number_text spec number.ScriptVersion = codes "1 or 2"
@@ -110,7 +110,7 @@ number_text spec (number.Signed least greatest) = signed_decimal least ++ codes 
 number_text spec (number.Frame least) = decimal least ++ codes " to frames - 1"
 number_text spec number.Step = codes "0 to " ++ decimal (step_after_mark spec)
 
--- The expected text, in words. `spec` is the specification that a script is for.
+-- The text that describes an expected text. `spec` is the specification that a script is for.
 abbrev pub text_text : Option Parts → Text → List ℕ
 text_text spec text.Name = codes "a name, 1 to 16 of a-z 0-9 _, a letter first"
 text_text spec text.Processor = codes "the name of a processor"
@@ -126,7 +126,7 @@ text_text spec text.Policy = codes "retarget or settle"
 text_text spec text.ScriptFactor = factors_and_values (script_factors spec)
 text_text spec text.ScriptProcessor = listed (map name_of_proc (script_procs spec))
 
--- The expected value, in words. `spec` is the specification that a script is for.
+-- The text that describes an expected value. `spec` is the specification that a script is for.
 abbrev pub wanted_text : Option Parts → Wanted → List ℕ
 wanted_text spec (wanted.Object object) = listed (map member_wanted (members_of object))
 wanted_text spec (wanted.List length element) = length_wanted length

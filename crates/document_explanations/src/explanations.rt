@@ -1,4 +1,4 @@
-//! The lines that follow the first line of the refusal of a document that breaks a rule.
+//! The explanation in the refusal of a document that breaks a rule: the lines that follow the refusal's first line.
 
 ghost use Rattle.std.specs.Prelude.{◌≡◌, ◌++◌, IfOk, OnOk, codes, option_map, string_bytes};
 ghost use Rattle.serde_json.specs.View.{view};
@@ -27,7 +27,7 @@ pub struct BrokenDocument<'a> {
     pub bytes: &'a [u8],
 }
 
-/// Appends the lines that follow the first line if a document breaks the rule with this number.
+/// Appends the lines that follow the first line of the refusal of a document that breaks the rule with this number.
 ///
 /// # Errors
 ///

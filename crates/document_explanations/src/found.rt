@@ -38,7 +38,7 @@ fn is_version_of(document: &Value, versions: Versions) -> bool
     }
 }
 
-// Returns `true` if the table of an object of a document has a member with this name.
+// Returns `true` if the table of `object` has a member with this name for the version of the document.
 fn is_known(document: &Value, object: Object, name: &str) -> bool
     ensures { result ≡ is_known (view document.now) object name.now }
 {
@@ -65,7 +65,8 @@ fn add_name(alloc: Global, lines: &mut Lines, is_later: bool, name: &String) -> 
     lines.push(text.as_str())
 }
 
-// Returns the names of the members that are not in the table of their object, as JSON texts.
+// Returns the names of those members that the table of their object does not have for the version of the document, as
+// JSON texts separated by a comma and a space.
 #[tactic(auto, using(crate::proofs::Listing::nothing_left, crate::proofs::Listing::one_more))]
 fn further_text(
     alloc: Global,

@@ -1,4 +1,5 @@
-//! Explanations of broken rules. An explanation has the rule in words, the expected value and the value that was found.
+//! Explanations of broken rules. An explanation consists of the text of the rule, the expected value and the value
+//! that was found.
 #![tactic(auto)]
 
 pub mod explanations;

@@ -1,4 +1,4 @@
-//! Lists of items in words: members, kinds, factors and processors.
+//! The texts of lists of items: members, kinds, factors and processors.
 
 ghost use Rattle.std.specs.Prelude.{◌≡◌, ◌++◌, OnOk, map, option_map};
 ghost use Rattle.app_model.specs.Kinds.{kind_read, kinds, variable_read};

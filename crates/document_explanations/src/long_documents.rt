@@ -9,7 +9,8 @@ use form_base::lines::add_rule;
 use scram_doc::Path;
 use trace_text::lines::Line;
 
-/// Returns the lines for a document with more bytes than its limit: `first`, the broken rule, and the rule in words.
+/// Returns the lines for a document with more bytes than its limit: a line with `first` and the number of the broken
+/// rule, and a line with the rule's text.
 pub fn make_long_lines(first: &[u8], rule: u8, limit: u32) -> Line
     requires { length first.now ≤ 22 }
     ensures { result ≡ first.now ++ rule_text rule [] ++ codes "\n" ++ rule_line (has_limit rule limit) }

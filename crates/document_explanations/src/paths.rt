@@ -25,7 +25,7 @@ fn after_dot(path: &Path) -> &str
     }
 }
 
-// Returns the first level and the text after it, or `None` if there is only one level.
+// Returns the first level and the text after the dot that ends it, or `None` if there is only one level.
 fn split_level(levels: &str) -> Option<(&str, &str)>
     ensures pieces { MatchOption result (pieces_of 46 levels.now ≡ levels.now ∷ [])
         (λ parts. pieces_of 46 levels.now ≡ parts.0.now ∷ pieces_of 46 parts.1.now) }
@@ -57,7 +57,8 @@ fn wanted_element(element: Element) -> Wanted
     }
 }
 
-// Returns the expected value above the last level, and the last level, or `None` if there are no such levels.
+// Returns the expected value that is reached from `start` along all levels but the last, and the last level, or
+// `None` if there are no such levels.
 fn descend(start: Wanted, levels: &str) -> Option<(Wanted, &str)>
     ensures whole { wanted_along (pieces_of 46 levels.now) start ≡ option_and_then (λ end. wanted_below end.0 end.1.now) result }
     ensures above { wanted_along (all_but_last (pieces_of 46 levels.now)) start ≡ option_map (λ end. end.0) result }

@@ -1,4 +1,4 @@
-//! The table of the rules of specifications and scripts, in words.
+//! The table of the rules of specifications and scripts, each with the text that is shown if the rule is broken.
 
 ghost use Rattle.std.specs.Prelude.{◌≡◌, ◌++◌, OnOk, map, option_map};
 ghost use Rattle.document_explanations.specs.Rules.{broken_rule, common_rules, limit_text, own_rules, root_of, rule_in, rule_read, rule_words, shows_found, shows_wanted};
@@ -221,7 +221,7 @@ pub fn broken_rule(kind: DocumentKind, number: u8) -> Option<DocumentRule>
     }
 }
 
-/// Appends the words of a rule, including its limit if there is one.
+/// Appends the text of a rule, followed by its limit if there is one.
 ///
 /// # Errors
 ///

@@ -1,4 +1,4 @@
-//! Values in the form in which they are shown.
+//! The texts that explanations show for JSON values.
 
 ghost use Rattle.std.specs.Prelude.{◌≡◌, IfOk, string_bytes};
 ghost use Rattle.serde_json.specs.View.{items_view, members_view, number_view, view};
@@ -8,7 +8,7 @@ use scram_types::NoMemory;
 use serde_json::{Map, Number, Value};
 use std::alloc::Global;
 
-// Returns a copy of a value in which each number that is read as a float is replaced by a text.
+// Returns a copy of a value in which each number that is read as a float is replaced by the text `a float`.
 #[cycle(without_floats)]
 fn without_floats(alloc: Global, value: &Value) -> Result<Value, NoMemory>
     ensures { IfOk result (λ v. view v ≡ without_floats (view value.now)) }
@@ -59,8 +59,8 @@ fn members_without_floats(
     Ok(copies)
 }
 
-/// Returns the text of a value without spaces, in which each number that is read as a float is replaced by the text `"a
-/// float"`.
+/// Returns the JSON text of a value without spaces, in which each number that is read as a float is replaced by the
+/// text `a float`.
 ///
 /// # Errors
 ///

@@ -1,4 +1,4 @@
-//! Expected values in words.
+//! The texts that describe expected values.
 
 ghost use Rattle.std.specs.Prelude.{◌≡◌, ◌++◌, OnOk, map, option_map};
 ghost use Rattle.document_explanations.specs.Wants.{factors_and_values, script_factors, script_procs, step_after_mark, length_wanted, number_text, text_text, wanted_text};
@@ -12,7 +12,7 @@ use app_model::table::Kind;
 use scram_types::limits::MAX_PROCESSORS;
 use scram_types::{Factor, NoMemory, Proc, Spec};
 
-/// Appends the expected value, in words. `spec` is the specification that a script is for.
+/// Appends the text that describes an expected value. `spec` is the specification that a script is for.
 ///
 /// # Errors
 ///

@@ -14,19 +14,19 @@ use Rattle.form_base.specs.Assurance.{OfDocument, OfSpecification}
 use Rattle.explain_form.specs.declared.explanations.Explanation.{Explanation}
 use Rattle.explain_form.specs.Texts.{accepted_text, explain_answer, script_answer}
 
--- The answer to a specification that has been read.
+-- The answer of `explain` after a specification has been read.
 abbrev pub SpecificationAnswers : Parts → Answer
 SpecificationAnswers spec = WithoutFiles (Gives (explain_answer spec (first_refusal spec)))
 
--- The answer to a specification and a script for it that have been read.
+-- The answer of `explain` after a specification and a script for it have been read.
 abbrev pub MissionAnswers : Parts → ScriptParts → Answer
 MissionAnswers spec script = WithoutFiles (Gives (script_answer spec script (first_refusal spec)))
 
--- The answer of `explain` to the name of a specification's file.
+-- The answer of `explain`, given the name of a specification's file.
 abbrev pub ExplainAnswers : List ℕ → Answer
 ExplainAnswers specification = AsksExplainedSpecification specification SpecificationAnswers
 
--- The answer of `explain` to the names of the files of a specification and a script.
+-- The answer of `explain`, given the names of the files of a specification and a script.
 abbrev pub ExplainScriptAnswers : List ℕ → List ℕ → Answer
 ExplainScriptAnswers specification script =
     AsksExplainedSpecification specification (λ (spec : Parts). AsksExplainedScript spec script (MissionAnswers spec))

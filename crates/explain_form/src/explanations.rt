@@ -53,7 +53,7 @@ pub(crate) fn make_unassumed(
     join(alloc, &make_outside_line(outside), &why)
 }
 
-// Returns a line followed by the further lines.
+// Returns the text of `line`, followed by the lines in `further`.
 fn join(alloc: Global, line: &Line, further: &[u8]) -> Result<Vec<u8>, NoMemory>
     ensures { IfOk result (λ text. text.items ≡ line.now ++ further.now) }
 {

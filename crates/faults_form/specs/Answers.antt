@@ -14,23 +14,23 @@ use Rattle.faults_form.specs.declared.forms.Family.{Family}
 use Rattle.faults_form.specs.Counts.{number}
 use Rattle.faults_form.specs.Families.{family_text}
 
--- The status and the text with which `faults` answers. If the specification has a first refusal, the text is the line
--- of this refusal.
+-- The status and the text with which `faults` answers. If `shown` is a refusal of the specification, the text is the
+-- line of the refusal. If it is `None`, the text consists of the lines of the scripts with `count` faults.
 abbrev pub faults_answer : Parts → FaultCount → Option Shown → ℕ × List ℕ
 faults_answer spec count (Some shown) = (NOT_ACCEPTED, shown_line spec shown)
 faults_answer spec count None = (ANSWERED, family_text spec (number count))
 
--- The status is that of an answer, and the text is the lines of the family.
+-- The status is 0, and the text consists of the lines of the family.
 abbrev pub GivesFamily : Family → ℕ → List ℕ → Type 0
 GivesFamily asked = Gives (ANSWERED, family_text asked.spec (number asked.count))
 
--- The answer of `faults` to the name of a specification's file and a number of faults.
+-- The answer of `faults`, given the name of a specification's file and a number of faults.
 abbrev pub FaultsAnswers : List ℕ → FaultCount → Answer
 FaultsAnswers specification count =
     AsksSpecification specification (λ (spec : Parts). WithoutFiles (Gives (faults_answer spec count (first_refusal spec))))
 
--- If `faults` ends with status 0, it has read no other file, the specification is accepted, and the text is the lines
--- of its family.
+-- If `faults` ends with status 0, it has read only the file of the specification, the specification is accepted, and
+-- the text consists of the lines of its scripts with `count` faults.
 abbrev pub AssuresFaults : List ℕ → FaultCount → History → List ℕ → Type 0
 AssuresFaults specification count =
     OfSpecification specification (λ (spec : Parts) (reads : History) (text : List ℕ).

@@ -28,7 +28,7 @@ unfoldable pub spelled_restart : Parts → RestartAt → List ℕ
 spelled_restart spec restart =
     codes "{\"frame\":" ++ (decimal restart.frame ++ (codes ",\"processor\":\"" ++ (proc_name spec restart.proc.0 ++ codes "\"}")))
 
--- The remaining items of a list and its closing bracket. The first item is preceded by a comma if the flag is `true`.
+-- The remaining items of a list and its closing bracket. The first item is preceded by a comma if `later` is `true`.
 abbrev pub listed_text : Bool → List (List ℕ) → List ℕ
 listed_text later [] = codes "]"
 listed_text later (text ∷ texts) = comma_if later ++ (text ++ listed_text true texts)

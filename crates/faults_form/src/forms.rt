@@ -1,4 +1,5 @@
-//! The form `faults`, which prints the family of fault scripts of a specification.
+//! The form `faults`, which prints the family of fault scripts of a specification: the scripts with a given number of
+//! faults that keep to its failure assumption.
 
 ghost use Rattle.std.specs.Prelude.{◌≡◌, ◌+◌, ◌*◌, ◌≤◌, ◌∷◌, [], length};
 ghost use Rattle.coverage_check.specs.Acceptance.{first_refusal};
@@ -63,7 +64,7 @@ pub fn faults<F: Files, K: Sink>(
     }
 }
 
-/// Reads the specification, and returns its family, or the refusal if it is not accepted.
+/// Reads the specification, and returns its family, or the refusal if it cannot be read or is not accepted.
 fn read_family<F: Files>(
     alloc: Global,
     question: FaultsQuestion<'_>,

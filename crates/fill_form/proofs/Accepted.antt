@@ -37,7 +37,7 @@ same_all : (one two : ℕ → Bool) (n : ℕ) → ((k : ℕ) → one k ≡ two k
 same_all one two zero same = refl
 same_all one two (suc n) same = rw (same_all one two n same, same n) refl
 
--- Lemmas on A9.
+-- Lemmas that the filled-in specification satisfies A9: each required bound is given and sufficient.
 
 first_serves : (b : Bool) (frames needed : ℕ) (o : Option ℕ) → (b ≡ true → needed ≤ frames) → (is_some o ≡ true → option_map_or (λ (t : ℕ). nat_le needed t) o false ≡ true)
     → is_some (if b then Some frames else o) ≡ true → option_map_or (λ (t : ℕ). nat_le needed t) (if b then Some frames else o) false ≡ true
@@ -84,7 +84,7 @@ module _ (spec : Parts) where
       (both_false (is_bound_asked spec (conf_id i) j) (not (is_bounded (filled spec) (conf_id i) (conf_id j)))
       (λ asked. ap not (first_for (filled_bounds spec) (conf_id i) (conf_id j) asked filled_serves (filled_gives i j left right asked))))))
 
-  -- Lemmas on A10.
+  -- Lemmas that the filled-in specification satisfies A10: the window is longer than the greatest bound.
 
   wide_enough : (window needed : ℕ) → nat_lt (max window needed) needed ≡ false
   wide_enough window needed = not_below_test (max window needed) needed (omega arith)

@@ -119,7 +119,7 @@ new_of_apart (x ∷ xs) apart (suc i) y there =
     let other = turned x y (each_of_all (λ (z : Bound). is_for x.from.0 x.to.0 z ≡ false) xs (all_of_none xs x.from.0 x.to.0 apart.0) i y there) in
     gives_cons x (take i xs) y.from.0 y.to.0 ∙ rw (other, new_of_apart xs apart.1 i y there) refl
 
--- Lemmas on the number of bounds.
+-- Lemmas that bounds for different pairs of configurations are at most 144.
 
 -- Both configurations of the bound have indices below 12.
 abbrev pub IsNear : Bound → Type 0

@@ -30,7 +30,7 @@ some_sum a b c d = omega arith
 pub least_some : (spec : Parts) (i j : ConfId) → 1 ≤ least spec i j
 least_some spec i j = some_sum _ _ _ _
 
--- Lemmas on bounds after they are raised.
+-- Lemmas that raised bounds are for the same pairs of configurations as before.
 
 pub all_raised : (spec : Parts) (P Q : Bound → Type 0) (xs : List Bound) → ((x : Bound) → P x → Q (raised spec x)) → AllByRecursion P xs → AllByRecursion Q (map (raised spec) xs)
 all_raised spec P Q [] turn all = tt

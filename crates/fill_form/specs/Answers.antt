@@ -11,7 +11,8 @@ use Rattle.form_base.specs.Specifications.{AsksSpecification}
 use Rattle.fill_form.specs.Filling.{filled_text}
 use Rattle.fill_form.specs.Refusing.{fill_refusal}
 
--- The answer to `fill`. If the specification is not filled in, `shown` is the reason.
+-- The answer to `fill` about a specification. `shown` is the reason why the specification is not filled in, or `None`
+-- if it is.
 abbrev pub fill_answer : Parts → Option Shown → ℕ × List ℕ
 fill_answer spec (Some shown) = (NOT_ACCEPTED, shown_line spec shown)
 fill_answer spec None = (ANSWERED, filled_text spec)
@@ -24,8 +25,8 @@ GivesText printed = Gives (ANSWERED, printed.items)
 abbrev pub FillAnswers : List ℕ → Answer
 FillAnswers specification = AsksSpecification specification (λ (spec : Parts). WithoutFiles (Gives (fill_answer spec (fill_refusal spec))))
 
--- If `fill` ends with status 0, it has read no other file, and filling in is not refused. The text is that of the
--- filled-in specification.
+-- If `fill` ends with status 0, it has read only the file of the specification, and filling in is not refused. The
+-- text is that of the filled-in specification.
 abbrev pub AssuresFill : List ℕ → History → List ℕ → Type 0
 AssuresFill specification =
     OfSpecification specification (λ (spec : Parts) (reads : History) (text : List ℕ). (reads ≡ []) × (fill_refusal spec ≡ None) × (text ≡ filled_text spec))

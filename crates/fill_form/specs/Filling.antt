@@ -31,11 +31,12 @@ abbrev pub bounds_below : (ℕ → List Bound) → ℕ → List Bound
 bounds_below bounds zero = []
 bounds_below bounds (suc n) = bounds_below bounds n ++ bounds n
 
--- The smallest sufficient bounds from `i` that are required and not given, by target.
+-- The smallest sufficient bounds from `i` that are required and not given, in the order of their targets.
 abbrev pub missing_from : Parts → ℕ → List Bound
 missing_from spec i = bounds_below (missing_bound spec i) (length spec.confs)
 
--- The smallest sufficient bounds that are required and not given, by source and then by target.
+-- The smallest sufficient bounds that are required and not given, in the order of their sources. Those with the same
+-- source are in the order of their targets.
 abbrev pub missing_bounds : Parts → List Bound
 missing_bounds spec = bounds_below (missing_from spec) (length spec.confs)
 
@@ -43,7 +44,7 @@ missing_bounds spec = bounds_below (missing_from spec) (length spec.confs)
 abbrev pub filled_bounds : Parts → List Bound
 filled_bounds spec = map (raised spec) spec.bounds ++ missing_bounds spec
 
--- The given window, or one frame more than the greatest filled-in bound if that is longer.
+-- The longer of the given window and a window of one frame more than the greatest filled-in bound.
 abbrev pub filled_window : Parts → ℕ
 filled_window spec = max spec.window (greatest_bound (filled_bounds spec) + 1)
 

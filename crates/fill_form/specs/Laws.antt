@@ -13,7 +13,8 @@ pub record IsFilledIn (spec : Parts) : Type 0 where
   pub writable : IsWritable (filled spec)
   pub accepted : Accepts (filled spec)
 
--- If a specification breaks at most A9 and A10 and filling in is not refused, the filled-in specification is accepted.
+-- If a specification breaks no condition of acceptance other than A9 and A10, and filling in is not refused, the
+-- filled-in specification is accepted.
 abbrev pub FilledIsAccepted : Type 0
 FilledIsAccepted = (spec : Parts) → IsSpec spec → IsWritable spec
     → form_refusal spec ≡ None → choice_refusal spec ≡ None → range_refusal spec ≡ None → demand_refusal spec ≡ None

@@ -28,8 +28,8 @@ long_refusal_of spec i =
 abbrev pub long_refusal : Parts → Option Shown
 long_refusal spec = first_below (long_refusal_of spec) (length spec.confs)
 
--- The refusal of A10 if the window for the greatest bound would be above the maximum length of a window, or `None`
--- otherwise.
+-- The refusal of A10 if the window for a greatest bound of `greatest` frames would be above the maximum length of a
+-- window, or `None` otherwise.
 abbrev pub wide_refusal : ℕ → Option Shown
 wide_refusal greatest = shown_if (nat_lt MAX_WINDOW (greatest + 1)) (shown_nowhere 10 (other.Count greatest))
 

@@ -22,8 +22,8 @@ pub struct Filling {
     pub refusal: Option<Shown>,
 }
 
-/// Returns sufficient bounds of a specification. They are the given bounds, each raised as far as required, followed by
-/// the missing bounds, by source and then by target.
+/// Returns sufficient bounds of a specification. They are the given bounds, each raised as far as required, followed
+/// by the missing bounds in the order of their sources and then of their targets.
 ///
 /// # Errors
 ///
@@ -82,8 +82,8 @@ fn raise_bounds(alloc: Global, spec: &Spec, sets: &[u16; 12]) -> Result<Vec<Boun
     Ok(bounds)
 }
 
-// Returns a given bound, raised to the smallest sufficient length if it is required and shorter. The set of targets for
-// which a bound from its source is required is `set`.
+// Returns a given bound, raised to the smallest sufficient length if it is required and shorter. `set` holds the
+// configurations to which a bound from its source is required.
 fn raised(spec: &Spec, set: u16, bound: &Bound) -> Bound
     requires set { set ≡ asked_bounds spec.now bound.now.from }
     requires to { bound.now.to.0 < length spec.now.confs }

@@ -22,29 +22,30 @@ use Rattle.flight_forms.specs.Missions.{UnlessRefused, mission_refusal}
 use Rattle.flight_forms.specs.Texts.{flight_text, watch_text}
 use Rattle.bank_words.specs.declared.events.Event.{Event}
 
--- The status is that of an answer, and the text is the mission's text.
+-- The status is 0, and the text is the one that `text` gives for the mission.
 abbrev pub GivesFlight : (MissionParts → List ℕ) → MissionParts → ℕ → List ℕ → Type 0
 GivesFlight text mission = Gives (ANSWERED, text mission)
 
--- The answer after a specification and a script have been read, given `text`, which is the text of their mission.
+-- The answer after a specification and a script have been read: the text that `text` gives for their mission, or the
+-- refusal if they do not form a mission.
 abbrev pub ScriptAnswers : (MissionParts → List ℕ) → Parts → ScriptParts → Answer
 ScriptAnswers text spec script = WithoutFiles (UnlessRefused (mission_refusal spec script) (GivesFlight text (mission_of spec script)))
 
--- The answer to the names of the files of a specification and a script, given `text`, which is the text of their
--- mission.
+-- The answer if `specification` and `script` are the names of the files of a mission: the text that `text` gives for
+-- the mission, or a report of why the files do not hold one.
 abbrev pub FlightAnswers : (MissionParts → List ℕ) → List ℕ → List ℕ → Answer
 FlightAnswers text specification script = AsksSpecification specification (λ (spec : Parts). AsksScript spec script (ScriptAnswers text spec))
 
--- The answer of `run` to the names of the files of a specification and a script.
+-- The answer of `run`, given the names of the files of a specification and a script.
 abbrev pub RunAnswers : List ℕ → List ℕ → Answer
 RunAnswers = FlightAnswers (flight_text Trace)
 
--- The answer of `pair` to the names of the files of a specification and a script. It is the answer of `run`, and does
--- not depend on the halt of a unit.
+-- The answer of `pair`, given the names of the files of a specification and a script. It is the answer of `run`, and
+-- does not depend on the halt of a unit.
 abbrev pub PairAnswers : List ℕ → List ℕ → Answer
 PairAnswers = RunAnswers
 
--- The answer of `watch` to the names of the files of a specification and a script.
+-- The answer of `watch`, given the names of the files of a specification and a script.
 abbrev pub WatchAnswers : List ℕ → List ℕ → Answer
 WatchAnswers = FlightAnswers watch_text
 
@@ -67,7 +68,8 @@ pub record IsReplayAnswer (spec : Parts) (script : ScriptParts) (list : List Eve
   pub had_memory : flown ≢ Err replay_error.NoMemory
   pub gives : Gives (replay_answer spec script flown) status text
 
--- The answer of `replay` after all files have been read.
+-- The answer of `replay` after all files have been read: the answer of a replay by `list`, or the refusal if the
+-- specification and the script do not form a mission.
 abbrev pub ListAnswers : Parts → ScriptParts → List Event → Answer
 ListAnswers spec script list = WithoutFiles (UnlessRefused (mission_refusal spec script) (IsReplayAnswer spec script list))
 
@@ -75,7 +77,7 @@ ListAnswers spec script list = WithoutFiles (UnlessRefused (mission_refusal spec
 abbrev pub ScheduleAnswers : List ℕ → Parts → ScriptParts → Answer
 ScheduleAnswers schedule spec script = AsksSchedule spec schedule (ListAnswers spec script)
 
--- The answer of `replay` to the names of the files of a specification, a script and a schedule.
+-- The answer of `replay`, given the names of the files of a specification, a script and a schedule.
 abbrev pub ReplayAnswers : List ℕ → List ℕ → List ℕ → Answer
 ReplayAnswers specification script schedule =
     AsksSpecification specification (λ (spec : Parts). AsksScript spec script (ScheduleAnswers schedule spec))
@@ -86,7 +88,8 @@ pub record IsGenerated (number : ℕ) (spec : Parts) : Type 0 where
   pub sound : IsSpec spec
   pub fits : Fits spec (generated_script number)
 
--- The answer of `gen` to a number.
+-- The status and the text are the answer of `gen` to `number`. The status is 0, and the text has the specification
+-- and the script of the mission generated from `number`.
 pub record GenAnswers (number : ℕ) (status : ℕ) (text : List ℕ) : Type 0 where
   pub spec : Parts
   pub generated : IsGenerated number spec
@@ -96,7 +99,8 @@ pub record GenAnswers (number : ℕ) (status : ℕ) (text : List ℕ) : Type 0 w
 abbrev pub SummaryAnswers : ℕ → Parts → ScriptParts → ℕ → List ℕ → Type 0
 SummaryAnswers number spec script = UnlessRefused (mission_refusal spec script) (GivesFlight (flight_text (Summary number)) (mission_of spec script))
 
--- The answer of `fly` to a number.
+-- The status and the text are the answer of `fly` to `number`, which is the summary line of the mission generated
+-- from `number`, or a refusal.
 pub record FlyAnswers (number : ℕ) (status : ℕ) (text : List ℕ) : Type 0 where
   pub spec : Parts
   pub generated : IsGenerated number spec

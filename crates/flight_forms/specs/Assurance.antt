@@ -25,23 +25,25 @@ pub record IsAssured (told : MissionParts → List ℕ) (spec : Parts) (script :
   pub whole : text ≡ told (mission_of spec script)
   pub holds : HoldsAll spec (rows_of spec script) (reports_of spec script)
 
--- If a form that prints the text `told` of a mission ends with status 0, the mission of the two files is assured, and
--- no further file was read.
+-- If a form that prints the text `told` of a mission ends with status 0, the mission in the files `specification` and
+-- `script` is assured, and no further file was read.
 abbrev pub AssuresFlight : (MissionParts → List ℕ) → List ℕ → List ℕ → History → List ℕ → Type 0
 AssuresFlight told specification script =
     OfSpecification specification (λ (spec : Parts). OfDocument (SaysScript spec) script (λ (script : ScriptParts) (reads : History) (text : List ℕ).
     (reads ≡ []) × IsAssured told spec script text))
 
--- If `run` ends with status 0, the mission of the two files is assured, and no further file was read.
+-- If `run` ends with status 0, the mission in the files of the specification and the script is assured, and no
+-- further file was read.
 abbrev pub AssuresRun : List ℕ → List ℕ → History → List ℕ → Type 0
 AssuresRun = AssuresFlight (flight_text Trace)
 
--- If `watch` ends with status 0, the mission of the two files is assured, and no further file was read.
+-- If `watch` ends with status 0, the mission in the files of the specification and the script is assured, and no
+-- further file was read.
 abbrev pub AssuresWatch : List ℕ → List ℕ → History → List ℕ → Type 0
 AssuresWatch = AssuresFlight watch_text
 
--- If `replay` ends with status 0, the mission of the first two files is assured, and no further file was read. The
--- third file holds a schedule at whose end the flight is over.
+-- If `replay` ends with status 0, the mission in the files `specification` and `script` is assured, and the file
+-- `schedule` holds a schedule at whose end the flight is over. No further file was read.
 abbrev pub AssuresReplay : List ℕ → List ℕ → List ℕ → History → List ℕ → Type 0
 AssuresReplay specification script schedule =
     OfSpecification specification (λ (spec : Parts). OfDocument (SaysScript spec) script (λ (script : ScriptParts).

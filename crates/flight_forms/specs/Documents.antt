@@ -32,7 +32,8 @@ pub record BreaksScript (spec : Parts) (refusal : ℕ × List ℕ) (bytes : List
 abbrev pub long_script : ℕ × List ℕ
 long_script = (BROKEN_SCRIPT, script_line (record { rule = script_rule.TOO_LONG; path = [] }))
 
--- The answer to the name of a script's file, given the answer to each script that the file may hold.
+-- The answer if `name` is the name of a script's file: the answer `Then` to the script in the file, or a report that
+-- the file was not read, is too long or breaks a rule.
 abbrev pub AsksScript : Parts → List ℕ → (ScriptParts → Answer) → Answer
 AsksScript spec name Then = AnswersFile MAX_SCRIPT_BYTES long_script name (AnswersDocument (SaysScript spec) (BreaksScript spec) Then)
 
@@ -50,6 +51,7 @@ pub record BreaksSchedule (spec : Parts) (refusal : ℕ × List ℕ) (bytes : Li
 abbrev pub long_schedule : ℕ × List ℕ
 long_schedule = (BROKEN_SCHEDULE, fault_line (record { line = 0; rule = schedule_rule.TOO_LONG }))
 
--- The answer to the name of a schedule's file, given the answer to each schedule that the file may hold.
+-- The answer if `name` is the name of a schedule's file: the answer `Then` to the schedule in the file, or a report
+-- that the file was not read, is too long or breaks a rule.
 abbrev pub AsksSchedule : Parts → List ℕ → (List Event → Answer) → Answer
 AsksSchedule spec name Then = AnswersFile MAX_SCHEDULE_BYTES long_schedule name (AnswersDocument (SaysSchedule spec) (BreaksSchedule spec) Then)

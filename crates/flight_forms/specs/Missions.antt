@@ -15,12 +15,14 @@ use Rattle.form_base.specs.Loads.{IsOutOfMemory}
 use Rattle.form_base.specs.Refusals.{answer_of}
 use Rattle.flight_forms.specs.Lines.{outside_line}
 
--- The refusal of a script that leaves the failure assumption, or `None` if the script keeps to it.
+-- The refusal of a script, given the way in which it leaves the failure assumption, or `None` if the script keeps to
+-- it.
 abbrev pub script_refusal : Option Outside → Option (ℕ × List ℕ)
 script_refusal None = None
 script_refusal (Some outside) = Some (UNASSUMED_SCRIPT, outside_line outside)
 
 -- The refusal of a specification and a script for it, given the first refusal of the specification if there is one.
+-- It is `None` if neither is refused.
 abbrev pub refusal_by : Parts → ScriptParts → Option Shown → Option (ℕ × List ℕ)
 refusal_by spec script (Some shown) = Some (NOT_ACCEPTED, shown_line spec shown)
 refusal_by spec script None = script_refusal (first_outside spec script)

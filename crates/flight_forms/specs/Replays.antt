@@ -12,7 +12,7 @@ use Rattle.flight_forms.specs.declared.replays.Replay.{Replay}
 use Rattle.flight_forms.specs.Answers.{IsReplayAnswer}
 use Rattle.flight_forms.specs.Missions.{mission_refusal}
 
--- The status and the text are those of a replay.
+-- The status and the text are those of a replay of the mission by its list of events.
 abbrev pub GivesReplay : Replay → ℕ → List ℕ → Type 0
 GivesReplay replay = IsReplayAnswer replay.mission.spec replay.mission.script replay.list
 

@@ -6,8 +6,8 @@ use Rattle.scram_types.specs.declared.ids.ConfId.{ConfId}
 use Rattle.scram_types.specs.Specification.{Parts}
 use Rattle.frame_model.specs.Runs.{running}
 
--- The number of frames from the start to the end of a finished reconfiguration, or 0 for an unfinished one, which has
--- no target.
+-- The number of frames from the start to the end of a reconfiguration, given its target, or 0 if it has no target,
+-- since it is unfinished.
 abbrev pub duration_to : Option ConfId → Report → ℕ
 duration_to None report = 0
 duration_to (Some to) report = report.end - report.begin
@@ -21,7 +21,7 @@ abbrev pub longest_duration : List Report → ℕ
 longest_duration [] = 0
 longest_duration (report ∷ reports) = max (duration report) (longest_duration reports)
 
--- The first configuration if there is one, and the second otherwise.
+-- The optional configuration if it is not `None`, and `before` otherwise.
 abbrev pub or_before : Option ConfId → ConfId → ConfId
 or_before None before = before
 or_before (Some c) before = c

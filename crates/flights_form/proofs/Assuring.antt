@@ -89,7 +89,7 @@ outcome_assured : ReconfigurationsAreAssured → (spec : Parts) → IsSpec spec 
 outcome_assured law spec sound accepts line facts (inl same) = read_assured law spec sound accepts line facts (script_of spec line) refl same
 outcome_assured law spec sound accepts line facts (inr same) = absurd (let e = same in cc)
 
--- Lemmas on all lines of a file.
+-- Lemmas that an answer with status 0 assures all lines of a file.
 
 accepted_zero : (spec : Parts) (scripts : List ℕ) (shown : Option Shown) (text : List ℕ) → UnlessRefused (acceptance_refusal spec shown) (GivesFlights spec scripts) ANSWERED text
     → (shown ≡ None) × GivesFlights spec scripts ANSWERED text

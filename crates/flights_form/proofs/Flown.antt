@@ -1,4 +1,4 @@
--- Lemmas on flying the lines of a file in order.
+-- Lemmas that the lines of a file are flown in order, and that the lines for their outcomes are printed or cut off.
 use Rattle.std.proofs.Common.{◌≡◌, ◌∙◌, ℕ, ◌+◌, List, [], ◌∷◌, ◌++◌, arith, length, append_assoc, append-nil, refl, sym, ap, map, subst, inl}
 use Rattle.std.specs.Prelude.{Result, Ok, Err}
 use Rattle.form_base.specs.declared.status.TheConstants.{ANSWERED}
@@ -31,7 +31,7 @@ all_come : (spec : Parts) (lines : List (List ℕ)) → AreOutcomes spec lines (
 all_come spec [] = tt
 all_come spec (line ∷ lines) = (inl refl, all_come spec lines)
 
--- The text for concatenated outcomes is the text for the first outcomes, followed by the text for the others.
+-- The text for `outcomes` and `others`, concatenated, is the text for `outcomes`, followed by the text for `others`.
 lines_both : (spec : Parts) (k : ℕ) (outcomes others : List Outcome) → outcome_lines spec k (outcomes ++ others) ≡ outcome_lines spec k outcomes ++ outcome_lines spec (k + length outcomes) others
 lines_both spec k [] others = let same : k ≡ k + 0 = omega arith in ap (λ (n : ℕ). outcome_lines spec n others) same
 lines_both spec k (outcome ∷ outcomes) others =
@@ -40,8 +40,7 @@ lines_both spec k (outcome ∷ outcomes) others =
     (lines_both spec (k + 1) outcomes others ∙ ap (λ (n : ℕ). outcome_lines spec (k + 1) outcomes ++ outcome_lines spec n others) same)
     ∙ sym (append_assoc (outcome_line spec k outcome) (outcome_lines spec (k + 1) outcomes) (outcome_lines spec (k + length (outcome ∷ outcomes)) others))
 
--- The text for all outcomes consists of the text for the first outcomes, the line for the next one, and the text for
--- the others.
+-- The text for all outcomes consists of the text for `outcomes`, the line for `outcome`, and the text for `others`.
 lines_at : (spec : Parts) (outcomes others : List Outcome) (outcome : Outcome) (totals : Totals) → totals ≡ totals_of outcomes
     → outcome_lines spec 0 (outcomes ++ outcome ∷ others) ≡ (outcome_lines spec 0 outcomes ++ outcome_line spec totals.lines outcome) ++ outcome_lines spec (length outcomes + 1) others
 lines_at spec outcomes others outcome totals are =

@@ -1,4 +1,4 @@
--- Lemmas on the longest gap of the applications from application `a` on.
+-- Lemmas that the longest gap of the applications is found if they are searched from the last to the first.
 use Rattle.std.proofs.Common.{◌≡◌, ◌∙◌, ◌<◌, ◌≤◌, ◌+◌, ◌-◌, ℕ, zero, suc, List, [], ◌∷◌, arith, drop, length, refl, sym}
 use Rattle.std.specs.Prelude.{Option}
 use Rattle.scram_types.specs.declared.rows.Row.{Row}

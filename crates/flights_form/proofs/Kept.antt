@@ -20,7 +20,7 @@ use Rattle.flights_form.specs.Assurance.{IsAtLeastIn, IsAtLeastOf, IsAtMostIn, I
 use Rattle.flights_form.specs.Facts.{gap_of_app, greater_gap, greatest_gap, least_margin, lesser_margin, margin_in}
 use Rattle.flights_form.specs.Totals.{gap_in_flight, greater_in_flight, greatest_in_flights, least_in_flights, lesser_in_flight, margin_in_flight}
 
--- Lemmas on the smaller of two margins.
+-- Lemmas that the smaller of two margins is at most each of them.
 
 margin_picked : (first later : Margin) (t : Bool) → int_lt later.frames first.frames ≡ t → IsAtMostOf (if t then Some later else Some first) first.frames
 margin_picked first later true is = record { margin = later; is = refl; at_most = omega (arith, ints) }
@@ -55,7 +55,7 @@ margin_kept spec (first ∷ reports) zero report margin there is =
 margin_kept spec (first ∷ reports) (suc k) report margin there is =
     margin_second (margin_in spec first) (least_margin spec reports) margin.frames (margin_kept spec reports k report margin there is)
 
--- Lemmas on the longer of two gaps.
+-- Lemmas that the longer of two gaps is at least as long as each of them.
 
 gap_picked : (first later : AppGap) (t : Bool) → nat_lt first.gap.frames later.gap.frames ≡ t → IsAtLeastOf (if t then Some later else Some first) first.gap.frames
 gap_picked first later true is = record { gap = later; is = refl; at_least = grind arith }
@@ -93,7 +93,7 @@ gap_kept rows a (suc i) (app ∷ apps) gap below is =
     let next : a + suc i ≡ a + 1 + i = omega arith in
     gap_second (gap_of_app rows a) (greatest_gap rows (a + 1) apps) gap.frames (gap_kept rows (a + 1) i apps gap (omega (arith, below)) (rw next at is))
 
--- Lemmas on the smaller of the margins of two flights.
+-- Lemmas that the smaller of the margins of two flights is at most each of them.
 
 in_flight_picked : (first later : FlightMargin) (t : Bool) → int_lt later.frames first.frames ≡ t → IsAtMostIn (if t then Some later else Some first) first.frames
 in_flight_picked first later true is = record { margin = later; is = refl; at_most = omega (arith, ints) }
@@ -130,7 +130,7 @@ margin_total_kept n (first ∷ outcomes) zero facts margin there is =
 margin_total_kept n (first ∷ outcomes) (suc k) facts margin there is =
     in_flight_second (margin_in_flight n first) (least_in_flights (n + 1) outcomes) margin.frames (margin_total_kept (n + 1) outcomes k facts margin there is)
 
--- Lemmas on the longer of the gaps of two flights.
+-- Lemmas that the longer of the gaps of two flights is at least as long as each of them.
 
 gap_in_picked : (first later : FlightGap) (t : Bool) → nat_lt first.frames later.frames ≡ t → IsAtLeastIn (if t then Some later else Some first) first.frames
 gap_in_picked first later true is = record { gap = later; is = refl; at_least = grind arith }

@@ -29,13 +29,14 @@ outcome_lines spec k (outcome ∷ outcomes) = outcome_line spec k outcome ++ out
 abbrev pub flights_text : Parts → List Outcome → List ℕ
 flights_text spec outcomes = outcome_lines spec 0 outcomes ++ totals_line (totals_of outcomes)
 
--- The text is that of the outcomes of the lines of these bytes.
+-- The text is the one for the outcomes of the lines of `scripts`, which are the bytes of a file of scripts.
 pub record IsFlightsText (spec : Parts) (scripts text : List ℕ) : Type 0 where
   pub outcomes : List Outcome
   pub answers : AreOutcomes spec (lines_of scripts) outcomes
   pub whole : text ≡ flights_text spec outcomes
 
--- The status is 0, and the text is that of the outcomes of the lines of these bytes.
+-- The status is 0, and the text is the one for the outcomes of the lines of `scripts`, which are the bytes of a file
+-- of scripts.
 abbrev pub GivesFlights : Parts → List ℕ → ℕ → List ℕ → Type 0
 GivesFlights spec scripts status text = (status ≡ ANSWERED) × IsFlightsText spec scripts text
 
@@ -48,7 +49,7 @@ acceptance_refusal spec (Some shown) = Some (NOT_ACCEPTED, shown_line spec shown
 abbrev pub ScriptsAnswers : Parts → List ℕ → ℕ → List ℕ → Type 0
 ScriptsAnswers spec scripts = UnlessRefused (acceptance_refusal spec (first_refusal spec)) (GivesFlights spec scripts)
 
--- The answer of `flights` to the names of the files of a specification and of scripts.
+-- The answer if the words are `flights`, the name of a specification's file and the name of a file of scripts.
 abbrev pub FlightsAnswers : List ℕ → List ℕ → Answer
 FlightsAnswers specification scripts =
     AsksSpecification specification (λ (spec : Parts). AsksScripts scripts (λ (bytes : List ℕ). WithoutFiles (ScriptsAnswers spec bytes)))

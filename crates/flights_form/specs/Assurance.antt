@@ -26,25 +26,25 @@ use Rattle.flights_form.specs.Outcomes.{AreOutcomes}
 use Rattle.flights_form.specs.Scripts.{SaysScripts, lines_of}
 use Rattle.flights_form.specs.Totals.{totals_of}
 
--- A margin is reported, which is at most `frames` frames.
+-- `told` is a margin of at most `frames` frames.
 pub record IsAtMostOf (told : Option Margin) (frames : ℤ) : Type 0 where
   pub margin : Margin
   pub is : told ≡ Some margin
   pub at_most : margin.frames ≤ℤ frames
 
--- A gap is reported, which is at least `frames` frames.
+-- `told` is a gap of at least `frames` frames.
 pub record IsAtLeastOf (told : Option AppGap) (frames : ℕ) : Type 0 where
   pub gap : AppGap
   pub is : told ≡ Some gap
   pub at_least : frames ≤ gap.gap.frames
 
--- A minimum margin of all flights is reported, which is at most `frames` frames.
+-- `told` is a minimum margin of all flights, and it is at most `frames` frames.
 pub record IsAtMostIn (told : Option FlightMargin) (frames : ℤ) : Type 0 where
   pub margin : FlightMargin
   pub is : told ≡ Some margin
   pub at_most : margin.frames ≤ℤ frames
 
--- A maximum gap of all flights is reported, which is at least `frames` frames.
+-- `told` is a longest gap of all flights, and it is at least `frames` frames.
 pub record IsAtLeastIn (told : Option FlightGap) (frames : ℕ) : Type 0 where
   pub gap : FlightGap
   pub is : told ≡ Some gap

@@ -18,14 +18,14 @@ use Rattle.flights_form.specs.declared.facts.Margin.{Margin}
 abbrev pub gap_of_app : List Row → ℕ → Option AppGap
 gap_of_app rows a = option_map (λ (gap : Gap). record { app = app_id a; gap = gap }) (longest_gap a 0 rows)
 
--- The longer of two gaps, or the first if they are equally long.
+-- The longer of two gaps, or the first if they are equally long. If one of them is `None`, the other is taken.
 abbrev pub greater_gap : Option AppGap → Option AppGap → Option AppGap
 greater_gap None later = later
 greater_gap (Some gap) None = Some gap
 greater_gap (Some gap) (Some later) = if nat_lt gap.gap.frames later.gap.frames then Some later else Some gap
 
--- The longest gap of the applications, the first of which is application `a`. If several gaps are the longest, the gap
--- of the first of their applications is taken.
+-- The longest gap of the applications, the first of which is application `a`, or `None` if they have no gap. If
+-- several gaps are the longest, the gap of the first of their applications is taken.
 abbrev pub greatest_gap : List Row → ℕ → List AppSpec → Option AppGap
 greatest_gap rows a [] = None
 greatest_gap rows a (app ∷ apps) = greater_gap (gap_of_app rows a) (greatest_gap rows (a + 1) apps)
@@ -41,13 +41,14 @@ margin_to report (Some to) (Some bound) = Some (record { frames = pos bound -ℤ
 abbrev pub margin_in : Parts → Report → Option Margin
 margin_in spec report = margin_to report report.to (bound_of spec report)
 
--- The smaller of two margins, or the first if they are equal.
+-- The smaller of two margins, or the first if they are equal. If one of them is `None`, the other is taken.
 abbrev pub lesser_margin : Option Margin → Option Margin → Option Margin
 lesser_margin None later = later
 lesser_margin (Some margin) None = Some margin
 lesser_margin (Some margin) (Some later) = if int_lt later.frames margin.frames then Some later else Some margin
 
--- The minimum margin of the finished reconfigurations, with the first reconfiguration that has this margin.
+-- The minimum margin of the finished reconfigurations, with the first reconfiguration that has this margin, or `None`
+-- if no reconfiguration has a margin.
 abbrev pub least_margin : Parts → List Report → Option Margin
 least_margin spec [] = None
 least_margin spec (report ∷ reports) = lesser_margin (margin_in spec report) (least_margin spec reports)

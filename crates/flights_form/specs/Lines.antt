@@ -33,17 +33,19 @@ flown_line spec k facts =
 abbrev pub refused_start : ℕ → List ℕ
 refused_start k = codes "flight " ++ decimal k ++ codes " "
 
--- The minimum margin of all flights, and the first flight that has this margin.
+-- The text of the minimum margin of all flights and of the first flight that has this margin, or the empty text if
+-- there is no margin.
 abbrev pub margin_total : Option FlightMargin → List ℕ
 margin_total None = []
 margin_total (Some margin) = codes " margin " ++ signed_decimal margin.frames ++ codes " in flight " ++ decimal margin.flight
 
--- The longest gap of all flights, and the first flight that has a gap of this length.
+-- The text of the longest gap of all flights and of the first flight that has a gap of this length, or the empty text
+-- if there is no gap.
 abbrev pub gap_total : Option FlightGap → List ℕ
 gap_total None = []
 gap_total (Some gap) = codes " gap " ++ decimal gap.frames ++ codes " in flight " ++ decimal gap.flight
 
--- The last line, with the totals.
+-- The line with the totals of all flights, which is printed last.
 abbrev pub totals_line : Totals → List ℕ
 totals_line totals =
     codes "flights " ++ decimal totals.lines ++ codes " refused " ++ decimal totals.refused ++ margin_total totals.margin ++ gap_total totals.gap ++ codes "\n"

@@ -24,6 +24,7 @@ SaysScripts scripts bytes = scripts ≡ bytes
 abbrev pub BreaksScripts : ℕ × List ℕ → List ℕ → Type 0
 BreaksScripts refusal bytes = ⊥
 
--- The answer to the name of a file of scripts, given the answer to the bytes of the file.
+-- The answer if `name` is the name of a file of scripts: the answer `Then` to the file's bytes, or a report that the
+-- file was not read or is too long.
 abbrev pub AsksScripts : List ℕ → (List ℕ → Answer) → Answer
 AsksScripts name Then = AnswersFile MAX_SCRIPTS_BYTES long_script name (AnswersDocument SaysScripts BreaksScripts Then)

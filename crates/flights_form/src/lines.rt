@@ -40,7 +40,8 @@ pub fn make_refused_start(k: u32) -> Line
     line
 }
 
-/// Returns the last line, with the numbers of lines and of refused lines, the minimum margin and the longest gap.
+/// Returns the line that is printed last, with the numbers of lines and of refused lines, the minimum margin and the
+/// longest gap.
 pub fn make_totals_line(totals: &Totals) -> Line
     ensures { result ≡ totals_line totals.now }
 {

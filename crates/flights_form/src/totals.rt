@@ -19,7 +19,7 @@ pub struct FlightGap {
     pub flight: u32,
 }
 
-/// The numbers of lines and of refused lines, the minimum margin and the longest gap.
+/// The totals of some lines: the numbers of lines and of refused lines, the minimum margin and the longest gap.
 #[derive(Clone, Copy, Debug, PartialEq, Eq)]
 pub struct Totals {
     pub lines: u32,

@@ -101,7 +101,7 @@ found_ends A Rest names before after old new code finds tells = record {
   shown = tells.taken;
 }
 
--- Lemmas on the flush at the end of a form.
+-- Lemmas on the flush at the end of a form, which sends the text that the sink took, or a prefix of it.
 
 sent_surely_by : (room mid : Option ℕ) (before between now : ℕ) (last : Option ℕ) (text : List ℕ) →
     IfSome room (λ n. length text ≤ n → Unrisen before between × (mid ≡ Some (n - length text))) →

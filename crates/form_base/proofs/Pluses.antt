@@ -1,4 +1,5 @@
--- The rest of the text of names joined by pluses, whether or not some names have been written before it.
+-- The text of the remaining names of a list, joined by pluses, given whether some names have been written before
+-- them.
 use Rattle.std.specs.Prelude.{ℕ, Bool, List, if◌then◌else◌}
 use Rattle.form_base.specs.Lines.{added, further_added}
 

@@ -42,12 +42,13 @@ pub record AnswersLonger (limit : ℕ) (long : ℕ × List ℕ) (name : List ℕ
 abbrev pub AnswersFailed : List ℕ → Answer
 AnswersFailed name before after reads status text = (reads ≡ []) × Rose before.faults after.faults × Gives (UNREAD_FILE, read_line name) status text
 
--- The file of this name is too long or was not read, and the answer reports which of the two.
+-- The file of this name was not read or has more than `limit` bytes, and the answer reports which is the case.
 abbrev pub AnswersUnread : ℕ → ℕ × List ℕ → List ℕ → Answer
 AnswersUnread limit long name before after reads status text =
     AnswersLonger limit long name before after reads status text ⊎ AnswersFailed name before after reads status text
 
--- The answer to the bytes of the file of this name. If the file was not read or is too long, the answer reports that.
+-- The answer if `name` is the name of a file of at most `limit` bytes: the answer to these bytes. If the file was not
+-- read or is longer, the answer reports that.
 abbrev pub AnswersFile : ℕ → ℕ × List ℕ → List ℕ → (List ℕ → Answer) → Answer
 AnswersFile limit long name Answers before after reads status text =
     AnswersBytes limit name Answers before after reads status text ⊎ AnswersUnread limit long name before after reads status text

@@ -72,7 +72,7 @@ pub record StoppedIn (old new : SinkState) (text : List ℕ) : Type 0 where
   pub parts : taken old ++ text ≡ new.sent ++ rest
   pub rose : Rose old.faults new.faults
 
--- If the sink is certain to take as many bytes as the text has, its fault count did not rise.
+-- If the sink is certain to take at least the number of bytes that the text has, its fault count did not rise.
 abbrev pub IsQuietFor : List ℕ → SinkState → SinkState → Type 0
 IsQuietFor text old new = IfSome old.surely (λ room. length text ≤ room → Unrisen old.faults new.faults)
 
@@ -101,7 +101,8 @@ pub record Ends (Answers : Answer) (names : List (List ℕ)) (before after : Fil
   pub written : status ≢ UNWRITTEN_OUTPUT
   pub shown : Shown status text
 
--- The sink is certain to take the out-of-memory line, and every answer to reads of the map's files without a fault.
+-- The sink is certain to take the out-of-memory line. It is also certain to take every answer that follows from reads
+-- of the map's files without a fault.
 pub record HasRoom (Answers : Answer) (map : FileMap) (files : FilesState) (sink : SinkState) : Type 0 where
   pub room : ℕ
   pub told : sink.surely ≡ Some room

@@ -41,7 +41,7 @@ abbrev pub names_down : List Proc → ℕ → List (List ℕ)
 names_down [] up = []
 names_down (proc ∷ procs) up = if up % 2 == 1 then names_down procs (up / 2) else proc.name ∷ names_down procs (up / 2)
 
--- The further names, each preceded by a plus.
+-- The names, each preceded by a plus.
 abbrev pub further_added : List (List ℕ) → List ℕ
 further_added [] = []
 further_added (name ∷ names) = codes "+" ++ name ++ further_added names
@@ -64,7 +64,8 @@ env_or_dash spec (Some env) = env_text spec env
 abbrev pub demand_name : Parts → ℕ → List ℕ
 demand_name spec k = option_map_or (λ (demand : Demand). demand.name) (slice_get spec.demands k) []
 
--- The text of the part at which a condition is broken, other than the configuration and the environment.
+-- The text of the application, processor or other part at which a condition is broken, besides the configuration and
+-- the environment, or `-` if there is no such part.
 abbrev pub other_text : Parts → Other → List ℕ
 other_text spec other.Nothing = codes "-"
 other_text spec (other.App app) = app_name spec app.0

@@ -28,8 +28,8 @@ showing cycle fault = record { rule = fault.rule; path = fault.path; cycle = rec
 abbrev pub NamesCycle : Result (List AppSpec) DocFault → List (List ℕ) → Type 0
 NamesCycle unranked names = (cycle : List AppId) × CycleAmong unranked cycle × NamedAmong unranked cycle names
 
--- The refusal of bytes that do not encode a specification. It shows the fault, and the names of some cycle of needs if
--- there is one.
+-- The refusal of bytes that do not encode a specification. It shows the fault, and the names of the applications in a
+-- cycle of needs if there is one.
 pub record BreaksSpecification (refusal : ℕ × List ℕ) (bytes : List ℕ) : Type 0 where
   pub fault : DocFault
   pub is : spec_of bytes ≡ Err fault
@@ -41,6 +41,7 @@ pub record BreaksSpecification (refusal : ℕ × List ℕ) (bytes : List ℕ) : 
 abbrev pub long_specification : ℕ × List ℕ
 long_specification = (BROKEN_SPECIFICATION, specification_line (showing [] (record { rule = rule.TOO_LONG; path = [] })))
 
--- The answer to the specification in the file of this name, or the answer that reports why the file has none.
+-- The answer if `name` is the name of a specification's file: the answer `Then` to the specification in the file, or
+-- a report that the file was not read, is too long or breaks a rule.
 abbrev pub AsksSpecification : List ℕ → (Parts → Answer) → Answer
 AsksSpecification name Then = AnswersFile MAX_SPECIFICATION_BYTES long_specification name (AnswersDocument SaysSpecification BreaksSpecification Then)

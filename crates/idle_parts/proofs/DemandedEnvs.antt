@@ -27,7 +27,7 @@ use Rattle.idle_parts.specs.Somewhere.{passes_somewhere}
 use Rattle.idle_parts.specs.DemandedEnvs.{demanded_env, demanded_value}
 use Rattle.idle_parts.proofs.Somewhere.{passes_found, passes_in}
 
--- Lemmas on the values of the factors in this environment.
+-- Lemmas on the values of the factors in the environment of a demand.
 
 value_at : (spec : Parts) (demand : Demand) (x : ℕ) → x < 6 → factor_in (demanded_env spec demand) x ≡ demanded_value demand.wants x
 value_at spec demand zero h = refl
@@ -95,7 +95,7 @@ value_same v (first ∷ wants) (suc i) want all there =
         subst (λ (w : Want). factor_in v w.factor.0 ≡ w.value) same (equal _ first.value (and_left (has_wanted v first) _ all))
     wanted_is v (first ∷ wants) (suc i) want all there = wanted_is v wants i want (and_right (has_wanted v first) _ all) there
 
--- Lemmas on sets of processors that are down.
+-- Lemmas that all processors of a set are down if and only if each of them is down.
 
 down_by : (set p : ℕ) (v : Env) → all_down set v ≡ true → has_bit set p ≡ true → is_up_in v p ≡ false
 down_by set p v none bit =

@@ -4,7 +4,8 @@ use Rattle.choice_forms.specs.Tables.{HasShares}
 use Rattle.spec_forms.specs.Bounds.{AreAskedBounds}
 use Rattle.idle_parts.specs.declared.choices.Chosen.{Chosen}
 
--- The value has the shares of each configuration and the bounds that acceptance requires.
+-- `chosen` holds the shares of each configuration, and for each configuration the set of the targets to which
+-- acceptance requires a bound.
 pub record IsChosenBy (spec : Parts) (chosen : Chosen) : Type 0 where
   pub shares : HasShares spec chosen.shares.items
   pub sets : AreAskedBounds spec chosen.sets

@@ -1,4 +1,4 @@
--- The only environment that has to be checked to find out whether a demand applies to any environment.
+-- The only environment that has to be checked to find out whether a demand applies to some environment in scope.
 use Rattle.std.specs.Prelude.{ℕ, not, ◌==◌, List, [], ◌∷◌, length, if◌then◌else◌}
 use Rattle.scram_types.specs.Bits.{bits_below, has_bit}
 use Rattle.scram_types.specs.Specification.{Parts}
@@ -6,7 +6,7 @@ use Rattle.scram_types.specs.declared.rows.Env.{Env}
 use Rattle.scram_types.specs.declared.specification.Demand.{Demand}
 use Rattle.scram_types.specs.declared.specification.Want.{Want}
 
--- The value of the first requirement for factor `x`, or 0 if there is none.
+-- The value that the first of the requirements for factor `x` has, or 0 if there is none.
 abbrev pub demanded_value : List Want → ℕ → ℕ
 demanded_value [] x = 0
 demanded_value (want ∷ wants) x = if want.factor.0 == x then want.value else demanded_value wants x

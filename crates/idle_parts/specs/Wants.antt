@@ -25,7 +25,7 @@ is_factor_wanted spec x = list_any (any_wants_factor x) spec.rules
 abbrev pub is_placed_monitor : Parts → ℕ → Bool
 is_placed_monitor spec a = kind_of_app spec a == POWER_MONITOR && is_app_placed spec a
 
--- Whether factor `x` supplies power and some configuration places a power monitor.
+-- Whether factor `x` supplies power and some configuration places a power monitor, which reads the factor.
 abbrev pub is_supply_read : Parts → ℕ → Bool
 is_supply_read spec x = nat_lt x POWER_FACTORS && any_below (is_placed_monitor spec) (length spec.apps)
 

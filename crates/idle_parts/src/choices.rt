@@ -34,6 +34,7 @@ pub(crate) fn find_chosen(alloc: Global, spec: &Spec) -> Result<Chosen, NoMemory
 }
 
 // Returns `true` if there is no configuration and no environment in scope for which rule `k` is the first that fits.
+// `shares` has the shares of each configuration.
 pub(crate) fn is_rule_idle(spec: &Spec, shares: &[List<Share>], k: u8) -> bool
     requires shares { HasShares spec.now shares.now }
     requires rule { k < length spec.now.rules }
@@ -83,7 +84,8 @@ fn count_confs(spec: &Spec) -> u8
     spec.confs.items().len() as u8
 }
 
-// Returns `true` if configuration `c` is neither the start nor a possible target of another configuration.
+// Returns `true` if configuration `c` is neither the start nor a possible target of another configuration. `sets`
+// has, for each configuration, the set of the targets to which acceptance requires a bound.
 pub(crate) fn is_conf_idle(spec: &Spec, sets: &[u16; 12], c: u8) -> bool
     requires sets { AreAskedBounds spec.now sets.now }
     requires conf { c < length spec.now.confs }

@@ -16,7 +16,7 @@ first_changes n k = changes_by (replicate 6 0) (turns_to n k)
 randoms_0 : random 0 1 ∷ random 0 2 ∷ random 0 3 ∷ random 0 4 ∷ random 0 5 ∷ [] ≡ 12345 ∷ 1406932606 ∷ 654583775 ∷ 1449466924 ∷ 229283573 ∷ []
 randoms_0 = refl
 
--- No change is in the fifth block.
+-- No change is in block 5.
 changes_0 : first_changes 0 6
     ≡ change 60 0 1 ∷ change 126 0 0 ∷ change 187 0 1 ∷ change 187 3 1 ∷ change 244 1 1 ∷ change 364 1 0 ∷ change 364 4 1 ∷ change 366 0 0 ∷ []
 changes_0 = refl

@@ -1,4 +1,4 @@
--- The turns of a mission: their frames and their order.
+-- Lemmas that the turns of a mission are sorted and that each is in the frames of its block.
 use Rattle.std.proofs.Common.{◌≡◌, refl, ℕ, zero, suc, ◌+◌, ◌-◌, ◌*◌, ◌/◌, ◌%◌, ◌<◌, ◌≤◌, arith, List, [], ◌∷◌, ◌++◌, length, inl, inr}
 use Rattle.std.specs.Prelude.{Bool, true, false, if◌then◌else◌, ◌==◌}
 use Rattle.fault_script.specs.Fits.{Before}

@@ -23,8 +23,7 @@ use Rattle.mission_gen.specs.Changes.{changes_by, changes_of, frames_of, generat
 use Rattle.mission_gen.specs.Turns.{Turn, turn, turns_in, turns_to}
 use Rattle.mission_gen.proofs.Fitting.{HasCounts}
 
--- In a block the environment may change in two frames. In the fifth block it may change only in the frame after the
--- halt.
+-- In a block the environment may change in two frames. In block 5 it may change only in the frame after the halt.
 
 abbrev first_event : ℕ → ℕ → ℕ
 first_event n k = first_frame k (random n k)
@@ -71,7 +70,7 @@ turns_are_events n (suc k) =
     events_more n (turns_to n k) (turns_in (suc k) (random n (suc k))) (turns_are_events n k)
     (block_events n (suc k) (suc k == 5) (suc k % 3 == 0) (turns_both (random n (suc k))) refl)
 
--- If nothing turns in a frame, the factors keep their values.
+-- Lemmas that the factors keep their values in a frame in which no factor turns.
 
 abbrev turns_at : ℕ → List Turn → Bool
 turns_at f ts = list_any (λ (t : Turn). t.frame == f) ts

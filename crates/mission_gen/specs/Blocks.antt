@@ -19,14 +19,15 @@ first_frame k x = 60 * k + (x / 256) % 8
 abbrev pub delay : ℕ → ℕ
 delay x = 1 + (x / 4096) % 8
 
--- One of four ways in which alternators change in a block, as a number from 0 to 3.
+-- One of four ways in which alternators change in a block, as a number from 0 to 3, given the block's random number
+-- `x`.
 abbrev pub choice : ℕ → ℕ
 choice x = (x / 65536) % 4
 
--- The number of the alternator that changes first in a block.
+-- The number of the alternator that changes first in a block, 0 or 1, given the block's random number `x`.
 abbrev pub alternator : ℕ → ℕ
 alternator x = choice x % 2
 
--- The other alternator changes too in the block with random number `x`.
+-- Whether the other alternator changes too in the block with random number `x`.
 abbrev pub turns_both : ℕ → Bool
 turns_both x = nat_le 2 (choice x)

@@ -44,11 +44,11 @@ frames_of n = 1000 + 1000 * (n % 19)
 abbrev pub last_block : ℕ → ℕ
 last_block frames = (frames - 20) / 60
 
--- The changes of the script of mission `n`. Each factor begins with its first value.
+-- The changes of the script of mission `n`, which has `frames` frames. Each factor begins with its first value.
 abbrev pub changes_of : ℕ → ℕ → List Change
 changes_of n frames = changes_by (replicate 6 0) (turns_to n (last_block frames))
 
--- The halt of mission `n`, which is in the fifth block.
+-- The halt of mission `n`, which is in block 5.
 abbrev pub generated_halt : ℕ → HaltAt
 generated_halt n = record { proc = record { 0 = n % 2 }; frame = first_frame 5 (random n 5); step = random n 5 % 26 }
 

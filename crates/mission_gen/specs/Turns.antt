@@ -15,12 +15,12 @@ turn frame factor = record { frame = frame; factor = factor }
 abbrev pub aux_turns : ℕ → ℕ → List Turn
 aux_turns k frame = if k % 3 == 0 then turn frame (2 + (k / 3) % 4) ∷ [] else []
 
--- The turn of the other alternator some frames after `frame`, if the block with random number `x` turns both
+-- The turn of the other alternator, `delay x` frames after `frame`, if the block with random number `x` turns both
 -- alternators.
 abbrev pub other_turns : ℕ → ℕ → List Turn
 other_turns frame x = if turns_both x then turn (frame + delay x) (1 - alternator x) ∷ [] else []
 
--- The turns of block `k`, whose random number is `x`. In the fifth block a processor halts and no factor turns.
+-- The turns of block `k`, whose random number is `x`. In block 5 a processor halts and no factor turns.
 abbrev pub turns_in : ℕ → ℕ → List Turn
 turns_in k x =
     if k == 5 then []

@@ -4,7 +4,8 @@
 ghost use Rattle.std.specs.Prelude.{◌≡◌};
 ghost use Rattle.mission_gen.specs.Specifications.{generated_text, uav_text};
 
-/// The text of an aircraft with two alternators and two computers. These further factors follow the alternators.
+/// The text of an aircraft with two alternators and two computers. The further factors that are given follow the
+/// alternators.
 macro_rules! aircraft {
     ($($further:literal),*) => {
         concat!(

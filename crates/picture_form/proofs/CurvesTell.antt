@@ -30,7 +30,7 @@ use Rattle.picture_form.specs.declared.sheets.Sheet.{Sheet}
 use Rattle.picture_form.proofs.Cuts.{field, fields}
 use Rattle.picture_form.proofs.RectsBack.{decimal_digits, placed_grouped}
 
--- Lemmas on the points of a curve.
+-- Lemmas that the distance of a point from the top of its curve is at most 480.
 
 drop_by : (t : Bool) (n : ℕ) → cond t 240 (480 - n) ≤ 480
 drop_by true n = omega arith
@@ -99,7 +99,7 @@ points_same rows others curve other_curve (suc n) d f r s small few fits free ot
       last.1,
     )))
 
--- Lemmas on extremes.
+-- Lemmas that the extremes of a quantity in rows that can be drawn are signed 64-bit numbers.
 
 small_by : (t : Bool) (y z : ℤ) → mag y < 2 ^ 63 → mag z < 2 ^ 63 → mag (cond t y z) < 2 ^ 63
 small_by true y z e f = e

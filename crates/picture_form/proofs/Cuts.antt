@@ -1,4 +1,4 @@
--- Texts that can be cut in one way only.
+-- Lemmas that parts of equal texts end at the same positions.
 use Rattle.std.proofs.Common.{◌≡◌, ℕ, zero, suc, ◌<◌, Bool, true, false, cond, List, [], ◌∷◌, ◌++◌, Option, Some, None, refl, sym, ap, arith, ◌∙◌}
 use Rattle.std.specs.Prelude.{◌==◌, nat_le, if◌then◌else◌}
 use Rattle.std.specs.List.{list_all}
@@ -7,7 +7,8 @@ use Rattle.std.proofs.lemmas.List.{append_cancel_left}
 use Rattle.std.proofs.lemmas.List.Folds.{list_all-append}
 use Rattle.trace_text.proofs.WordBytes.{all_over, over}
 
--- Fields end at the same position if the bytes after them do not occur in them.
+-- If two equal texts begin with fields whose bytes satisfy `P`, and the byte after each field does not satisfy `P`,
+-- the fields are equal, and the texts after them are equal.
 pub fields : (P : ℕ → Bool) (d f : ℕ) (a b r s : List ℕ) → P d ≡ false → P f ≡ false → list_all P a ≡ true → list_all P b ≡ true → a ++ d ∷ r ≡ b ++ f ∷ s → (a ≡ b) × (d ∷ r ≡ f ∷ s)
 fields P d f [] [] r s free other e g h = (refl, h)
 fields P d f [] (c ∷ b) r s free other e g h =
@@ -21,11 +22,13 @@ fields P d f (c ∷ a) (b ∷ bs) r s free other e g h =
     let tails : a ≡ bs = more.0 in
     (let x : c ∷ a ≡ b ∷ bs = cc in x, more.1)
 
--- Fields end at the same position if the same byte, which does not occur in them, follows both.
+-- If two equal texts begin with fields whose bytes satisfy `P`, and the same byte, which does not satisfy `P`,
+-- follows both fields, the fields are equal, and the texts after that byte are equal.
 pub field : (P : ℕ → Bool) (d : ℕ) (a b r s : List ℕ) → P d ≡ false → list_all P a ≡ true → list_all P b ≡ true → a ++ d ∷ r ≡ b ++ d ∷ s → (a ≡ b) × (r ≡ s)
 field P d a b r s free e g h = let both = fields P d d a b r s free free e g h in (both.0, append_cancel_left (d ∷ []) r s both.1)
 
--- The number of occurrences of a byte that are still to come in a text, or `None` if the text goes on past the last.
+-- The number of occurrences of byte `d` that are still to come in a text after byte `b`, given their number before
+-- `b`. It is `None` if the text goes on past the last occurrence.
 abbrev pub to_come : ℕ → Option ℕ → ℕ → Option ℕ
 to_come d None b = None
 to_come d (Some zero) b = None
@@ -48,7 +51,8 @@ past_end d c None u e f = let x = e in cc
 past_end d c (Some zero) u e f = let k : left_after d None u ≡ None = left_none d u in let x : left_after d None u ≡ Some 0 = f in cc
 past_end d c (Some (suc n)) u e f = let x = e in cc
 
--- Two texts that end at the `n`-th occurrence of a byte end at the same position.
+-- If two equal texts begin with parts that end at the `n`-th occurrence of byte `d`, the parts are equal, and the
+-- texts after them are equal.
 pub cut : (d : ℕ) (n : Option ℕ) (t u r s : List ℕ) → left_after d n t ≡ Some 0 → left_after d n u ≡ Some 0 → t ++ r ≡ u ++ s → (t ≡ u) × (r ≡ s)
 cut d n [] [] r s e f h = (refl, h)
 cut d n [] (c ∷ u) r s e f h = absurd (past_end d c n u e f)
@@ -61,7 +65,7 @@ cut d n (b ∷ t) (c ∷ u) r s e f h =
     let tails : t ≡ u = more.0 in
     (let x : b ∷ t ≡ c ∷ u = cc in x, more.1)
 
--- A text without the byte does not change the number of occurrences that are still to come.
+-- A text without byte `d` does not change the number of occurrences of `d` that are still to come.
 pub passed : (d least n : ℕ) (text rest : List ℕ) → d < least → all_over least text ≡ true → left_after d (Some (suc n)) (text ++ rest) ≡ left_after d (Some (suc n)) rest
 passed d least n [] rest h e = refl
 passed d least n (b ∷ text) rest h e =
@@ -74,7 +78,8 @@ passed d least n (b ∷ text) rest h e =
 pub both_over : (least : ℕ) (a b : List ℕ) → all_over least a ≡ true → all_over least b ≡ true → all_over least (a ++ b) ≡ true
 both_over least a b e f = list_all-append (over least) a b ∙ and_from _ _ e f
 
--- The position in a text whose lines begin with an angle bracket.
+-- A position in a text whose lines begin with an angle bracket, or `Broken` if a line begins with another byte or the
+-- bracket is followed by a byte that may not follow it.
 pub data Place : Type 0 where
   Start : Place
   Opened : Place
@@ -123,7 +128,8 @@ no_line ok d Opened c u r s free at e h = let x = at in cc
 no_line ok d Inside c u r s free at e h = let x = at in cc
 no_line ok d Broken c u r s free at e h = let x = at in cc
 
--- Lines end at the same position if another byte follows an angle bracket.
+-- If two equal texts begin with whole lines, followed by an angle bracket and a byte for which `ok` is false, the
+-- lines are equal, and the texts from that byte on are equal.
 pub skip : (ok : ℕ → Bool) (d f : ℕ) (at : Place) (t u r s : List ℕ) → ok d ≡ false → ok f ≡ false → walk ok at t ≡ Start → walk ok at u ≡ Start
     → t ++ 60 ∷ d ∷ r ≡ u ++ 60 ∷ f ∷ s → (t ≡ u) × (d ∷ r ≡ f ∷ s)
 skip ok d f at [] [] r s free other e g h = (refl, let x : d ∷ r ≡ f ∷ s = cc in x)
@@ -147,7 +153,8 @@ line_inside : (ok : ℕ → Bool) (t : List ℕ) → left_after 10 (Some 1) t �
 line_inside ok [] e = absurd (let x = e in cc)
 line_inside ok (b ∷ t) e = line_by ok (b == 10) t e (line_inside ok t)
 
--- A text with one line feed, at its end, is a line.
+-- A text that begins with an angle bracket and a byte for which `ok` is true, and whose only line feed is at its end,
+-- is a whole line.
 pub is_line : (ok : ℕ → Bool) (d : ℕ) (t : List ℕ) → ok d ≡ true → (d == 10) ≡ false → left_after 10 (Some 1) (60 ∷ d ∷ t) ≡ Some 0 → walk ok Start (60 ∷ d ∷ t) ≡ Start
 is_line ok d t good other e =
     ap (λ (b : Bool). walk ok (cond b Inside Broken) t) good

@@ -19,12 +19,14 @@ use Rattle.picture_form.proofs.SpansBack.{alike_few, alike_swaps, rects_same, ro
 
 -- Lemmas on the boxes of the rows from row `k` on.
 
--- The text of the span that a row begins, or the empty text if it begins none.
+-- The text of the span that begins with `row`, which is row `k`, or the empty text if no span begins there. `before`
+-- is the preceding row, and `rows` are the rows after `row`.
 abbrev pub begun : Parts → Sheet → Strip → ℕ → Option Row → Row → List Row → List ℕ
 begun spec sheet strip k before row rows =
     begun_text spec sheet row strip k (if is_new strip.lane before row then Some (alike_rows strip.lane row rows + 1) else None)
 
--- The texts of the spans of the rows from row `k` on.
+-- The texts of the spans of `rows`, the first of which is row `k`. `before` is the row that precedes them, or `None`
+-- if there is none.
 abbrev pub spans_from : Parts → Sheet → Strip → ℕ → Option Row → List Row → List ℕ
 spans_from spec sheet strip k before [] = []
 spans_from spec sheet strip k before (row ∷ rows) = begun spec sheet strip k before row rows ++ spans_from spec sheet strip (suc k) (Some row) rows
@@ -81,7 +83,8 @@ pub begun_is : (spec : Parts) (sheet : Sheet) (strip : Strip) (k : ℕ) (before 
     ≡ (if is_drawn strip.lane before row then rect_text spec sheet row (span_of strip.lane strip.y k (alike_rows strip.lane row rows)) else [])
 begun_is spec sheet strip k before row rows inside = begun_by strip.lane (is_new strip.lane before row) spec sheet row strip.y k (alike_rows strip.lane row rows) inside
 
--- The number of the following rows that the box of the row `before` still covers.
+-- The number of `rows` that the box of the preceding row `before` still covers, or 0 if there is no preceding row or
+-- it has no box.
 
 abbrev pub carry : Lane → Option Row → List Row → ℕ
 carry lane None rows = 0
@@ -147,7 +150,7 @@ goes_on spec lane (Some b) row rows inside e seen =
           (seen_alike spec lane b row inside alike ∙ seen) alike seen (rows_alike spec lane b row rows inside alike);
     }
 
--- Rows that show the same.
+-- Lemmas on two lists of rows that show the same in a lane.
 
 -- None of the rows has a box in the lane.
 abbrev pub NoneSeen : Lane → List Row → Type 0

@@ -115,7 +115,7 @@ names_bytes spec ws at values sound h =
     let p = kept_says _ (values_in spec.factors (word_at ws (at + 1))) values h in
     values_bytes spec.factors (pieces_of 44 (word_at ws (at + 1))) 0 (replicate 6 0) values (λ x factor there. (sound.factors x factor there).count.few) zeros_bytes p.1
 
--- Lemmas on rows.
+-- Lemmas that a row whose first line was read can be drawn.
 
 offs_everywhere : (n a : ℕ) → slice_index_or (replicate n act.Off) a act.Off ≡ act.Off
 offs_everywhere zero a = refl
@@ -174,7 +174,7 @@ line_read spec next line row sound h =
     let w = or_rule_ok NO_FORM (words_in line) (row_of_words spec next) row h in
     words_read (is_stable_form spec w.0) (is_moving_form spec w.0) spec next w.0 row sound w.2
 
--- Lemmas on applications.
+-- Lemmas that an application can have the act that its line gives.
 
 proc_there : (spec : Parts) (text : List ℕ) (p : ProcId) → proc_named spec text ≡ Some p → p.0 < length spec.procs
 proc_there spec text p h =
@@ -284,7 +284,7 @@ app_drawn spec row a told drawn shown = record {
   heading = drawn.heading;
 }
 
--- Lemmas on reconfigurations.
+-- Lemmas that a reconfiguration whose line was read can be drawn.
 
 ended_drawn : (ws : List (List ℕ)) (from : ConfId) (to : Option ConfId) (end : ℕ) (given : Option ℕ) (report : Report) → end ≤ MAX_FRAMES
     → report_end ws from to end given ≡ Ok report → IsReportDrawn report

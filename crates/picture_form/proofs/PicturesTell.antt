@@ -26,7 +26,8 @@ use Rattle.picture_form.proofs.CurvesTell.{SameCurves, quantity_same}
 use Rattle.picture_form.proofs.ReportsTell.{boxes_begin, boxes_of, boxes_same, boxes_whole, reports_tell}
 use Rattle.picture_form.proofs.Sections.{IsSmall, grid_walk, lane_walk, open_ends, reports_walk, stable_spans_walk}
 
--- `n` is the text of the first two lanes' names without its first two bytes.
+-- Concatenating the parts of a text from the right instead of from the left gives the same text. `n` is the text of
+-- the first two lanes' names without its first two bytes.
 ordered : (n u m z : List ℕ) → ((((60 ∷ 116 ∷ n) ++ u) ++ m) ++ z) ≡ 60 ∷ 116 ∷ (n ++ ((u ++ m) ++ z))
 ordered n u m z =
     append_assoc ((60 ∷ 116 ∷ n) ++ u) m z ∙ append_assoc (60 ∷ 116 ∷ n) u (m ++ z) ∙ ap (λ (rest : List ℕ). 60 ∷ 116 ∷ (n ++ rest)) (sym (append_assoc u m z))
@@ -48,7 +49,7 @@ fronts_same style n a b g h u m w q z y r s ends other_ends grid other_grid fron
     (ap (λ (rest : List ℕ). (u ++ m) ++ rest) (sym begins) ∙ top ∙ ap (λ (rest : List ℕ). (w ++ q) ++ rest) other_begins) in
     record { front = both.0; rest = begins ∙ ap (λ (rest : List ℕ). 60 ∷ rest) both.1 ∙ sym other_begins }
 
--- Lemmas on the lanes of a picture, in order.
+-- Lemmas that two pictures whose lanes have the same names and the same text have the same text in each lane.
 
 -- The text of lane `k`: its name, and the text after the name.
 abbrev lanes_with : (ℕ → List ℕ) → (ℕ → List ℕ) → ℕ → List ℕ
@@ -76,7 +77,7 @@ lanes_same name body other (suc n) r s mine theirs e =
       append_cancel_left (116 ∷ []) r s last.1,
     )
 
--- Lemmas on the lanes of a sheet.
+-- Lemmas that the specification has the items that the lanes of its sheet show, and that there are at most 22 lanes.
 
 inside_by : (a b : Bool) (spec : Parts) (n f p : ℕ) → nat_lt n f ≡ a → nat_lt n (f + p) ≡ b → n < f + p + length spec.apps
     → IsShownIn spec (cond a (InFactor n) (cond b (InProcessor (n - f)) (InApplication (n - (f + p)))))

@@ -63,7 +63,8 @@ frames_same k (suc n) j (suc m) r s p q h =
     let sums : k + suc n ≡ j + suc m = (same_number 60 (k + suc n) (j + suc m) r s refl p q last).0 in
     (start, omega (arith, start, sums))
 
--- The line of a box, given its parts.
+-- The line of a box, given its class, its position and size, the name of its lane, its words, the text of its frames,
+-- and its label.
 abbrev pub rect_of : List ℕ → List ℕ → List ℕ → List ℕ → List ℕ → List ℕ → List ℕ
 rect_of class box name words frames label =
     codes "<rect class=\"" ++ (class ++ (codes "\"" ++ (box ++ (codes "><title>" ++ (name ++ (codes " " ++ (words ++ (frames ++ (codes "</title></rect>" ++ (label ++ codes "\n"))))))))))

@@ -1,4 +1,4 @@
--- Lemmas on four pieces that are appended to a line.
+-- A lemma that appending four pieces to a line one by one is the same as appending their concatenation.
 use Rattle.std.proofs.Common.{◌≡◌, ℕ, List, ◌++◌, ap, append_assoc, ◌∙◌}
 
 pub route_added : (line one two three four before name given between dash : List ℕ) → one ≡ line ++ before → given ≡ name → two ≡ one ++ given

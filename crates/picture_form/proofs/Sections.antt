@@ -30,7 +30,7 @@ use Rattle.picture_form.proofs.ShowsBack.{IsShownIn, conf_name_over, plain}
 use Rattle.picture_form.proofs.SpansBack.{alike_few, rect_line, scale_most, span_of, width_small, x_small}
 use Rattle.picture_form.proofs.LanesTell.{begun, begun_is, is_drawn, spans_from, spans_whole}
 
--- Lemmas on texts of one line.
+-- Lemmas that single lines, and texts concatenated from whole lines, consist of whole lines.
 
 path_line : (ok : ℕ → Bool) (t : List ℕ) → ok 112 ≡ true → left_after 10 (Some 1) (60 ∷ 112 ∷ t) ≡ Some 0 → walk ok Start (60 ∷ 112 ∷ t) ≡ Start
 path_line ok t good e = is_line ok 112 t good refl e
@@ -139,7 +139,7 @@ stables_walk ok spec sheet (row ∷ rows) k before good sound few =
 pub stable_spans_walk : (ok : ℕ → Bool) (spec : Parts) (sheet : Sheet) (rows : List Row) → ok 112 ≡ true → IsSpec spec → length rows < 2 ^ 32 → walk ok Start (spans_text spec sheet rows conf_strip) ≡ Start
 stable_spans_walk ok spec sheet rows good sound few = ap (walk ok Start) (spans_whole spec sheet rows conf_strip) ∙ stables_walk ok spec sheet rows 0 None good sound (omega (arith, few))
 
--- Lemmas on the boxes of a lane.
+-- Lemmas that the boxes of a lane consist of whole lines.
 
 boxes_by : (drawn : Bool) (text rest : List ℕ) → (drawn ≡ true → walk no_name Start text ≡ Start) → walk no_name Start rest ≡ Start → walk no_name Start (cond drawn text [] ++ rest) ≡ Start
 boxes_by true text rest e f = walk_both no_name text rest (e refl) f
@@ -162,7 +162,7 @@ pub lane_walk : (spec : Parts) (sheet : Sheet) (rows : List Row) (strip : Strip)
 lane_walk spec sheet rows strip sound inside low known few =
     ap (walk no_name Start) (spans_whole spec sheet rows strip) ∙ boxes_walk spec sheet strip rows 0 None sound inside low known (omega (arith, few))
 
--- Lemmas on reconfigurations.
+-- Lemmas that the boxes of reconfigurations consist of whole lines.
 
 -- If a bound is given, it has at most 1000 frames.
 abbrev IsGiven : Option ℕ → Type 0

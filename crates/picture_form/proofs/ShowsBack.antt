@@ -36,7 +36,7 @@ use Rattle.picture_form.specs.Spans.{act_label, class_text, label_of, lane_name,
 use Rattle.picture_form.proofs.Cuts.{both_over, field}
 use Rattle.picture_form.proofs.RectsBack.{frames_same, frames_tail}
 
--- Lemmas on names.
+-- Lemmas that all bytes of names are from 48 to 126.
 
 option_over : {A : Type 0} (name : A → List ℕ) (o : Option A) → ((x : A) → o ≡ Some x → is_name (name x) ≡ true) → all_over 48 (option_map_or name o []) ≡ true
 option_over name None h = refl
@@ -94,7 +94,7 @@ class_over spec (InFactor i) row known = let v = known.values i in decimal_over 
 class_over spec (InProcessor p) row known = refl
 class_over spec (InApplication a) row known = word_over (act_word (act_of row a))
 
--- Lemmas on the act of an application.
+-- Lemmas that all bytes in the texts of an act are from 32 to 126.
 
 mode_over : (spec : Parts) (a : ℕ) (app : AppSpec) (mode : Mode) → IsSpec spec → slice_get spec.apps a ≡ Some app → IsSome (mode_in app.modes mode.0) → all_over 48 (mode_text app.kind.0 mode.0) ≡ true
 mode_over spec a app mode sound there listed =
@@ -164,8 +164,8 @@ word_found word.Lost = refl
 words_differ : (what other : ActWord) → word_text what ≡ word_text other → word_number what ≡ word_number other
 words_differ what other e = same_some (word_number what) (word_number other) (sym (word_found what) ∙ ap (number_in word_names) e ∙ word_found other)
 
--- Two boxes show the same of the same number of rows from the same row on, given `n` and `m`, which are one less than
--- the numbers of rows.
+-- Two boxes show the same, begin in the same row and have the same number of rows. `n` and `m` are one less than
+-- their numbers of rows.
 pub record SameEnds (k n j m : ℕ) (alike : Bool) : Type 0 where
   pub same : alike ≡ true
   pub first : k ≡ j

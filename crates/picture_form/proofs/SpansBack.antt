@@ -23,7 +23,7 @@ use Rattle.picture_form.proofs.Cuts.{cut, left_after}
 use Rattle.picture_form.proofs.RectsBack.{box_plain, box_quotes, frames_after, frames_plain, frames_tail, label_plain, rect_ends, rect_grouped, rect_of, rect_parts}
 use Rattle.picture_form.proofs.ShowsBack.{IsShownIn, SameEnds, class_over, is_seen, label_words_plain, lane_name_over, plain, shown_same, words_plain}
 
--- Lemmas on positions.
+-- Lemmas that positions and widths in a picture are far below `2 ^ 64`.
 
 scale_by : (a b c : Bool) → cond a 1 (cond b 2 (cond c 4 8)) ≤ 8
 scale_by true b c = omega arith

@@ -27,7 +27,7 @@ use Rattle.trace_text.proofs.Inversion.{if_ok}
 use Rattle.picture_form.proofs.LinesDrawn.{app_drawn, app_shown, line_read, report_drawn}
 use Rattle.picture_form.specs.Laws.{IsReportDrawn, IsRowDrawn, TracesAreDrawn}
 
--- Lemmas on the lines of a trace, in order.
+-- Lemmas that the contents of the lines that were read can be drawn after each line of a trace.
 
 -- A row of which some applications were read can be drawn, and the rows before it are fewer than the maximum number
 -- of frames.

@@ -1,7 +1,7 @@
 -- Pieces of a picture: boxes, names and labels.
 use Rattle.std.specs.Prelude.{ℕ, zero, suc, ◌+◌, ◌*◌, List, [], ◌++◌, length, nat_le, codes, decimal, if◌then◌else◌}
 
--- The attributes of a position, `x` and `y`.
+-- The attributes `x` and `y` of an element at this position.
 unfoldable pub place_text : ℕ → ℕ → List ℕ
 place_text x y = codes " x=\"" ++ decimal x ++ codes "\" y=\"" ++ decimal y ++ codes "\""
 
@@ -9,21 +9,22 @@ place_text x y = codes " x=\"" ++ decimal x ++ codes "\" y=\"" ++ decimal y ++ c
 unfoldable pub box_text : ℕ → ℕ → ℕ → List ℕ
 box_text x y width = place_text x y ++ codes " width=\"" ++ decimal width ++ codes "\" height=\"16\""
 
--- The name of a lane, set to the left of the lane's rows.
+-- The text element with the name of a lane, to the left of the lane's rows. `y` is the y-coordinate of the text.
 abbrev pub name_text : ℕ → List ℕ → List ℕ
 name_text y name = codes "<text class=\"name\" x=\"128\" y=\"" ++ decimal y ++ codes "\">" ++ name ++ codes "</text>"
 
--- A text element with a class and a position.
+-- A text element with this class, position and text.
 unfoldable pub placed_text : List ℕ → ℕ → ℕ → List ℕ → List ℕ
 placed_text class x y text =
     codes "<text class=\"" ++ class ++ codes "\"" ++ place_text x y ++ codes ">" ++ text ++ codes "</text>"
 
--- A label in a box, or the empty text if the box is too narrow. Each letter counts as 7 pixels.
+-- The label of a box with this position and width, or the empty text if the box is too narrow for the label. Each
+-- letter counts as 7 pixels.
 abbrev pub label_text : ℕ → ℕ → ℕ → List ℕ → List ℕ
 label_text x y width label = if nat_le (7 * length label + 3) width then placed_text (codes "value") (x + 3) (y + 12) label else []
 
--- The numbers of the first and the last frame of a span that begins in row `k`, or the empty text if the span has no
--- rows.
+-- The text of the first and the last frame of a span, or of its only frame, given the first row `k` and the number of
+-- rows. It is empty if the span has no rows.
 abbrev pub frames_text : ℕ → ℕ → List ℕ
 frames_text k zero = []
 frames_text k (suc zero) = codes " frame " ++ decimal k

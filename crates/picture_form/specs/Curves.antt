@@ -26,36 +26,41 @@ drop_of extremes number =
     if distance extremes.least extremes.greatest == 0 then 240
     else 480 - distance extremes.least number * 480 / distance extremes.least extremes.greatest
 
--- Whether the quantity is the heading and it crosses north between two rows, which interrupts the curve.
+-- Whether a quantity with these values in two consecutive rows crosses north between them, which interrupts its
+-- curve. Only the heading can cross north.
 abbrev pub crosses_north : Quantity → ℤ → ℤ → Bool
 crosses_north Altitude before number = false
 crosses_north Climb before number = false
 crosses_north Heading before number = nat_lt 1800 (distance before number)
 crosses_north Bank before number = false
 
--- Whether the curve joins a row to the preceding row.
+-- Whether the curve of a quantity joins `row` to the preceding row. It does not if there is no preceding row, or if
+-- the heading crosses north between the two rows.
 abbrev pub is_joined : Quantity → Option Row → Row → Bool
 is_joined quantity None row = false
 is_joined quantity (Some before) row =
     if crosses_north quantity (quantity_of quantity before.world) (quantity_of quantity row.world) then false else true
 
--- The point of row `k` on a curve, or the empty text if there is no such row.
+-- The path command for the point of row `k` on a curve, or the empty text if there is no such row. The command is `L`
+-- if the curve joins the row to the preceding row, and `M` otherwise.
 abbrev pub point_text : List Row → Curve → ℕ → List ℕ
 point_text rows curve k =
     option_map_or (λ (row : Row). (if is_joined curve.quantity (row_before rows k) row then codes "L" else codes "M") ++ decimal k ++ codes " "
     ++ decimal (drop_of curve.extremes (quantity_of curve.quantity row.world))) (slice_get rows k) []
 
--- The name of a quantity, and its unit below the name. The curve's top is at `y`.
+-- The text elements for the name of a quantity and, below it, for its unit. They are to the left of the curve whose
+-- top is at `y`.
 abbrev pub curve_names : ℕ → List ℕ → List ℕ → List ℕ
 curve_names y name unit = name_text (y + 20) name ++ placed_text (codes "name note") 128 (y + 34) unit ++ codes "\n"
 
--- The start of a path whose points are at the middle of each row.
+-- The start of the path element of a curve whose top is at `y`. Each point of the path is at the middle of a row.
 abbrev pub curve_begin : Sheet → ℕ → List ℕ
 curve_begin sheet y =
     codes "<path class=\"line\" transform=\"translate(" ++ decimal (x_of sheet 0 + scale_of sheet.rows / 2) ++ codes " " ++ decimal y
     ++ codes ") scale(" ++ decimal (scale_of sheet.rows) ++ codes " .1)\" d=\""
 
--- The end of a path, and the extremes of the quantity to the right of its curve.
+-- The end of the path element of a curve whose top is at `y`, followed by text elements for the quantity's extremes,
+-- which are to the right of the curve.
 abbrev pub curve_end : Sheet → ℕ → Extremes → List ℕ
 curve_end sheet y extremes =
     codes "\"/>\n" ++ placed_text (codes "note") (x_of sheet sheet.rows + 8) (y + 8) (signed_decimal extremes.greatest)

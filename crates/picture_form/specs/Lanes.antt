@@ -9,7 +9,7 @@ use Rattle.picture_form.specs.Spans.{lane_name, span_text}
 use Rattle.picture_form.specs.declared.sheets.Sheet.{Sheet}
 use Rattle.picture_form.specs.declared.spans.Strip.{Strip}
 
--- The spans of a lane.
+-- The drawings of all spans of a lane, in the order of the rows.
 abbrev pub spans_text : Parts → Sheet → List Row → Strip → List ℕ
 spans_text spec sheet rows strip = texts_below (span_text spec sheet rows strip) (length rows)
 
@@ -17,15 +17,15 @@ spans_text spec sheet rows strip = texts_below (span_text spec sheet rows strip)
 abbrev pub strip_of : Sheet → ℕ → Strip
 strip_of sheet n = record { lane = lane_of sheet n; y = lane_y sheet n }
 
--- The name of a lane, and a line feed.
+-- The text element with the name of a lane, followed by a line feed.
 abbrev pub name_line : Parts → Strip → List ℕ
 name_line spec strip = name_text (strip.y + 12) (lane_name spec strip.lane) ++ codes "\n"
 
--- The name and the spans of a lane.
+-- The name of a lane, followed by the drawings of its spans.
 abbrev pub strip_text : Parts → Sheet → List Row → Strip → List ℕ
 strip_text spec sheet rows strip = name_line spec strip ++ spans_text spec sheet rows strip
 
--- The name and the spans of lane `n`.
+-- The name of lane `n`, followed by the drawings of its spans.
 abbrev pub lane_text : Parts → Sheet → List Row → ℕ → List ℕ
 lane_text spec sheet rows n = strip_text spec sheet rows (strip_of sheet n)
 

@@ -48,7 +48,8 @@ grid_text sheet reports = ticks_text sheet ++ texts_below (begin_text sheet repo
 abbrev pub conf_strip : Strip
 conf_strip = record { lane = Configuration; y = 20 }
 
--- The names of the first two lanes, and the spans of the stable configurations.
+-- The names of the lanes of configurations and reconfigurations, followed by the spans in which a configuration is
+-- stable.
 abbrev pub stable_spans : Parts → Sheet → List Row → List ℕ
 stable_spans spec sheet rows = part_text Names ++ spans_text spec sheet rows conf_strip
 
@@ -70,11 +71,12 @@ quantity_unit Climb = codes "0.1 ft"
 quantity_unit Heading = codes "0.1 deg"
 quantity_unit Bank = codes "0.1 deg"
 
--- The name of a quantity, and its unit below the name. The curve's top is at `y`.
+-- The text elements for the name of a quantity and, below it, for its unit. They are to the left of the curve whose
+-- top is at `y`.
 abbrev pub names_text : Quantity → ℕ → List ℕ
 names_text quantity y = curve_names y (quantity_name quantity) (quantity_unit quantity)
 
--- The curve of a quantity, with the quantity's name and unit.
+-- The curve of a quantity with its top at `y`, preceded by the quantity's name and unit.
 abbrev pub quantity_text : Sheet → List Row → Quantity → ℕ → List ℕ
 quantity_text sheet rows quantity y = names_text quantity y ++ curve_text sheet rows quantity y
 

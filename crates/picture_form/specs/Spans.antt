@@ -31,7 +31,7 @@ lane_name spec (lane.Application a) = app_name spec a
 abbrev pub value_in : Parts → ℕ → Row → List ℕ
 value_in spec i row = option_map_or (λ (factor : Factor). value_name factor (slice_index row.env.factors i)) (slice_get spec.factors i) []
 
--- The class of the box of a row in a lane.
+-- The SVG class of the box of a row in a lane.
 abbrev pub class_text : Lane → Row → List ℕ
 class_text lane.Configuration row = codes "stable"
 class_text (lane.Factor i) row = codes "v" ++ decimal (slice_index row.env.factors i)
@@ -92,14 +92,16 @@ stable_text spec sheet (Some c) span =
     codes "<path class=\"stable\" d=\"M" ++ decimal (x_of sheet span.first) ++ codes " 38h" ++ decimal (width_of sheet span.rows) ++ codes "\"/>"
     ++ span_label sheet span (conf_name spec c.0) ++ codes "\n"
 
--- The drawing of a span in its kind of lane. It is empty for a processor that is down.
+-- The drawing of a span in its lane, given the span's first row. It is empty for a processor that is down, and in the
+-- lane of configurations if no configuration is stable.
 abbrev pub lane_span_text : Parts → Sheet → Row → Span → Lane → List ℕ
 lane_span_text spec sheet row span lane.Configuration = stable_text spec sheet (stable_conf row.mode) span
 lane_span_text spec sheet row span (lane.Factor i) = rect_text spec sheet row span
 lane_span_text spec sheet row span (lane.Processor p) = if has_bit row.env.up p then rect_text spec sheet row span else []
 lane_span_text spec sheet row span (lane.Application a) = rect_text spec sheet row span
 
--- The drawing of the span of `n` rows that begins in row `k`, or the empty text if no span begins there.
+-- The drawing of a span that begins in row `k`, given its number of rows, or the empty text for `None`, which means
+-- that no span begins there.
 abbrev pub begun_text : Parts → Sheet → Row → Strip → ℕ → Option ℕ → List ℕ
 begun_text spec sheet row strip k None = []
 begun_text spec sheet row strip k (Some n) = lane_span_text spec sheet row (record { lane = strip.lane; y = strip.y; first = k; rows = n }) strip.lane

@@ -62,7 +62,7 @@ fn is_joined(quantity: Quantity, before: Option<&Row>, row: &Row) -> bool
     }
 }
 
-/// Returns the point of row `k` on a curve, or the empty line if there is no such row.
+/// Returns the path command for the point of row `k` on a curve, or the empty line if there is no such row.
 pub fn make_point(rows: &[Row], curve: Curve, k: usize) -> Line
     ensures { result ≡ point_text rows.now curve k }
 {
@@ -78,7 +78,8 @@ pub fn make_point(rows: &[Row], curve: Curve, k: usize) -> Line
     line
 }
 
-/// Returns the name of a quantity, and its unit below the name. The curve's top is at `y`.
+/// Returns the text elements for the name of a quantity and, below it, for its unit. They are to the left of the
+/// curve whose top is at `y`.
 pub fn make_curve_names(y: u64, name: &str, unit: &str) -> Line
     requires y { y ≤ 6100 }
     requires name { length name.now ≤ 16 }
@@ -92,7 +93,8 @@ pub fn make_curve_names(y: u64, name: &str, unit: &str) -> Line
     line
 }
 
-/// Returns the start of a path whose points are at the middle of each row.
+/// Returns the start of the path element of a curve whose top is at `y`. Each point of the path is at the middle of a
+/// row.
 pub fn make_curve_begin(sheet: Sheet, y: u64) -> Line
     ensures { result ≡ curve_begin sheet y }
 {
@@ -107,7 +109,8 @@ pub fn make_curve_begin(sheet: Sheet, y: u64) -> Line
     line
 }
 
-/// Returns the end of a path, and the extremes of the quantity to the right of its curve.
+/// Returns the end of the path element of a curve whose top is at `y`, followed by text elements for the quantity's
+/// extremes, which are to the right of the curve.
 pub fn make_curve_end(sheet: Sheet, y: u64, extremes: &Extremes) -> Line
     requires { y ≤ 6100 }
     ensures { result ≡ curve_end sheet y extremes.now }

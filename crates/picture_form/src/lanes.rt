@@ -93,7 +93,7 @@ fn make_name_line(spec: &Spec, strip: Strip) -> Line
     line
 }
 
-/// Writes the spans of a lane.
+/// Writes the drawings of all spans of a lane, in the order of the rows.
 pub fn put_spans<K: Sink>(
     out: &mut K,
     spec: &Spec,

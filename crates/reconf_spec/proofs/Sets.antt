@@ -57,7 +57,7 @@ bit_cases zero below P off on = off refl
 bit_cases (suc zero) below P off on = on refl
 bit_cases (suc (suc b)) below P off on = absurd (omega (arith, below))
 
--- No number of a set is among the barred numbers.
+-- No number is in both sets.
 abbrev pub IsFree : ℕ → ℕ → Type 0
 IsFree set barred = (p : ℕ) → has_bit set p ≡ true → has_bit barred p ≡ false
 
@@ -94,6 +94,6 @@ set_back name xs unknown barred most at set few differ below free =
     (subst (λ (n : ℕ). folded_from (read_into name xs unknown barred) at 0 n (items_of (names_data name set 0 xs)) ≡ Ok set) none
     (names_back name xs [] xs unknown barred at 0 set differ refl below free))
 
--- If no numbers are barred, no number of a set is barred.
+-- No number is in both a set and the empty set.
 pub all_free : (set : ℕ) → IsFree set 0
 all_free set p is = rw (bit_at-zero p) refl

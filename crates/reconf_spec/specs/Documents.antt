@@ -63,7 +63,7 @@ read_assumption at d =
     chain (whole_at 1 1001 (member_path at (codes "window")) window) (λ (window : ℕ).
     Ok (record { halts = halts; changes = changes; window = window })))))))))
 
--- The policy with this name, or the fault of an unknown policy.
+-- The policy that `text` names, or the fault of an unknown policy at the path `at`.
 abbrev pub policy_named : List ℕ → List ℕ → Result Policy DocFault
 policy_named at text =
     if bytes_eq text (codes "retarget") then Ok Retarget
@@ -104,7 +104,8 @@ names_in d =
     chain (member_in (codes "processors") read_procs d) (λ (procs : List Proc).
     chain (apps_in d) (λ (apps : List AppSpec). names_with procs apps d)))
 
--- The specification of these items and the rest of its document.
+-- The specification with these processors, applications, configurations and factors, and with the rest of its
+-- document.
 abbrev pub with_rest : Names → Rest → Parts
 with_rest names rest = record {
   procs = names.procs;

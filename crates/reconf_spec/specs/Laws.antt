@@ -1,4 +1,4 @@
--- Properties that the crates below have in common.
+-- A property that the libraries of this crate have in common.
 use Rattle.std.specs.Prelude.{◌≡◌, ℕ, List}
 use Rattle.scram_doc.specs.Names.{spelled_name}
 use Rattle.scram_types.specs.Names.{name_of}

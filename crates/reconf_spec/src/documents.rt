@@ -174,7 +174,7 @@ fn read_after_names(
     })
 }
 
-/// Creates the specification of these items and the rest of its document.
+/// Returns the specification with the items of `vocabulary` and the rest of its document.
 fn join(vocabulary: Vocabulary, rest: Rest) -> Spec
     requires fits { FitsRest vocabulary.procs vocabulary.apps vocabulary.confs vocabulary.factors rest }
     ensures value { result ≡ with_rest vocabulary rest }
@@ -199,7 +199,7 @@ fn join(vocabulary: Vocabulary, rest: Rest) -> Spec
     }
 }
 
-/// Reads the rest of a document, and returns the specification that it forms with the items read before.
+/// Reads the rest of a document, and returns the specification that it forms with the items of `vocabulary`.
 pub(crate) fn read_rest(
     alloc: Global,
     vocabulary: Vocabulary,

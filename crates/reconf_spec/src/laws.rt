@@ -1,4 +1,4 @@
-//! Properties that the crates below have in common, as laws. The contract of each function is a law.
+//! A property that the libraries of this crate have in common, as a law. The contract of the function is the law.
 
 ghost use Rattle.reconf_spec.specs.Laws.{NamesAreOne};
 

@@ -18,13 +18,13 @@ use std::thread::Threads;
 const NO_MEMORY: u8 = 9;
 /// The status if a line that this file prints cannot be written.
 const UNWRITTEN_OUTPUT: u8 = 4;
-/// The status if the boxes that the program makes are not those of the kinds. A line says so.
+/// The status if the boxes that the program makes are not those of the kinds, which the program reports in a line.
 const UNFIT_RACKS: u8 = 1;
 
 fn main(rt: HostRuntime) -> ExitCode {
     let words = match words(&rt) {
         Ok(words) => words,
-        // No form of the command has a word that is not UTF-8 or an empty list of words.
+        // Words that are not all UTF-8 have no form, and neither does the empty list of words that takes their place.
         Err(error) if error.kind() != ErrorKind::OutOfMemory => Vec::new(rt.alloc()),
         Err(_) => return refuse_memory(&rt),
     };

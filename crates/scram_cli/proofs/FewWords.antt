@@ -1,4 +1,4 @@
--- Lemmas on lists of few words.
+-- A lemma on the form of fewer than three words.
 use Rattle.std.proofs.Common.{ℕ, ◌≡◌, ◌<◌, List, [], ◌∷◌, length, arith, refl}
 use Rattle.scram_cli.specs.Forms.{form_of, form_of_few}
 

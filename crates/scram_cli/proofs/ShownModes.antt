@@ -79,7 +79,7 @@ decision_shown spec frame (Moving from halting to since) settled arrived v sound
     mode_by arrived spec (stable_decision spec to frame v) (moving_decision spec frame from halting to since settled t) (stable_shown spec to frame v sound move.target low)
     (mode_by (t.0 == to.0) spec (Moving from halting to since) (turn_to spec frame from halting to since settled t) move (turn_shown spec frame from halting to since settled t move chosen low))
 
--- Lemmas on places.
+-- Lemmas that the place of an application in a configuration names items of the specification.
 
 placed_in : (spec : Parts) → IsSpec spec → (c a : ℕ) (found : Option Conf) → slice_get spec.confs c ≡ found → (place : Place) → option_and_then (λ (conf : Conf). place_in conf a) found ≡ Some place →
     IsPlace spec.procs spec.apps a place
@@ -125,7 +125,7 @@ time_by (Some listed) time h = h listed refl
 pub time_short : (spec : Parts) → IsSpec spec → (c : ConfId) (a : ℕ) (time : ModeSpec → ℕ) → ((listed : ModeSpec) → AreShort listed → time listed ≤ 16) → option_map_or time (mode_of spec c a) 0 ≤ 16
 time_short spec sound c a time h = time_by (mode_of spec c a) time (λ listed is. h listed (place_short spec sound a (place_of spec c a) listed is))
 
--- Lemmas on orders.
+-- Lemmas that a frame of a phase in an order is less than the length of the phase.
 
 -- If an order has a frame of a phase, the frame is less than the length of the phase, which is at most 16 frames.
 abbrev pub IsOrderShown : Order → Type 0
@@ -168,7 +168,7 @@ task_told spec sound (phase.Halting c age) a = told_for spec sound c a _ (place_
 task_told spec sound (phase.Preparing c age) a = told_for spec sound c a _ (place_of spec c a) refl (preparing_shown _ age (time_short spec sound c a (λ (listed : ModeSpec). listed.prepare) (λ listed short. short.prepare)))
 task_told spec sound (phase.Initialising c age) a = told_for spec sound c a _ (place_of spec c a) refl (initialising_shown _ _ age (time_short spec sound c a (λ (listed : ModeSpec). listed.init) (λ listed short. short.init)))
 
--- Lemmas on acts.
+-- Lemmas that each application can have the act that it has in a row.
 
 order_act : (spec : Parts) (a : ℕ) (app : AppSpec) (o : Order) (place : Place) → slice_get spec.apps a ≡ Some app → IsOrderShown o → IsPlace spec.procs spec.apps a place →
     IsActShown spec app (act_of_order o place.mode place.proc)

@@ -67,7 +67,7 @@ read_shown : (spec : Parts) (f : ℕ) (reading : Reading) (acts : List Act) → 
 read_shown spec f (Steady c) acts known = left_by (runs spec acts c) spec f c known
 read_shown spec f (Leaving c begin) acts left = arrive_shown spec f c begin (running spec acts) left (running_known spec acts)
 
--- Lemmas on lists whose items have a property.
+-- Lemmas that the reconfigurations that the rows show are within the flight.
 
 each_append : {A : Type 0} (P : A → Type 0) (xs ys : List A) → Each P xs → Each P ys → Each P (xs ++ ys)
 each_append P [] ys h k i x there = k i x there

@@ -52,7 +52,7 @@ use Rattle.trace_props.proofs.Ranging.{kind_known}
 use Rattle.trace_text.specs.Flights.{IsAreaShown, IsEnvShown, IsModeShown, IsRowShown, IsShown, IsWorldShown}
 use Rattle.scram_cli.proofs.ShownModes.{IsTold, Nothing, Told, act_idle, act_shown, decision_shown, task_told}
 
--- Lemmas on numbers.
+-- Lemmas that numbers from -1,000,000 to 1,000,000 can be shown.
 
 shown_between : (z : ℤ) → minus 1000000 ≤ℤ z → z ≤ℤ pos 1000000 → IsShown z
 shown_between (pos n) low high = omega (arith, ints, high)
@@ -61,7 +61,7 @@ shown_between (negsuc n) low high = omega (arith, ints, low)
 wider : (low high least most x : ℤ) → low ≤ℤ least → most ≤ℤ high → least ≤ℤ x → x ≤ℤ most → (low ≤ℤ x) × (x ≤ℤ high)
 wider low high least most x a b c d = (omega (arith, ints), omega (arith, ints))
 
--- Lemmas on the areas of applications.
+-- Lemmas that the areas of applications can be shown.
 
 -- Whether the range of word `i` of a kind lies from -1,000,000 to 1,000,000.
 abbrev is_small : ℕ → ℕ → Bool
@@ -140,7 +140,7 @@ area_past : (spec : Parts) (v : Env) (commits : ℕ → Bool) (state : State) (t
 area_past spec v commits state told a past (Nothing is) = rw is refl
 area_past spec v commits state told a past (Told o place is shown at) = absurd (let low = slice_get_within spec.apps a at.app at.there in omega (arith, low, past))
 
--- Lemmas on the world.
+-- A lemma that the altitude, climb, heading and bank of the world can be shown.
 
 world_shown : (world : World) → IsFlyable world → IsWorldShown world
 world_shown world flies =
@@ -159,7 +159,7 @@ world_shown world flies =
       bank = shown_between world.bank bank.0 bank.1;
     }
 
--- Lemmas on environments.
+-- Lemmas that the environment of a frame can be shown.
 
 rest_by : (script : ScriptParts) (f : ℕ) (few : ℕ) → ((x : ℕ) → few ≤ x → factor_at script x f ≡ 0) → (x : ℕ) → few ≤ x → slice_index (factors_at script f) x ≡ 0
 rest_by script f few h zero past = h 0 past
@@ -183,7 +183,7 @@ env_shown spec script f sound fits =
       rest = rest_by script f (length spec.factors) shows.rest;
     }
 
--- Lemmas on states.
+-- Lemmas that the states of a flight can be shown.
 
 start_by : (spec : Parts) (a : ℕ) → IsSpec spec → (place : Option Place) → IsAreaShown (start_area_at spec a place)
 start_by spec a sound None = zeros_shown
@@ -226,7 +226,7 @@ state_shown spec script sound (suc f) few =
       areas = λ a low. areas_shown spec sound v (λ p. commits spec script p f) state (phase_at spec (mode_decided spec f v state) f) before a zeros low;
     }
 
--- Lemmas on rows.
+-- Lemmas that the rows of a flight can be shown.
 
 idle_at : (value : ℕ → act_kinds.Act) (few : ℕ) → ((a : ℕ) → few ≤ a → value a ≡ act_names.Off) → (a : ℕ) → few ≤ a → slice_index_or (eight value) a act_names.Off ≡ act_names.Off
 idle_at value few h zero past = h 0 past

@@ -22,7 +22,7 @@ use Rattle.scram_cli.specs.declared.pages.Page.TheVariants.{Help, Version}
 abbrev pub mission_number : List ℕ → Option ℕ
 mission_number word = spelled_number 1000000 word
 
--- The form of a command that is followed by a number, or `None` if there is no such form.
+-- The form of a command and a word that spells a number, or `None` if there is no such form.
 abbrev pub form_of_number : List ℕ → List ℕ → Option (Form (List ℕ))
 form_of_number command word =
     if bytes_eq command (codes "gen") then option_map (λ (number : ℕ). Flight (Gen number)) (mission_number word)
@@ -101,7 +101,8 @@ abbrev pub form_of_six : List ℕ → List ℕ → List ℕ → List ℕ → Lis
 form_of_six command specification script unit frame step =
     if bytes_eq command (codes "pair") then option_map (λ (halt : UnitHalt). Flight (Pair specification script halt)) (unit_halt unit frame step) else None
 
--- The form of `choose` and the words after it, or `None` if there is no such form.
+-- The form `choose` with the name of a specification's file, the name of a configuration and the words of a state, or
+-- `None` if the words spell no state.
 abbrev pub choose_form : List ℕ → List ℕ → List (List ℕ) → Option (Form (List ℕ))
 choose_form specification conf state = option_map (λ (words : List StateWord). Specification (Choose specification conf words)) (state_in state)
 

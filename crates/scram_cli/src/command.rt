@@ -53,7 +53,7 @@ use trace_text::lines::Line;
 /// - `bounds SPEC` prints each bound that a specification must give.
 /// - `fill SPEC` prints a specification with bounds and a window that suffice.
 /// - `choices SPEC` prints what each rule chooses.
-/// - `choose SPEC CONF STATE..` prints what is chosen in a state.
+/// - `choose SPEC CONF STATE..` prints the configuration that is chosen from `CONF` in a state.
 /// - `props SPEC TRACE` judges a trace by a specification, which need not be accepted.
 /// - `summary SPEC TRACE`, `columns SPEC TRACE` and `picture SPEC TRACE` print what a trace shows.
 /// - `faults SPEC COUNT` prints each script with `COUNT` faults that keeps to the failure assumption.

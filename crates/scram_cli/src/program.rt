@@ -19,8 +19,8 @@ use std::rt;
 use std::sync::Wait;
 use std::thread::Threads;
 
-/// Answers the words after the program's name, with the files of the system and standard output. Returns both with
-/// their histories: the names and bytes that were read, in order, and the bytes that were written.
+/// Answers the words after the program's name, with the files of the system and standard output. Returns the status,
+/// the files with the names and bytes that were read, in order, and the output with the bytes that were written.
 ///
 /// The status and the bytes that were written are the answer to the words and to the bytes that were read. If the
 /// status is 0, what was flown is assured. Nothing is required of the files or the output.

@@ -13,12 +13,14 @@ use Rattle.form_base.specs.Specifications.{AsksSpecification}
 use Rattle.spec_forms.specs.Bounds.{bounds_text}
 use Rattle.spec_forms.specs.Lines.{accepted_line}
 
--- The answer to `check`. If the specification is not accepted, `shown` is the reason.
+-- The answer to `check` about a specification. `shown` is the reason why the specification is not accepted, or `None`
+-- if it is.
 abbrev pub check_answer : Parts → Option Shown → ℕ × List ℕ
 check_answer spec (Some shown) = (NOT_ACCEPTED, shown_line spec shown)
 check_answer spec None = (ANSWERED, accepted_line spec)
 
--- The answer to `bounds`. If the specification has too many environments in scope, `shown` is the refusal.
+-- The answer to `bounds` about a specification. `shown` is the refusal if too many environments are in scope, and
+-- `None` otherwise.
 abbrev pub bounds_answer : Parts → Option Shown → ℕ × List ℕ
 bounds_answer spec (Some shown) = (NOT_ACCEPTED, shown_line spec shown)
 bounds_answer spec None = (ANSWERED, bounds_text spec)
@@ -31,13 +33,13 @@ CheckAnswers specification = AsksSpecification specification (λ (spec : Parts).
 abbrev pub BoundsAnswers : List ℕ → Answer
 BoundsAnswers specification = AsksSpecification specification (λ (spec : Parts). WithoutFiles (Gives (bounds_answer spec (state_refusal spec))))
 
--- If `check` ends with status 0, it has read no other file, the specification is accepted, and the text is the line
--- of an accepted specification.
+-- If `check` ends with status 0, it has read only the file of the specification, the specification is accepted, and
+-- the text is the line of an accepted specification.
 abbrev pub AssuresCheck : List ℕ → History → List ℕ → Type 0
 AssuresCheck specification =
     OfSpecification specification (λ (spec : Parts) (reads : History) (text : List ℕ). (reads ≡ []) × Accepts spec × (text ≡ accepted_line spec))
 
--- If `bounds` ends with status 0, it has read no other file, and the text lists the required bounds of the
--- specification.
+-- If `bounds` ends with status 0, it has read only the file of the specification, and the text lists the required
+-- bounds of the specification.
 abbrev pub AssuresBounds : List ℕ → History → List ℕ → Type 0
 AssuresBounds specification = OfSpecification specification (λ (spec : Parts) (reads : History) (text : List ℕ). (reads ≡ []) × (text ≡ bounds_text spec))

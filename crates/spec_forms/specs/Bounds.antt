@@ -10,11 +10,11 @@ use Rattle.spec_forms.specs.Lines.{bound_line}
 abbrev pub bound_text_of : Parts → ℕ → ℕ → List ℕ
 bound_text_of spec i j = if is_bound_asked spec (conf_id i) j then bound_line spec (conf_id i) (conf_id j) else []
 
--- The lines of the required bounds from `i`, by target.
+-- The lines of the required bounds from `i`, in the order of their targets.
 abbrev pub bounds_text_from : Parts → ℕ → List ℕ
 bounds_text_from spec i = texts_below (bound_text_of spec i) (length spec.confs)
 
--- The lines of all required bounds, by source.
+-- The lines of all required bounds, in the order of their sources.
 abbrev pub bounds_text : Parts → List ℕ
 bounds_text spec = texts_below (bounds_text_from spec) (length spec.confs)
 

@@ -24,8 +24,8 @@ use scram_io::{Files, Sink, SinkFault};
 use scram_types::{ConfId, NoMemory, Spec};
 use std::alloc::Global;
 
-/// A specification with a set for each configuration. The set holds, as bits, the configurations to which a bound from
-/// it is required.
+/// A specification with a set for each configuration. Set `i` holds, as bits, the configurations to which a bound
+/// from configuration `i` is required.
 #[derive(Drop)]
 struct Asked {
     spec: Spec,
@@ -53,7 +53,7 @@ pub fn bounds<F: Files, K: Sink>(
     }
 }
 
-/// Reads the specification and finds the bounds that it must give.
+/// Reads the specification and finds the bounds that it must give, or returns the refusal.
 fn read_asked<F: Files>(alloc: Global, specification: &str, files: &mut F) -> Result<Asked, Refusal>
     ensures reads { Prepares (BoundsAnswers specification.now) GivesBounds (specification.now ∷ []) (F.state files.old) (F.state files.new) result }
     ensures asked { IfOk result AreAsked }
@@ -82,7 +82,8 @@ fn find_bounds(alloc: Global, spec: Spec) -> Result<Asked, Refusal>
     }
 }
 
-/// Returns a set for each configuration. It holds, as bits, the configurations to which a bound from it is required.
+/// Returns a set for each configuration. Set `i` holds, as bits, the configurations to which a bound from
+/// configuration `i` is required.
 ///
 /// # Errors
 ///
@@ -155,7 +156,8 @@ fn put_bound<K: Sink>(
     }
 }
 
-/// Returns `true` if a bound from `from` to `to` is required. The set of targets for which one is required is `set`.
+/// Returns `true` if a bound from `from` to `to` is required. `set` holds, as bits, the configurations to which a
+/// bound from `from` is required.
 pub fn is_asked(spec: &Spec, set: u16, from: ConfId, to: ConfId) -> bool
     requires set { set ≡ asked_bounds spec.now from }
     requires to { to.0 < length spec.now.confs }

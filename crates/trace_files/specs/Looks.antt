@@ -16,7 +16,7 @@ use Rattle.trace_files.specs.Traces.{AsksTrace, SaysTrace}
 abbrev pub View : Type 0
 View = Parts → List Row → List Report → List ℕ
 
--- The answer of a form that shows a view, to the names of the files of a specification and of a trace. The
+-- The answer of a form that shows a view, given the names of the files of a specification and of a trace. The
 -- specification need not be accepted.
 abbrev pub ViewAnswers : View → List ℕ → List ℕ → Answer
 ViewAnswers view specification trace =
@@ -29,7 +29,7 @@ AssuresView view specification trace =
     OfSpecification specification (λ (spec : Parts). OfDocument (SaysTrace spec) trace (λ (flown : Flown) (reads : History) (text : List ℕ).
     (reads ≡ []) × (text ≡ view spec flown.rows flown.reports)))
 
--- The status is that of an answer, and the text is the view of a flight.
+-- The status is 0, and the text is the view of a flight.
 abbrev pub GivesView : View → Flight → ℕ → List ℕ → Type 0
 GivesView view flight = Gives (ANSWERED, view flight.spec flight.flown.rows flight.flown.reports)
 

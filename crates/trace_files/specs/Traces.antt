@@ -26,6 +26,7 @@ pub record BreaksTrace (spec : Parts) (refusal : ℕ × List ℕ) (bytes : List 
 abbrev pub long_trace : ℕ × List ℕ
 long_trace = (BROKEN_TRACE, broken_trace_line (record { line = 0; rule = WRONG_END }))
 
--- The answer to the name of a trace's file, given `Then`, which gives the answer to the trace in the file.
+-- The answer if `name` is the name of a trace's file: the answer `Then` to the trace in the file, or a report that
+-- the file was not read, is too long or breaks a rule.
 abbrev pub AsksTrace : Parts → List ℕ → (Flown → Answer) → Answer
 AsksTrace spec name Then = AnswersFile MAX_TRACE_BYTES long_trace name (AnswersDocument (SaysTrace spec) (BreaksTrace spec) Then)

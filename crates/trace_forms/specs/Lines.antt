@@ -9,6 +9,7 @@ use Rattle.form_base.specs.Lines.{counts_text}
 abbrev pub holds_line : Flown → List ℕ
 holds_line flown = codes "holds:" ++ counts_text flown.rows flown.reports ++ codes "\n"
 
--- The line for a trace that breaks a property, with the number of the first such property and the frame.
+-- The line for a trace that breaks a property, with the number of the first such property and the frame in which the
+-- trace breaks it.
 abbrev pub broken_line : Broken → List ℕ
 broken_line broken = codes "broken: SP" ++ decimal (property_number broken.property) ++ codes " at frame " ++ decimal broken.frame ++ codes "\n"

@@ -22,7 +22,8 @@ pub fn make_holds_line(flown: &Flown) -> Line
     line
 }
 
-/// Returns the line for a trace that breaks a property, with the number of the first such property and the frame.
+/// Returns the line for a trace that breaks a property, with the number of the first such property and the frame in
+/// which the trace breaks it.
 pub fn make_broken_line(broken: Broken) -> Line
     ensures { result ≡ broken_line broken }
 {
