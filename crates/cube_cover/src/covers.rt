@@ -104,8 +104,8 @@ fn find(
     })
 }
 
-// Returns the first environment of the cubes, by number, in which another target is chosen from `t`, or `None` if
-// there is no such environment. If `t` is `i`, no environment counts, since the choice of `i` from itself is settled.
+// Returns the first environment of the cubes, by number, in which the table chooses from `t` a configuration other
+// than `t`, or `None` if there is no such environment. If `t` is `i`, the result is `None`.
 fn find_unsettled(
     alloc: Global,
     spec: &Spec,

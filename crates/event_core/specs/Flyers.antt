@@ -1,14 +1,15 @@
 -- Processors that fly with a core.
 use Rattle.std.specs.Prelude.{◌≡◌, ℕ, ◌<◌, List, slice_index_or, Option, None, IfSome}
 use Rattle.fail_stop.specs.declared.snapshots.Draft.{Draft}
-use Rattle.fail_stop.specs.Events.{Place}
+use Rattle.bank_words.specs.declared.events.Event.{Event}
+use Rattle.fail_stop.specs.Events.{Place, proc_after}
 use Rattle.fail_stop.specs.Flyers.{AreFlyersAt}
 use Rattle.fail_stop.specs.ScriptFlights.{flight_of}
 use Rattle.frame_model.specs.Flights.{draft}
 use Rattle.scram_types.specs.Scripts.{ScriptParts}
 use Rattle.scram_types.specs.Specification.{Parts}
 use Rattle.event_core.specs.declared.flyers.Flyers.{Flyers}
-use Rattle.event_core.specs.Cores.{CoreParts, core_places}
+use Rattle.event_core.specs.Cores.{CoreParts, core_flight, core_places}
 
 -- If processor `p` has a last draft, it is the draft of `p` in its frame of the one-thread trace.
 abbrev pub IsLastDraft : Parts → ScriptParts → ℕ → Option Draft → Type 0
@@ -27,3 +28,7 @@ pub record FlyersFit {X : Type 0} {Y : X → Type 0} (spec : Parts) (script : Sc
 -- The processors fly with the core: they are at the places of its machine.
 abbrev pub FlyBy : {X : Type 0} {Y : X → Type 0} → CoreParts → Flyers X Y → Type 0
 FlyBy core flyers = FlyersFit core.spec core.script (core_places core).proc flyers
+
+-- The processors fly with the core after it has made an event.
+abbrev pub FlyAfter : {X : Type 0} {Y : X → Type 0} → CoreParts → Event → Flyers X Y → Type 0
+FlyAfter core event flyers = FlyersFit core.spec core.script (proc_after (core_flight core) (core_places core) event) flyers

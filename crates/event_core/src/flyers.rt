@@ -2,10 +2,10 @@
 
 ghost use Rattle.std.specs.Prelude.{◌≡◌, ◌<◌, IfOk, IfSome, Some, length, map, ℕ};
 ghost use Rattle.event_core.specs.Cores.{IsNextIn, IsWordIn, core_places, core_flight};
-ghost use Rattle.event_core.specs.Flyers.{FlyBy, FlyersFit, IsLastDraft};
+ghost use Rattle.event_core.specs.Flyers.{FlyAfter, FlyBy, FlyersFit, IsLastDraft};
 ghost use Rattle.event_core.specs.Places.{HasLooked};
 ghost use Rattle.bank_words.specs.declared.events.Event.TheVariants.{Halt as HaltEvent, Start as StartEvent};
-ghost use Rattle.fail_stop.specs.Events.{At, frame_of, proc_after};
+ghost use Rattle.fail_stop.specs.Events.{At, frame_of};
 ghost use Rattle.fail_stop.specs.Flights.{word_in};
 ghost use Rattle.fail_stop.specs.Flyers.{unit_rack};
 ghost use Rattle.fail_stop.specs.ScriptFlights.{draft_words, image_words};
@@ -54,7 +54,7 @@ impl Flyers {
         requires next { IsNextIn core.now event }
         requires fits { FlyBy core.now self.old }
         ensures word { IsWordIn core.now event result }
-        ensures fits { FlyersFit core.now.spec core.now.script (proc_after (core_flight core.now) (core_places core.now) event) self.new }
+        ensures fits { FlyAfter core.now event self.new }
     {
         let _procs = spec.procs.items().len();
         match event {
@@ -81,7 +81,7 @@ impl Flyers {
         requires few { p.0 < 8 }
         requires next { IsNextIn core.now (StartEvent p) }
         requires fits { FlyBy core.now self.old }
-        ensures fits { FlyersFit core.now.spec core.now.script (proc_after (core_flight core.now) (core_places core.now) (StartEvent p)) self.new }
+        ensures fits { FlyAfter core.now (StartEvent p) self.new }
     {
         self.all[usize::from(p.0)].start();
     }
@@ -90,7 +90,7 @@ impl Flyers {
         requires known { p.0 < length core.now.spec.procs }
         requires few { p.0 < 8 }
         requires fits { FlyBy core.now self.old }
-        ensures fits { FlyersFit core.now.spec core.now.script (proc_after (core_flight core.now) (core_places core.now) (HaltEvent p)) self.new }
+        ensures fits { FlyAfter core.now (HaltEvent p) self.new }
     {
         self.all[usize::from(p.0)].halt(core.frame_of(p));
     }

@@ -30,8 +30,8 @@ pub answered_tells : (text : List ℕ) (old new : SinkState) (code : ℕ) → Is
 answered_tells text old new code taken =
     record { status = ANSWERED; text = text; answer = inl refl; read = λ same. absurd (omega (arith, same)); written = λ same. absurd (omega (arith, same)); taken = taken }
 
--- If the sink took a text, it took the answer that has this text and its status. The status is neither that of an
--- unread file nor that of unwritten output.
+-- If the sink took a text or a prefix of it, the result is correct for the answer with this status and text. The
+-- status must be neither that of an unread file nor that of unwritten output.
 pub given_tells : (status : ℕ) (text : List ℕ) (old new : SinkState) (code : ℕ) → status ≢ UNREAD_FILE → status ≢ UNWRITTEN_OUTPUT
     → IsTaken old new code status text → Tells (Gives (status, text)) old new code
 given_tells status text old new code read written taken =

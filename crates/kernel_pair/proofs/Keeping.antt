@@ -1,4 +1,5 @@
--- The opening has the invariant, and so has each state of each schedule.
+-- Lemmas that the invariant of a pair holds in its opening, and in each state that a schedule reaches from a state in
+-- which it holds.
 use Rattle.std.proofs.Common.{◌≡◌, ℕ, refl, sym, ◌∙◌, arith, List, [], ◌∷◌}
 use Rattle.std.specs.Prelude.{Option}
 use Rattle.fail_stop.specs.Flights.{Flight, Flies, last_commit, side, end_before, bank_before}

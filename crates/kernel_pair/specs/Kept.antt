@@ -7,8 +7,8 @@ use Rattle.fail_stop.specs.Kept.{mark_at, end_at, bank_at, kernel_at, release_at
 use Rattle.kernel_pair.specs.declared.events.UnitHalt.{UnitHalt}
 use Rattle.kernel_pair.specs.Pairs.{Processor, KernelUnit, Pair, other_unit, frame_to_make}
 
--- Processor `p` may be in frame `f` after `n` steps. It is at the beginning of the frame, is up in the frame, and is
--- done with the preceding frame.
+-- Processor `p` may be at the beginning of frame `f`, after `n` = 0 steps. The frame is at most the last one. The
+-- processor is up in it and is done with the preceding frame.
 pub record Waiting (m : Flight) (p f n : ℕ) : Type 0 where
   pub fresh : n ≡ 0
   pub within : f ≤ m.frames

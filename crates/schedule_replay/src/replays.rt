@@ -2,10 +2,10 @@
 
 ghost use Rattle.std.specs.Prelude.{◌≡◌, ◌++◌, ◌∷◌, [], List, Err, IfErr, IfOk, IfSome, None, Some, length, slice_get, take};
 ghost use Rattle.event_core.specs.Cores.{IsNextIn, IsWordIn, core_places, core_words, core_flight};
-ghost use Rattle.event_core.specs.Flyers.{FlyBy, FlyersFit};
+ghost use Rattle.event_core.specs.Flyers.{FlyAfter, FlyBy};
 ghost use Rattle.event_core.specs.Replays.{IsReplay};
 ghost use Rattle.fail_stop.specs.Ends.{IsOver};
-ghost use Rattle.fail_stop.specs.Events.{next_of_actor, proc_after};
+ghost use Rattle.fail_stop.specs.Events.{next_of_actor};
 ghost use Rattle.fault_script.specs.Fits.{Fits};
 ghost use Rattle.schedule_replay.specs.declared.replays.ReplayError.TheVariants.{NoMemory as WantsMemory};
 ghost use Rattle.schedule_replay.specs.Replaying.{AnswersReplay, first_next, next_below};
@@ -133,8 +133,7 @@ fn word_where_next(core: &Core, spec: &Spec, flyers: &mut Flyers, event: Event) 
     requires spec { core.now.spec ≡ spec.now }
     requires fits { FlyBy core.now flyers.old }
     ensures word { IsNextIn core.now event → IsWordIn core.now event result }
-    ensures fits { IsNextIn core.now event
-        → FlyersFit core.now.spec core.now.script (proc_after (core_flight core.now) (core_places core.now) event) flyers.new }
+    ensures fits { IsNextIn core.now event → FlyAfter core.now event flyers.new }
 {
     if core.next_of_actor(event) == Some(event) {
         flyers.word(core, spec, event)

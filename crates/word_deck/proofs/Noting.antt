@@ -65,13 +65,15 @@ fresh procs one other some same at = below procs other (omega (arith, some, ap k
 pub all : (procs : ℕ) (kseat : KSeat) → kernel_steps kseat ≡ procs → frames_noted procs kseat ≡ suc (kernel_frame kseat)
 all procs kseat same = let e : nat_lt (kernel_steps kseat) procs ≡ false = grind (arith, nat_tests) in rw e refl
 
-pub done_log : (procs frames : ℕ) (kseat : KSeat) → IsKernelBetween procs frames kseat → IsKernelDone procs frames kseat → frames_noted procs kseat ≡ frames
-done_log procs frames kseat between (inl none) =
+pub done_log : (mission : MissionParts) (kseat : KSeat) → IsKernelBetween (length mission.spec.procs) mission.script.frames kseat → IsKernelDone mission kseat
+    → frames_noted (length mission.spec.procs) kseat ≡ mission.script.frames
+done_log mission kseat between (inl none) =
+    let procs = length mission.spec.procs in
     let within = between.within in
     let more : kernel_steps kseat ≢ procs = (λ same. let last = between.last same in omega (arith, none, last)) in
     let less : kernel_steps kseat < procs = let most = between.steps in grind (arith, more, most) in
     below procs kseat less ∙ omega (arith, within, none)
-done_log procs frames kseat between (inr last) = all procs kseat last.1 ∙ last.0
+done_log mission kseat between (inr last) = all (length mission.spec.procs) kseat last.1 ∙ last.0
 
 -- Lemmas on the values that are given to the log and to the words.
 

@@ -21,8 +21,9 @@ pub record AreNoted (mission : MissionParts) (k n : ℕ) (noted : Noted) : Type 
   pub images : (p : ℕ) → p < n → image_in noted.images p ≡ image_after mission.spec mission.script p (suc k)
 
 -- No frame is flown, or the kernel has made its last note.
-abbrev pub IsKernelDone : ℕ → ℕ → KSeat → Type 0
-IsKernelDone procs frames kseat = (frames ≡ 0) ⊎ ((suc (kernel_frame kseat) ≡ frames) × (kernel_steps kseat ≡ procs))
+abbrev pub IsKernelDone : MissionParts → KSeat → Type 0
+IsKernelDone mission kseat =
+    (mission.script.frames ≡ 0) ⊎ ((suc (kernel_frame kseat) ≡ mission.script.frames) × (kernel_steps kseat ≡ length mission.spec.procs))
 
 -- The kernel is between two turns. It has not noted all processors of its frame, or this is the last frame.
 pub record IsKernelBetween (procs frames : ℕ) (kseat : KSeat) : Type 0 where

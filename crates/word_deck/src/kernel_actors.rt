@@ -40,7 +40,6 @@ pub(crate) trait KernelActor: Drop {
 }
 
 impl<'a> KernelActor for KernelCrew<'a> {
-    ghost use Rattle.std.specs.Prelude.{length};
     ghost use Rattle.word_table.specs.Tables.{IsKernelSeatOf};
     ghost use Rattle.word_deck.specs.Kernels.{IsKernelDone};
 
@@ -48,7 +47,7 @@ impl<'a> KernelActor for KernelCrew<'a> {
 
     ghost seated = { λ words kernel. IsKernelSeatOf words kernel.kseat };
 
-    ghost done = { λ words kernel. IsKernelDone (length (mission_in words).spec.procs) (mission_in words).script.frames kernel.kseat };
+    ghost done = { λ words kernel. IsKernelDone (mission_in words) kernel.kseat };
 
     ghost lent = { λ kernel. 0 };
 

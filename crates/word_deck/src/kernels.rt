@@ -75,7 +75,7 @@ impl<'a> KernelCrew<'a> {
         ensures mission { self.new.mission ≡ self.old.mission }
         ensures seat { IsKernelSeatOf words.now self.new.kseat }
         ensures place { IsKernelMoved result (length (mission_in words.now).spec.procs) (mission_in words.now).script.frames self.old.kseat self.new.kseat }
-        ensures finished { (result ≡ Finished) ↔ IsKernelDone (length (mission_in words.now).spec.procs) (mission_in words.now).script.frames self.new.kseat }
+        ensures finished { (result ≡ Finished) ↔ IsKernelDone (mission_in words.now) self.new.kseat }
     {
         let procs = self.mission.spec().procs.items().len() as u32;
         let frames = self.mission.script().frames;
@@ -102,7 +102,7 @@ impl<'a> KernelCrew<'a> {
     #[tactic(auto, using(crate::proofs::Noting::done_log))]
     pub(crate) fn into_parts(self) -> (KSeat, Kernel<'a>)
         ensures seat { result.0 ≡ self.entry.kseat }
-        ensures kernel { let m = self.entry.mission.now in IsKernelDone (length m.spec.procs) m.script.frames self.entry.kseat
+        ensures kernel { let m = self.entry.mission.now in IsKernelDone m self.entry.kseat
             → result.1 ≡ kernel_after m.spec m.script m.script.frames }
     {
         let KernelCrew {

@@ -29,7 +29,7 @@ impl<'a, 'w, W: Watch> KernelActor for WatchedKernel<'a, 'w, W> {
     ghost seated = { λ words crew. IsKernelSeatOf words crew.kernel.kseat × (W.watched crew.watch.now ≡ crew.kernel.mission.now)
         × (W.taken crew.watch.now ≡ frames_noted (length crew.kernel.mission.now.spec.procs) crew.kernel.kseat) };
 
-    ghost done = { λ words crew. IsKernelDone (length (mission_in words).spec.procs) (mission_in words).script.frames crew.kernel.kseat
+    ghost done = { λ words crew. IsKernelDone (mission_in words) crew.kernel.kseat
         × (W.taken crew.watch.now ≡ (mission_in words).script.frames) };
 
     ghost lent = { λ crew. crew.watch.ghost_name };

@@ -93,7 +93,7 @@ impl<'a> WordFlight<'a> {
         ensures mission { result.words.mission ≡ self.entry.mission }
         ensures table { result.words.table.table ≡ self.entry.words.table }
         ensures kernel { IsKernelSeatOf result.words.table result.kseat }
-        ensures kernel_done { IsKernelDone (length self.entry.mission.now.spec.procs) self.entry.mission.now.script.frames result.kseat }
+        ensures kernel_done { IsKernelDone self.entry.mission.now result.kseat }
         ensures seats { AreSeatsOf result.words.table result.seats.items }
         ensures landed { AreLanded result.words.table result.seats.items }
     {
@@ -106,7 +106,7 @@ impl<'a> WordFlight<'a> {
         ensures mission { result.words.mission ≡ self.entry.mission }
         ensures table { result.words.table.table ≡ self.entry.words.table }
         ensures kernel { IsKernelSeatOf result.words.table result.kseat }
-        ensures kernel_done { IsKernelDone (length self.entry.mission.now.spec.procs) self.entry.mission.now.script.frames result.kseat }
+        ensures kernel_done { IsKernelDone self.entry.mission.now result.kseat }
         ensures seats { AreSeatsOf result.words.table result.seats.items }
         ensures landed { AreLanded result.words.table result.seats.items }
     {
@@ -133,7 +133,7 @@ impl<'a> WordFlight<'a> {
         ensures mission { result.words.mission ≡ self.entry.mission }
         ensures table { result.words.table.table ≡ self.entry.words.table }
         ensures kernel { IsKernelSeatOf result.words.table result.kseat }
-        ensures kernel_done { IsKernelDone (length self.entry.mission.now.spec.procs) self.entry.mission.now.script.frames result.kseat }
+        ensures kernel_done { IsKernelDone self.entry.mission.now result.kseat }
         ensures seats { AreSeatsOf result.words.table result.seats.items }
         ensures landed { AreLanded result.words.table result.seats.items }
         ensures watched { W.watched watch.new ≡ self.entry.mission.now }
@@ -198,14 +198,14 @@ fn land_all<'a>(
     requires mission { mission_in resources.words ≡ mission.now }
     requires same { kernel.mission.now ≡ mission.now }
     requires seated { IsKernelSeatOf resources.words kernel.kseat }
-    requires done { IsKernelDone (length mission.now.spec.procs) mission.now.script.frames kernel.kseat }
+    requires done { IsKernelDone mission.now kernel.kseat }
     requires seats { AreLanded resources.words seats.items }
     requires all { vec_len seats ≡ length mission.now.spec.procs }
     ensures flown { IsTraceOf mission.entry.now result.flown }
     ensures mission { result.words.mission ≡ mission.entry }
     ensures table { result.words.table.table ≡ resources.words.table }
     ensures kernel { IsKernelSeatOf result.words.table result.kseat }
-    ensures kernel_done { IsKernelDone (length mission.entry.now.spec.procs) mission.entry.now.script.frames result.kseat }
+    ensures kernel_done { IsKernelDone mission.entry.now result.kseat }
     ensures seats { AreSeatsOf result.words.table result.seats.items }
     ensures landed { AreLanded result.words.table result.seats.items }
 {

@@ -32,8 +32,8 @@ module _ (mission : MissionParts) (slots id : ℕ) (me : Sat) (y : IsSound (miss
   read_allows i planned = λ s r homes here small.
       (me.0, keeps, tt, loaded m mission s id me.0 y r here me.0 i refl refl, ((refl, empty), shown mission s id me.0 i r here planned))
 
-  -- Lemmas on the load that a seat with only one actor makes in place of a store. The load is a step if it finds the
-  -- word `v` that the store would write.
+  -- Lemmas on the load that a seat with only one actor makes in place of a store. If the load finds the word `v` that
+  -- the store would write, the actor has made a step. Otherwise the seat stays as it is.
   module _ (a : Actor) (v : ℕ) (alone : me.0.actors ≡ a ∷ []) (planned : me.0.mission ≡ Some mission) (due : word_due m (a ∷ []) ≡ v) where
     confirm_told : (i : ℕ) (w : View) (n : ℕ) (b : Bool) → nat_eq n v ≡ b → MatchBool b (Has (w, me.1) (each_actor one_more me.0)) (Has (w, me.1) me.0) → confirms (step slots i 0 0 none) me n (w, me.1)
     confirm_told i w n b is told =

@@ -1,4 +1,4 @@
--- Tables, their seats, and the values of a mission at a table.
+-- Tables and their seats, and the images, drafts and marks of a table's mission.
 use Rattle.std.specs.Prelude.{◌≡◌, ◌<◌, ℕ, ℤ, Bool, not, ◌&&◌, List, [], length, slice_get, slice_index, slice_index_or, Option, Some, is_none}
 use Rattle.bank_words.specs.declared.events.Event.{Event}
 use Rattle.bank_words.specs.declared.images.KernelImage.{KernelImage}

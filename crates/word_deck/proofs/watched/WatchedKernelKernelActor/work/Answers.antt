@@ -35,4 +35,4 @@ returns-clause-done g c = λ is.
     let done = c.turn-turn.ensures.finished.0 is in
     let same : mission_in c.args.words.now ≡ new.mission.now = search rules in
     let here = rw same at done in
-    (done, c.hand_row.ensures.taken ∙ count ∙ done_log (length new.mission.now.spec.procs) new.mission.now.script.frames new.kseat new.keeps.between here ∙ ap (λ m. m.script.frames) (sym same))
+    (done, c.hand_row.ensures.taken ∙ count ∙ done_log new.mission.now new.kseat new.keeps.between here ∙ ap (λ m. m.script.frames) (sym same))
