@@ -44,8 +44,8 @@ abbrev pub restart_of_fault : Fault → Option RestartAt
 restart_of_fault fault = restart_fault_in fault.frame fault.kind
 
 -- The script with a given number of frames and given faults.
-abbrev pub faults_in_frames : ℕ → List Fault → ScriptParts
-faults_in_frames frames faults = record {
+abbrev pub script_in_frames : ℕ → List Fault → ScriptParts
+script_in_frames frames faults = record {
   frames = frames;
   changes = filter_map change_of_fault faults;
   halts = filter_map halt_of_fault faults;
@@ -63,7 +63,7 @@ frames_of_faults spec faults = last_fault_frame faults + greatest_bound spec.bou
 
 -- The script of a list of faults.
 abbrev pub script_of_faults : Parts → List Fault → ScriptParts
-script_of_faults spec faults = faults_in_frames (frames_of_faults spec faults) faults
+script_of_faults spec faults = script_in_frames (frames_of_faults spec faults) faults
 
 -- Whether a script keeps the failure assumption.
 abbrev pub is_within : Parts → ScriptParts → Bool

@@ -8,7 +8,7 @@ ghost use Rattle.coverage_check.specs.Timing.{greatest_bound};
 ghost use Rattle.fault_family.specs.NextFaults.{candidates, factor_changes, frames_after, gaps, proc_halts, kinds_of, numbers_below, restarts_of, factor_value_count};
 ghost use Rattle.fault_family.specs.Families.{differs_in, may_follow};
 ghost use Rattle.fault_family.specs.Faults.{may_come_after};
-ghost use Rattle.fault_family.specs.Scripts.{last_fault_frame, faults_in_frames};
+ghost use Rattle.fault_family.specs.Scripts.{last_fault_frame, script_in_frames};
 
 use crate::faults::{Fault, FaultKind, may_come_after};
 use crate::scripts::{greatest, has_halted_before, value_at};
@@ -210,7 +210,7 @@ fn may_come_after_all(before: &[Fault], fault: &Fault) -> bool
 
 // Returns whether a fault makes a difference to the script of the preceding faults.
 fn differs_in(before: &[Fault], fault: &Fault) -> bool
-    ensures { (frames : ℕ) → result ≡ differs_in (faults_in_frames frames before.now) fault.now.frame fault.now.kind }
+    ensures { (frames : ℕ) → result ≡ differs_in (script_in_frames frames before.now) fault.now.frame fault.now.kind }
 {
     match fault.kind {
         FaultKind::Change { factor, value } => value_at(
