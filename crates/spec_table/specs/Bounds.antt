@@ -15,13 +15,15 @@ use Rattle.spec_members.specs.declared.rule.TheConstants.{TWICE_IN_LIST}
 use Rattle.scram_doc.specs.Lists.{elements_at}
 use Rattle.spec_table.specs.Choices.{read_conf_id}
 
--- The target of a pair of configurations that has no bound yet.
+-- The target that a value names, given the bounds `done` and the source `from`, or the first document rule that the
+-- value breaks. The pair of source and target must have no bound in `done`.
 abbrev pub read_new_target : List Conf → List Bound → ConfId → List ℕ → Data → Result ConfId DocFault
 read_new_target confs done from at d =
     chain (read_conf_id confs at d) (λ (to : ConfId).
     if is_some (bound_in done from.0 to.0) then broken TWICE_IN_LIST at else Ok to)
 
--- A bound for a pair of configurations that has no bound yet.
+-- The bound that a value encodes, given the configurations and the bounds `done` before it, or the first document
+-- rule that the value breaks. The pair of configurations must have no bound in `done`.
 abbrev pub read_bound : List Conf → List ℕ → List Bound → Data → Result Bound DocFault
 read_bound confs at done d =
     chain (object_at at d) (λ (_ : ⊤).
@@ -34,6 +36,6 @@ read_bound confs at done d =
     chain (whole_at 1 1001 (member_path at (codes "frames")) frames) (λ (frames : ℕ).
     Ok (record { from = from; to = to; frames = frames })))))))))
 
--- The bounds of a document, 0 to 144 of them.
+-- The 0 to 144 bounds that a value encodes, or the first document rule that it breaks.
 abbrev pub read_bounds : List Conf → List ℕ → Data → Result (List Bound) DocFault
 read_bounds confs at d = elements_at (read_bound confs) 0 144 at d

@@ -22,36 +22,39 @@ use Rattle.spec_members.specs.Names.{read_named, name_of_conf, name_of_factor}
 use Rattle.scram_doc.specs.Numbering.{itself}
 use Rattle.spec_table.specs.Sets.{read_procs_set}
 
--- The configuration that a value names.
+-- The configuration that a value names, or the first document rule that the value breaks.
 abbrev pub read_conf_id : List Conf → List ℕ → Data → Result ConfId DocFault
 read_conf_id confs at d = ok_map (λ (c : ℕ). record { 0 = c }) (read_named name_of_conf confs UNKNOWN_CONFIGURATION at d)
 
--- The configuration that a text names, or none if the text is `*`.
+-- The configuration that a text names, `None` if the text is `*`, or the document rule that the text breaks.
 abbrev pub source_named : List Conf → List ℕ → List ℕ → Result (Option ConfId) DocFault
 source_named confs at text =
     if bytes_eq text (codes "*") then Ok None
     else ok_map (λ (c : ℕ). Some (record { 0 = c })) (or_broken UNKNOWN_CONFIGURATION at (number_named name_of_conf confs text))
 
--- The configuration that a value names, or none if it is `*`.
+-- The configuration that a value names, `None` if the value is `*`, or the first document rule that the value breaks.
 abbrev pub read_source : List Conf → List ℕ → Data → Result (Option ConfId) DocFault
 read_source confs at d = chain (text_at at d) (λ (text : List ℕ). source_named confs at text)
 
--- A required value is one of factor `f`.
+-- Whether one of the required values is a value of factor `f`.
 abbrev pub wants_factor : List Want → ℕ → Bool
 wants_factor wants f = list_any (λ (want : Want). want.factor.0 == f) wants
 
--- A factor that is not yet among the required ones.
+-- The number of the factor that a value names, or the first document rule that the value breaks. The required values
+-- `done` must have no value of that factor.
 abbrev pub read_new_factor : List Factor → List Want → List ℕ → Data → Result ℕ DocFault
 read_new_factor factors done at d =
     chain (read_named name_of_factor factors UNKNOWN_FACTOR_OR_VALUE at d) (λ (f : ℕ).
     if wants_factor done f then broken TWICE_IN_LIST at else Ok f)
 
--- A value of the factor, as an index in its values.
+-- The index of the value of a factor that a text of the document names, or the first document rule that it breaks.
+-- There is no such value if there is no factor.
 abbrev pub read_value_of : Option Factor → List ℕ → Data → Result ℕ DocFault
 read_value_of None at d = broken UNKNOWN_FACTOR_OR_VALUE at
 read_value_of (Some factor) at d = read_named itself factor.values UNKNOWN_FACTOR_OR_VALUE at d
 
--- A required value, of a factor for which the rule requires no value yet.
+-- The required value that a value encodes, given the factors and the required values `done` before it, or the first
+-- document rule that the value breaks. No value in `done` may be one of the same factor.
 abbrev pub read_want : List Factor → List ℕ → List Want → Data → Result Want DocFault
 read_want factors at done d =
     chain (object_at at d) (λ (_ : ⊤).
@@ -62,7 +65,8 @@ read_want factors at done d =
     chain (read_value_of (slice_get factors f) (member_path at (codes "value")) value) (λ (value : ℕ).
     Ok (record { factor = record { 0 = f }; value = value })))))))
 
--- A rule of the choice table.
+-- The rule of the choice table that a value encodes, given the processors, configurations and factors that it may
+-- name, or the first document rule that the value breaks.
 abbrev pub read_choice : List Proc → List Conf → List Factor → List ℕ → List Choice → Data → Result Choice DocFault
 read_choice procs confs factors at done d =
     chain (object_at at d) (λ (_ : ⊤).
@@ -77,6 +81,6 @@ read_choice procs confs factors at done d =
     chain (read_conf_id confs (member_path at (codes "to")) to) (λ (to : ConfId).
     Ok (record { from = from; wants = wants; up = up; to = to })))))))))))
 
--- The choice table, with 0 to 64 rules.
+-- The 0 to 64 rules of the choice table that a value encodes, or the first document rule that it breaks.
 abbrev pub read_choices : List Proc → List Conf → List Factor → List ℕ → Data → Result (List Choice) DocFault
 read_choices procs confs factors at d = elements_at (read_choice procs confs factors) 0 64 at d

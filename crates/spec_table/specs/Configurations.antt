@@ -17,24 +17,26 @@ use Rattle.scram_doc.specs.Lists.{elements_at, folded_from}
 use Rattle.spec_members.specs.Names.{read_new_name, read_named, name_of_proc, name_of_app, name_of_conf}
 use Rattle.spec_members.specs.Modes.{read_kind_mode}
 
--- The entry of a list for application `a`, if there is one.
+-- The entry of a list for application `a`, or `None` if there is none.
 abbrev pub given : {A : Type 0} → List (Option A) → ℕ → Option A
 given {A} xs a = option_and_then (λ (x : Option A). x) (slice_get xs a)
 
--- An application for which a list has no entry yet.
+-- The number of the application that a value names, or the first document rule that the value breaks. The list `xs`
+-- must have no entry for that application.
 abbrev pub read_new_app : {A : Type 0} → List AppSpec → List (Option A) → List ℕ → Data → Result ℕ DocFault
 read_new_app apps xs at d =
     chain (read_named name_of_app apps UNKNOWN_APPLICATION at d) (λ (a : ℕ).
     if is_some (given xs a) then broken TWICE_IN_LIST at else Ok a)
 
--- A mode of the application's kind that the application lists.
+-- The mode that a value names, or the first document rule that the value breaks. The mode must be one of the
+-- application's kind, and the application must list it.
 abbrev pub read_listed_mode : Option AppSpec → List ℕ → Data → Result ℕ DocFault
 read_listed_mode None at d = broken MODE_NOT_LISTED at
 read_listed_mode (Some app) at d =
     chain (read_kind_mode app.kind.0 at d) (λ (mode : ℕ).
     if is_some (mode_in app.modes mode) then Ok mode else broken MODE_NOT_LISTED at)
 
--- The places with one further place.
+-- The places with the further place that a value encodes, or the first document rule that the value breaks.
 abbrev pub read_place : List Proc → List AppSpec → List ℕ → List (Option Place) → Data → Result (List (Option Place)) DocFault
 read_place procs apps at places d =
     chain (object_at at d) (λ (_ : ⊤).
@@ -47,12 +49,14 @@ read_place procs apps at places d =
     chain (read_named name_of_proc procs UNKNOWN_PROCESSOR (member_path at (codes "on")) on) (λ (proc : ℕ).
     Ok (set places a (Some (record { mode = record { 0 = mode }; proc = record { 0 = proc } })))))))))))
 
--- The places of applications. An application without a given place is off.
+-- The places that a value encodes, 0 to 8 of them, or the first document rule that the value breaks. An application
+-- without a given place is off.
 abbrev pub read_place_list : List Proc → List AppSpec → List ℕ → Data → Result (List (Option Place)) DocFault
 read_place_list procs apps at d =
     chain (list_at 0 8 at d) (λ (ds : Items). folded_from (read_place procs apps) at 0 (replicate 8 None) ds)
 
--- A configuration with a new name.
+-- The configuration that a value encodes, or the first document rule that the value breaks. No configuration in
+-- `done` may have its name.
 abbrev pub read_conf : List Proc → List AppSpec → List ℕ → List Conf → Data → Result Conf DocFault
 read_conf procs apps at done d =
     chain (object_at at d) (λ (_ : ⊤).
@@ -63,6 +67,6 @@ read_conf procs apps at done d =
     chain (read_place_list procs apps (member_path at (codes "apps")) places) (λ (places : List (Option Place)).
     Ok (record { name = name; places = places })))))))
 
--- The configurations of a document, 1 to 12 of them.
+-- The 1 to 12 configurations that a value encodes, or the first document rule that it breaks.
 abbrev pub read_confs : List Proc → List AppSpec → List ℕ → Data → Result (List Conf) DocFault
 read_confs procs apps at d = elements_at (read_conf procs apps) 1 12 at d

@@ -43,18 +43,18 @@ pub record IsPlacedAfter (procs : List Proc) (apps : List AppSpec) (places more 
 abbrev pub ArePlaces : List Proc → List AppSpec → List (Option Place) → Type 0
 ArePlaces procs apps places = (a : ℕ) (place : Place) → given places a ≡ Some place → IsPlace procs apps a place
 
--- A configuration whose name no configuration before it has.
+-- The places of the configuration fit, and no configuration before it has its name.
 pub record IsNewConf (procs : List Proc) (apps : List AppSpec) (done : List Conf) (conf : Conf) : Type 0 where
   pub name : IsFresh name_of_conf done conf.name
   pub width : length conf.places ≡ 8
   pub places : ArePlaces procs apps conf.places
 
--- A required value, the first of its factor.
+-- The required value exists, and it is the first of its factor.
 pub record IsNewWant (factors : List Factor) (done : List Want) (want : Want) : Type 0 where
   pub new : wants_factor done want.factor.0 ≡ false
   pub is : IsWant factors want
 
--- A rule whose references exist.
+-- Each item that the rule refers to exists.
 pub record FitsChoice (procs : List Proc) (confs : List Conf) (factors : List Factor) (rule : Choice) : Type 0 where
   pub from : IsInIfNamed confs rule.from
   pub few : length rule.wants ≤ 6
@@ -62,7 +62,7 @@ pub record FitsChoice (procs : List Proc) (confs : List Conf) (factors : List Fa
   pub up : rule.up < 2 ^ length procs
   pub to : IsIn confs rule.to
 
--- A bound, the first of its pair of configurations.
+-- The bound exists for two configurations, and it is the first of its pair of configurations.
 pub record IsNewBound (confs : List Conf) (done : List Bound) (bound : Bound) : Type 0 where
   pub new : bound_in done bound.from.0 bound.to.0 ≡ None
   pub is : IsBound confs bound
@@ -80,24 +80,24 @@ pub record IsVariable (found : Option AppSpec) (variable : ℕ) : Type 0 where
   pub text : List ℕ
   pub named : number_in (variable_names app.kind.0) text ≡ Some variable
 
--- The ends of a non-empty interval.
+-- The interval between the ends is not empty, and it is within the limits.
 pub record FitsEnds (ends : Ends) : Type 0 where
   pub low_least : minus 1000000000 ≤ℤ ends.least
   pub in_order : ends.least ≤ℤ ends.greatest
   pub high_most : ends.greatest ≤ℤ pos 1000000000
 
--- A non-empty interval for a variable that the application's kind has.
+-- The interval is not empty, and it is for a variable that the application's kind has.
 pub record FitsInterval (apps : List AppSpec) (interval : Interval) : Type 0 where
   pub there : interval.app.0 < length apps
   pub is_variable : IsVariable (slice_get apps interval.app.0) interval.variable
   pub ends_fit : FitsEnds interval.ends
 
--- An invariant whose references exist.
+-- Each item that the invariant refers to exists.
 pub record FitsInvariant (apps : List AppSpec) (confs : List Conf) (inv : Invariant) : Type 0 where
   pub from : IsInIfNamed confs inv.from
   pub interval : FitsInterval apps (record { app = inv.app; variable = inv.variable; ends = record { least = inv.least; greatest = inv.greatest } })
 
--- A precondition whose references exist.
+-- Each item that the precondition refers to exists.
 pub record FitsPrecondition (apps : List AppSpec) (confs : List Conf) (pre : Precondition) : Type 0 where
   pub conf : IsIn confs pre.conf
   pub interval : FitsInterval apps (record { app = pre.app; variable = pre.variable; ends = record { least = pre.least; greatest = pre.greatest } })
@@ -106,7 +106,7 @@ pub record FitsPrecondition (apps : List AppSpec) (confs : List Conf) (pre : Pre
 abbrev pub IsApart : ℕ → ℕ → Type 0
 IsApart set other = (n : ℕ) → has_bit set n ≡ true → has_bit other n ≡ false
 
--- A mode that the application lists and that is not among the modes before it.
+-- The application lists the mode, and the mode is not among the modes before it.
 pub record IsNewOn (found : Option AppSpec) (done : List Mode) (mode : Mode) : Type 0 where
   pub listed : ListsMode found mode.0
   pub new : is_among done mode.0 ≡ false
@@ -135,7 +135,8 @@ pub record IsOnAfter (apps : List AppSpec) (on more : List (Option (List Mode)))
   pub lists : ListsModes (slice_get apps app) modes
   pub set : more ≡ set on app (Some modes)
 
--- Requirements of a demand on an environment's processors and on a configuration, whose references exist.
+-- Each item that the requirements refer to exists. No processor must be both up and down, and no application both on
+-- and off.
 pub record FitsRequirements (procs : List Proc) (apps : List AppSpec) (confs : List Conf) (asked : Requirements) : Type 0 where
   pub up : asked.up < 2 ^ length procs
   pub down : asked.down < 2 ^ length procs
@@ -146,7 +147,7 @@ pub record FitsRequirements (procs : List Proc) (apps : List AppSpec) (confs : L
   pub off : asked.off < 2 ^ length apps
   pub off_apart : (a : ℕ) → has_bit asked.off a ≡ true → given asked.on a ≡ None
 
--- A demand whose name no demand before it has.
+-- Each item that the demand refers to exists, and no demand before it has its name.
 pub record IsNewDemand (procs : List Proc) (apps : List AppSpec) (confs : List Conf) (factors : List Factor) (done : List Demand)
     (demand : Demand) : Type 0 where
   pub name : IsFresh name_of_demand done demand.name

@@ -22,28 +22,29 @@ use Rattle.scram_doc.specs.Lists.{elements_at}
 use Rattle.spec_members.specs.Names.{read_named, name_of_app}
 use Rattle.spec_table.specs.Choices.{read_conf_id, read_source}
 
--- The application that a value names.
+-- The application that a value names, or the first document rule that the value breaks.
 abbrev pub read_app_id : List AppSpec → List ℕ → Data → Result AppId DocFault
 read_app_id apps at d = ok_map (λ (a : ℕ). record { 0 = a }) (read_named name_of_app apps UNKNOWN_APPLICATION at d)
 
--- A variable of the application's kind, from its name.
+-- The variable of the application's kind that a value names, or the first document rule that the value breaks.
 abbrev pub read_variable : Option AppSpec → List ℕ → Data → Result ℕ DocFault
 read_variable None at d = broken UNKNOWN_VARIABLE at
 read_variable (Some app) at d =
     chain (text_at at d) (λ (text : List ℕ). or_broken UNKNOWN_VARIABLE at (number_in (variable_names app.kind.0) text))
 
--- An end of an interval.
+-- The end of an interval that a value encodes, or the first document rule that the value breaks.
 abbrev pub read_end : List ℕ → Data → Result ℤ DocFault
 read_end at d = int_at (minus 1000000000) (pos 1000000000) at d
 
--- The ends of the interval of an object at a path, from its members.
+-- The ends of the interval of an object at path `at`, read from its members, or the first document rule that the
+-- members break.
 abbrev pub read_ends : List ℕ → Data → Data → Result Ends DocFault
 read_ends at least greatest =
     chain (read_end (member_path at (codes "least")) least) (λ (low : ℤ).
     chain (read_end (member_path at (codes "greatest")) greatest) (λ (high : ℤ).
     if int_le low high then Ok (record { least = low; greatest = high }) else broken EMPTY_INTERVAL (member_path at (codes "greatest"))))
 
--- The interval of an object at a path, from its members.
+-- The interval of an object at path `at`, read from its members, or the first document rule that the members break.
 abbrev pub read_interval : List AppSpec → List ℕ → Data → Data → Data → Data → Result Interval DocFault
 read_interval apps at app variable least greatest =
     chain (read_app_id apps (member_path at (codes "app")) app) (λ (app : AppId).
@@ -51,7 +52,8 @@ read_interval apps at app variable least greatest =
     chain (read_ends at least greatest) (λ (ends : Ends).
     Ok (record { app = app; variable = variable; ends = ends }))))
 
--- An invariant.
+-- The invariant that a value encodes, given the items that it may name, or the first document rule that the value
+-- breaks.
 abbrev pub read_invariant : List AppSpec → List Conf → List ℕ → List Invariant → Data → Result Invariant DocFault
 read_invariant apps confs at done d =
     chain (object_at at d) (λ (_ : ⊤).
@@ -65,11 +67,12 @@ read_invariant apps confs at done d =
     chain (read_interval apps at app variable least greatest) (λ (i : Interval).
     Ok (record { from = from; app = i.app; variable = i.variable; least = i.ends.least; greatest = i.ends.greatest }))))))))))
 
--- The invariants of a document, 0 to 64 of them.
+-- The 0 to 64 invariants that a value encodes, or the first document rule that it breaks.
 abbrev pub read_invariants : List AppSpec → List Conf → List ℕ → Data → Result (List Invariant) DocFault
 read_invariants apps confs at d = elements_at (read_invariant apps confs) 0 64 at d
 
--- A precondition.
+-- The precondition that a value encodes, given the items that it may name, or the first document rule that the value
+-- breaks.
 abbrev pub read_precondition : List AppSpec → List Conf → List ℕ → List Precondition → Data → Result Precondition DocFault
 read_precondition apps confs at done d =
     chain (object_at at d) (λ (_ : ⊤).
@@ -83,6 +86,6 @@ read_precondition apps confs at done d =
     chain (read_interval apps at app variable least greatest) (λ (i : Interval).
     Ok (record { conf = conf; app = i.app; variable = i.variable; least = i.ends.least; greatest = i.ends.greatest }))))))))))
 
--- The preconditions of a document, 0 to 64 of them.
+-- The 0 to 64 preconditions that a value encodes, or the first document rule that it breaks.
 abbrev pub read_preconditions : List AppSpec → List Conf → List ℕ → Data → Result (List Precondition) DocFault
 read_preconditions apps confs at d = elements_at (read_precondition apps confs) 0 64 at d
