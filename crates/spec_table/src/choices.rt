@@ -1,6 +1,7 @@
 //! Rules of the choice table.
 
 ghost use Rattle.std.specs.Prelude.{◌≡◌, ◌≤◌, ◌<◌, ◌^◌, false, [], codes, length, slice_get, IfOk, IfSome};
+ghost use Rattle.std.specs.Option.{option_copied};
 ghost use Rattle.serde_json.specs.View.{view};
 ghost use Rattle.scram_types.specs.Lookups.{number_named};
 ghost use Rattle.scram_types.specs.Specification.{IsIn, IsInIfNamed};
@@ -11,7 +12,6 @@ ghost use Rattle.scram_doc.specs.Numbering.{itself};
 ghost use Rattle.spec_table.specs.Choices.{read_conf_id, read_source, wants_factor, read_new_factor, read_value_of, read_want, read_choice, read_choices};
 ghost use Rattle.spec_members.specs.Members.{member_in};
 ghost use Rattle.spec_table.specs.Facts.{IsNewWant, FitsChoice, HasValue};
-ghost use Rattle.spec_members.specs.Facts.{FewValues};
 ghost use Rattle.spec_members.specs.Found.{AreMembers};
 
 use crate::sets::read_procs_set;
@@ -92,17 +92,18 @@ fn number_of_value(factor: &Factor, text: &str) -> Option<u8>
     factor.value_named(text.as_bytes())
 }
 
-fn read_value_of(
-    factors: &Numbered<Factor, ByName>,
-    factor: FactorId,
-    v: &Value,
-    at: &Path,
-) -> Result<u8, DocFault>
-    requires few { FewValues factors.now }
-    ensures value { result ≡ read_value_of (slice_get factors.now factor.0) at.now (view v.now) }
-    ensures there { IfOk result (λ value. HasValue (slice_get factors.now factor.0) value) }
+fn find_factor(factors: &Numbered<Factor, ByName>, factor: FactorId) -> Option<&Factor>
+    ensures { option_copied result ≡ slice_get factors.now factor.0 }
 {
-    let Some(found) = factors.items().get(usize::from(factor.0)) else {
+    factors.items().get(usize::from(factor.0))
+}
+
+fn read_value_of(factor: Option<&Factor>, v: &Value, at: &Path) -> Result<u8, DocFault>
+    requires few { IfSome factor (λ f. length f.now.values ≤ 255) }
+    ensures value { result ≡ read_value_of (option_copied factor.entry) at.now (view v.now) }
+    ensures there { IfOk result (λ value. HasValue (option_copied factor.entry) value) }
+{
+    let Some(found) = factor else {
         return Err(DocFault::new(rule::UNKNOWN_FACTOR_OR_VALUE, at));
     };
     match number_of_value(found, text(v, at)?) {
@@ -131,7 +132,8 @@ impl Elements<Want> for Wants<'_> {
         let vocabulary = self.vocabulary;
         let factors = &vocabulary.factors;
         let factor = read_new_factor(factors, done, factor, &at.member("factor"))?;
-        let value = read_value_of(factors, factor, value, &at.member("value"))?;
+        let found = find_factor(factors, factor);
+        let value = read_value_of(found, value, &at.member("value"))?;
         Ok(Want { factor, value })
     }
 }

@@ -1,6 +1,6 @@
 //! Configurations and the places of applications in them.
 
-ghost use Rattle.std.specs.Prelude.{◌≡◌, ◌≤◌, ◌<◌, None, codes, is_some, length, replicate, IfOk};
+ghost use Rattle.std.specs.Prelude.{◌≡◌, ◌≤◌, ◌<◌, None, codes, is_some, length, replicate, slice_get, IfOk};
 ghost use Rattle.std.specs.Option.{option_copied};
 ghost use Rattle.serde_json.specs.View.{view, items_view};
 ghost use Rattle.scram_doc.specs.Chain.{ok_map};
@@ -53,6 +53,13 @@ fn read_new_app(
     }
 }
 
+/// Returns the application with this number, or `None` if there is no such application.
+pub(crate) fn find_app(apps: &Numbered<AppSpec, ByName>, app: AppId) -> Option<&AppSpec>
+    ensures { option_copied result ≡ slice_get apps.now app.0 }
+{
+    apps.items().get(usize::from(app.0))
+}
+
 /// Reads a mode from its name. The mode is one of the application's kind, and the application lists it.
 pub(crate) fn read_listed_mode(
     app: Option<&AppSpec>,
@@ -92,11 +99,7 @@ fn read_place(
     let on = required(v, "on", at)?;
     no_more_than(v, 3, at)?;
     let app = read_new_app(apps, &places, app, &at.member("app"))?;
-    let mode = read_listed_mode(
-        apps.items().get(usize::from(app.0)),
-        mode,
-        &at.member("mode"),
-    )?;
+    let mode = read_listed_mode(find_app(apps, app), mode, &at.member("mode"))?;
     let proc = ProcId(read_named(procs, rule::UNKNOWN_PROCESSOR, on, &at.member("on"))?);
     let mut places = places;
     places[usize::from(app.0)] = Some(Place { mode, proc });

@@ -12,7 +12,7 @@ ghost use Rattle.spec_table.specs.Demands.{on_set, read_demand, read_demands, re
 ghost use Rattle.spec_table.specs.Facts.{AreOn, FitsRequirements, HasMoreModes, IsNewDemand, IsNewOn, IsOnAfter};
 
 use crate::choices::Wants;
-use crate::configurations::read_listed_mode;
+use crate::configurations::{find_app, read_listed_mode};
 use crate::sets::{read_apps_set, read_confs_set, read_procs_set};
 use crate::vocabulary::Vocabulary;
 use scram_doc::{
@@ -88,12 +88,6 @@ fn read_new_app(
     } else {
         Ok(app)
     }
-}
-
-fn find_app(apps: &Numbered<AppSpec, ByName>, app: AppId) -> Option<&AppSpec>
-    ensures { option_copied result ≡ slice_get apps.now app.0 }
-{
-    apps.items().get(usize::from(app.0))
 }
 
 /// Reads an application that must be on, and adds it to the others.

@@ -1,6 +1,7 @@
 //! Invariants and preconditions, which are intervals for a variable of an application.
 
 ghost use Rattle.std.specs.Prelude.{◌≡◌, ◌≤◌, ◌≤ℤ◌, ◌<◌, pos, [], codes, length, slice_get, IfOk};
+ghost use Rattle.std.specs.Option.{option_copied};
 ghost use Rattle.serde_json.specs.View.{view};
 ghost use Rattle.scram_types.specs.Numbers.{minus};
 ghost use Rattle.scram_doc.specs.Faults.{Answers};
@@ -11,6 +12,7 @@ ghost use Rattle.spec_table.specs.Facts.{IsVariable, FitsEnds, FitsInterval, Fit
 ghost use Rattle.spec_members.specs.Found.{AreMembers};
 
 use crate::choices::{read_conf_id, read_source};
+use crate::configurations::find_app;
 use crate::vocabulary::Vocabulary;
 use app_model::variable_named;
 use scram_doc::{
@@ -33,14 +35,14 @@ fn read_app_id(apps: &Numbered<AppSpec, ByName>, v: &Value, at: &Path) -> Result
     Ok(AppId(read_named(apps, rule::UNKNOWN_APPLICATION, v, at)?))
 }
 
-fn read_variable(apps: &[AppSpec], app: AppId, v: &Value, at: &Path) -> Result<u8, DocFault>
-    ensures value { result ≡ read_variable (slice_get apps.now app.0) at.now (view v.now) }
-    ensures is { IfOk result (λ variable. IsVariable (slice_get apps.now app.0) variable) }
+fn read_variable(app: Option<&AppSpec>, v: &Value, at: &Path) -> Result<u8, DocFault>
+    ensures value { result ≡ read_variable (option_copied app.entry) at.now (view v.now) }
+    ensures is { IfOk result (λ variable. IsVariable (option_copied app.entry) variable) }
 {
-    let Some(found) = apps.get(usize::from(app.0)) else {
+    let Some(app) = app else {
         return Err(DocFault::new(rule::UNKNOWN_VARIABLE, at));
     };
-    match variable_named(found.kind, text(v, at)?) {
+    match variable_named(app.kind, text(v, at)?) {
         Some(variable) => Ok(variable),
         None => Err(DocFault::new(rule::UNKNOWN_VARIABLE, at)),
     }
@@ -107,7 +109,8 @@ fn read_interval(
     ensures fits { IfOk result (λ i. FitsInterval apps.now i) }
 {
     let app = read_app_id(apps, members.app, &at.member("app"))?;
-    let variable = read_variable(apps.items(), app, members.variable, &at.member("variable"))?;
+    let found = find_app(apps, app);
+    let variable = read_variable(found, members.variable, &at.member("variable"))?;
     let ends = read_ends(members.least, members.greatest, at)?;
     Ok(Interval {
         app,
