@@ -1,4 +1,4 @@
--- Bounds on the length of the canonical text of a specification.
+-- Lemmas that bound the length of the canonical text of a specification.
 use Rattle.std.proofs.Common.{◌≡◌, ◌+◌, ◌*◌, ◌≤◌, ◌<◌, ℕ, zero, suc, Bool, true, false, List, [], ◌∷◌, length, arith, refl}
 use Rattle.std.specs.Prelude.{Option, Some, None, ℤ, pos, negsuc, ◌≤ℤ◌, ◌&&◌, nat_le, slice_get}
 use Rattle.std.specs.Char.{is_ascii_lowercase}
@@ -17,7 +17,7 @@ use Rattle.scram_doc.specs.Canonical.{count_data, integer_data}
 use Rattle.scram_doc.proofs.TextLengths.{weight}
 use Rattle.app_model.proofs.ShortNames.{AreShort, mode_names_short, variable_names_short}
 
--- the maximum length of a text: six bytes for each byte, between two quotes
+-- The maximum length of a text in JSON: six bytes for each byte, between two quotes.
 abbrev pub widest : List ℕ → ℕ
 widest s = 6 * length s + 2
 
@@ -27,7 +27,7 @@ and_last true true false e = e
 and_last true false false e = e
 and_last false b false e = e
 
--- a name has at most 16 bytes
+-- A name has at most 16 bytes.
 pub name_short : (text : List ℕ) → is_name text ≡ true → length text ≤ 16
 name_short [] named = omega arith
 name_short (first ∷ rest) named = leb-true (length (first ∷ rest)) 16 (and_last (is_ascii_lowercase first) (list_all is_name_byte rest) (nat_le (length (first ∷ rest)) 16) named)
@@ -36,7 +36,7 @@ pub text_short : {A : Type 0} (f : A → List ℕ) (o : Option A) → ((x : A) �
 text_short f None each = omega arith
 text_short f (Some x) each = each x refl
 
--- so has the name of an item, given by its number
+-- The name of an item with a given number has at most 16 bytes.
 pub item_short : {A : Type 0} (name : A → List ℕ) (xs : List A) (n : ℕ) → Each (λ (x : A). is_name (name x) ≡ true) xs → length (name_of_item name xs n) ≤ 16
 item_short name xs n named = text_short name (slice_get xs n) (λ x e. name_short (name x) (named n x e))
 

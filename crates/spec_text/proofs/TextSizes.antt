@@ -110,7 +110,7 @@ source_short : (spec : Parts) → HasNames spec → (from : Option ConfId) → l
 source_short spec names None = omega arith
 source_short spec names (Some c) = item_short name_of_conf spec.confs c.0 names.confs
 
--- the names of a set, where a name is written in at most `long` bytes
+-- Lemmas on the names of a set, of which each is written in at most `long` bytes.
 names_short_by : (measure : List ℕ → ℕ) (long : ℕ) (b : Bool) (name : List ℕ) (rest : List Data) (most : ℕ) → measure name ≤ long → items_weight measure (items_of rest) ≤ most
     → items_weight measure (items_of (cond b (string name ∷ rest) rest)) ≤ most + (long + 1)
 names_short_by measure long true name rest most short few = omega (arith, short, few)
@@ -180,9 +180,9 @@ assumption_short spec is =
     let window = count_short spec.window (omega (arith, most)) in
     omega (arith, halts, changes, window)
 
--- A demand's text is weighed as it is written: its names need no escapes.
+-- The length of a demand's text is counted exactly as it is written, since its names need no escapes.
 
--- no measure that covers a text is below the length with which it is written
+-- A measure that covers a text is at least the length with which the text is written.
 mutual
   lighter : (d : Data) → weight exact d ≤ weight widest d
   lighter null = omega arith
@@ -281,7 +281,7 @@ demands_exact spec is =
     let sum = list_weight exact (demand_data spec) 4500 spec.demands (λ i x e. demand_exact spec is x (is.demands i x e) (is.names.demands i x e)) in
     omega (arith, few, sum)
 
--- the lengths of the lists of a document
+-- Lemmas on the lengths of the lists of a document.
 record HasShortLists (spec : Parts) : Type 0 where
   procs : items_weight widest (items_of (map proc_data spec.procs)) ≤ 2000
   apps : items_weight widest (items_of (map (app_data spec.apps) spec.apps)) ≤ 25000
@@ -321,7 +321,7 @@ lists_short spec is names =
       preconditions = omega (arith, few_preconditions, preconditions);
     }
 
--- the length of the members beside the lists
+-- Lemmas on the length of the members other than lists.
 record HasShortRest (spec : Parts) : Type 0 where
   goal : weight widest (goal_data spec.goal) ≤ 200
   assumption : weight widest (assumption_data spec) ≤ 200

@@ -1,4 +1,4 @@
--- The members that are put one after another are those of the canonical value.
+-- Lemmas that the members that are put one after another are those of the canonical value.
 use Rattle.std.proofs.Common.{◌≡◌, refl, List, [], ◌∷◌}
 use Rattle.std.specs.Prelude.{codes}
 use Rattle.serde_json.specs.Data.{object, no_members, put, string}

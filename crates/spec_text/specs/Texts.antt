@@ -30,11 +30,11 @@ use Rattle.spec_members.specs.Names.{name_of_proc, name_of_app, name_of_conf, na
 use Rattle.scram_doc.specs.Numbering.{itself}
 use Rattle.scram_types.specs.Bits.{has_bit}
 
--- The name of item number `n`, or empty if there is no such item.
+-- The name of item number `n`, or the empty name if there is no such item.
 abbrev pub name_of_item : {A : Type 0} → (A → List ℕ) → List A → ℕ → List ℕ
 name_of_item name xs n = option_map_or name (slice_get xs n) []
 
--- The name, or empty if there is none.
+-- The name, or the empty name if there is none.
 abbrev pub name_or_nothing : Option (List ℕ) → List ℕ
 name_or_nothing name = option_map_or itself name []
 
@@ -50,11 +50,11 @@ name_of_mode kind mode = name_or_nothing (name_in (mode_names kind) mode)
 abbrev pub name_of_kind_variable : ℕ → ℕ → List ℕ
 name_of_kind_variable kind variable = name_or_nothing (name_in (variable_names kind) variable)
 
--- The name of a mode of application a, by the table of its kind.
+-- The name of a mode of application `a`, by the table of its kind.
 abbrev pub name_of_app_mode : List AppSpec → ℕ → ℕ → List ℕ
 name_of_app_mode apps a mode = option_map_or (λ (app : AppSpec). name_of_mode app.kind.0 mode) (slice_get apps a) []
 
--- The name of a variable of application a, by the table of its kind.
+-- The name of a variable of application `a`, by the table of its kind.
 abbrev pub name_of_variable : List AppSpec → ℕ → ℕ → List ℕ
 name_of_variable apps a variable = option_map_or (λ (app : AppSpec). name_of_kind_variable app.kind.0 variable) (slice_get apps a) []
 
@@ -75,7 +75,7 @@ mode_data kind listed = object (
 abbrev pub need_data : List AppSpec → AppId → Data
 need_data apps need = string (name_of_item name_of_app apps need.0)
 
--- The canonical value of an application, among these applications.
+-- The canonical value of an application of a list. The list has the applications that it needs.
 abbrev pub app_data : List AppSpec → AppSpec → Data
 app_data apps app = object (
     member (codes "kind") (string (name_of_kind app.kind.0)) (
@@ -83,14 +83,15 @@ app_data apps app = object (
     member (codes "name") (string app.name) (
     member (codes "needs") (list_data (need_data apps) app.needs) no_members))))
 
--- The canonical value of the place of application a.
+-- The canonical value of the place of application `a`.
 abbrev pub place_data : Parts → ℕ → Place → Data
 place_data spec a place = object (
     member (codes "app") (string (name_of_item name_of_app spec.apps a)) (
     member (codes "mode") (string (name_of_app_mode spec.apps a place.mode.0)) (
     member (codes "on") (string (name_of_item name_of_proc spec.procs place.proc.0)) no_members)))
 
--- The canonical values of the places that are given, in the order of applications.
+-- The canonical values of the places that are given, in the order of applications. The first entry of the list is
+-- that of application `a`.
 abbrev pub places_data : Parts → ℕ → List (Option Place) → List Data
 places_data spec a [] = []
 places_data spec a (None ∷ places) = places_data spec (suc a) places
@@ -123,7 +124,7 @@ want_data factors want = object (
     member (codes "factor") (string (name_of_item name_of_factor factors want.factor.0)) (
     member (codes "value") (string (name_of_value factors want.factor.0 want.value)) no_members))
 
--- The names of the items whose numbers are in a set, in order, where the first item has number `n`.
+-- The names of the items whose numbers are in a set, in order. The first item of the list has number `n`.
 abbrev pub names_data : {A : Type 0} → (A → List ℕ) → ℕ → ℕ → List A → List Data
 names_data name set n [] = []
 names_data name set n (x ∷ xs) = if has_bit set n then string (name x) ∷ names_data name set (suc n) xs else names_data name set (suc n) xs
@@ -169,13 +170,14 @@ precondition_data spec pre = object (
     member (codes "least") (integer_data pre.least) (
     member (codes "variable") (string (name_of_variable spec.apps pre.app.0 pre.variable)) no_members)))))
 
--- The canonical value of an application that must be on, with the modes of which it must be in one.
+-- The canonical value of an application that must be on, with the modes that it may be in.
 abbrev pub on_app_data : Parts → ℕ → List Mode → Data
 on_app_data spec a modes = object (
     member (codes "app") (string (name_of_item name_of_app spec.apps a)) (
     member (codes "modes") (list_data (λ (mode : Mode). string (name_of_app_mode spec.apps a mode.0)) modes) no_members))
 
--- The canonical values of the applications that must be on, in order, where the first of the list has number `a`.
+-- The canonical values of the applications that must be on, in order. The first entry of the list is that of
+-- application `a`.
 abbrev pub on_data : Parts → ℕ → List (Option (List Mode)) → List Data
 on_data spec a [] = []
 on_data spec a (None ∷ on) = on_data spec (suc a) on
@@ -198,18 +200,18 @@ abbrev pub policy_name : Policy → List ℕ
 policy_name Retarget = codes "retarget"
 policy_name Settle = codes "settle"
 
--- The canonical value of the failure assumption.
+-- The canonical value of the failure assumption, which is the member `assumption`.
 abbrev pub assumption_data : Parts → Data
 assumption_data spec = object (
     member (codes "changes") (count_data spec.changes) (
     member (codes "halts") (count_data spec.halts) (
     member (codes "window") (count_data spec.window) no_members)))
 
--- The canonical value of the start, which is the name of a configuration.
+-- The canonical value of the start, which is the name of the starting configuration.
 abbrev pub start_data : Parts → Data
 start_data spec = string (name_of_item name_of_conf spec.confs spec.start.0)
 
--- The canonical value of a specification of version 1, which retargets.
+-- The canonical value of a specification in version 1, whose policy is to retarget.
 abbrev pub retarget_data : Parts → Data
 retarget_data spec = object (
     member (codes "apps") (list_data (app_data spec.apps) spec.apps) (
@@ -225,7 +227,7 @@ retarget_data spec = object (
     member (codes "scram") (count_data 1) (
     member (codes "start") (start_data spec) no_members))))))))))))
 
--- The canonical value of a specification of version 2, which settles.
+-- The canonical value of a specification in version 2, whose policy is to settle.
 abbrev pub settle_data : Parts → Data
 settle_data spec = object (
     member (codes "apps") (list_data (app_data spec.apps) spec.apps) (
@@ -242,7 +244,7 @@ settle_data spec = object (
     member (codes "scram") (count_data 2) (
     member (codes "start") (start_data spec) no_members)))))))))))))
 
--- The members of a specification of version 3 with this policy and these demands.
+-- The members of a specification in version 3 with this policy and these demands.
 abbrev pub demanding_members : Policy → List Demand → Parts → Members
 demanding_members policy demands spec =
     member (codes "apps") (list_data (app_data spec.apps) spec.apps) (
@@ -260,12 +262,12 @@ demanding_members policy demands spec =
     member (codes "scram") (count_data 3) (
     member (codes "start") (start_data spec) no_members)))))))))))))
 
--- The canonical value of a specification of version 3 with this policy and these demands.
+-- The canonical value of a specification in version 3 with this policy and these demands.
 abbrev pub demanding_data : Policy → List Demand → Parts → Data
 demanding_data policy demands spec = object (demanding_members policy demands spec)
 
--- The canonical value of a specification in version 3 if there are demands. Otherwise the version is 1 if the policy is
--- to retarget, and 2 if it is to settle.
+-- The canonical value of a specification: in version 3 if there are demands, else in version 1 if the policy is to
+-- retarget, and in version 2 if it is to settle.
 abbrev pub data_by : List Demand → Policy → Parts → Data
 data_by [] Retarget spec = retarget_data spec
 data_by [] Settle spec = settle_data spec
@@ -279,7 +281,8 @@ spec_data spec = data_by spec.demands spec.policy spec
 abbrev pub spec_text : Parts → List ℕ
 spec_text spec = compact_text (spec_data spec)
 
--- The members to which the rest of a document refers, each put at its place in byte order.
+-- The members `processors`, `apps`, `configurations` and `factors`, to which the rest of a document refers, each put
+-- at its place in byte order.
 abbrev pub with_named : Parts → Members → Members
 with_named spec ms =
     put (codes "factors") (list_data factor_data spec.factors) (
@@ -287,7 +290,7 @@ with_named spec ms =
     put (codes "apps") (list_data (app_data spec.apps) spec.apps) (
     put (codes "processors") (list_data proc_data spec.procs) ms)))
 
--- The members of the choice table, the bounds, the start and the goal.
+-- The members that hold the choice table, the bounds, the start and the goal.
 abbrev pub with_table : Parts → Members → Members
 with_table spec ms =
     put (codes "goal") (goal_data spec.goal) (
@@ -295,27 +298,27 @@ with_table spec ms =
     put (codes "bounds") (list_data (bound_data spec.confs) spec.bounds) (
     put (codes "rules") (list_data (choice_data spec) spec.rules) ms)))
 
--- The members of the intervals and the failure assumption.
+-- The members that hold the invariants, the preconditions and the failure assumption.
 abbrev pub with_limits : Parts → Members → Members
 with_limits spec ms =
     put (codes "assumption") (assumption_data spec) (
     put (codes "preconditions") (list_data (precondition_data spec) spec.preconditions) (
     put (codes "invariants") (list_data (invariant_data spec) spec.invariants) ms))
 
--- The members of the third version, with its policy and its demands.
+-- The members `demands`, `policy` and `scram` of a specification in version 3.
 abbrev pub with_demands : List Demand → Policy → Parts → Members → Members
 with_demands demands policy spec ms =
     put (codes "scram") (count_data 3) (
     put (codes "policy") (string (policy_name policy)) (
     put (codes "demands") (list_data (demand_data spec) demands) ms))
 
--- The member of the version, and those of the policy and the demands if the version has them.
+-- The member `scram`, which holds the version, and the members `policy` and `demands` if the version has them.
 abbrev pub with_version : List Demand → Policy → Parts → Members → Members
 with_version [] Retarget spec ms = put (codes "scram") (count_data 1) ms
 with_version [] Settle spec ms = put (codes "scram") (count_data 2) (put (codes "policy") (string (codes "settle")) ms)
 with_version (demand ∷ demands) policy spec ms = with_demands (demand ∷ demands) policy spec ms
 
--- The members with the environments and configurations to which a demand applies.
+-- The members of a demand that hold the environments and configurations to which the demand applies.
 abbrev pub with_condition : Parts → Demand → Members → Members
 with_condition spec demand ms =
     put (codes "down") (set_data name_of_proc spec.procs demand.down) (
@@ -323,7 +326,7 @@ with_condition spec demand ms =
     put (codes "when") (list_data (want_data spec.factors) demand.wants) (
     put (codes "from") (set_data name_of_conf spec.confs demand.from) ms)))
 
--- The members with the requirements of a demand on the chosen configuration.
+-- The members of a demand that hold its requirements on the chosen configuration.
 abbrev pub with_asked : Parts → Demand → Members → Members
 with_asked spec demand ms =
     put (codes "off") (set_data name_of_app spec.apps demand.off) (

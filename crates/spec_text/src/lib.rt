@@ -1,4 +1,4 @@
-//! The canonical text of a specification, exactly as its definition has it.
+//! The canonical text of a specification. The written text is exactly that of the definition `spec_text`.
 #![tactic(auto)]
 
 mod values;

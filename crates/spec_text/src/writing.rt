@@ -1,4 +1,4 @@
-//! The writing of specifications.
+//! Writing specifications as JSON documents.
 
 ghost use Rattle.std.specs.Prelude.{◌≡◌, ◌≤◌, [], Ok, Some, length, map, IfOk, OnOk};
 ghost use Rattle.serde_json.specs.Data.{put};
@@ -166,7 +166,7 @@ fn make_names<T, N: Naming<T>>(
     Ok(values)
 }
 
-/// Writes the names of the items whose numbers are in a set as a member with this name.
+/// Writes a member with this name, which holds the names of the items whose numbers are in a set.
 fn put_set<T, N: Naming<T>>(
     members: &mut Map<String, Value>,
     alloc: Global,
@@ -285,7 +285,7 @@ fn make_on(alloc: Global, spec: &Spec, on: &[Option<Modes>; 8]) -> Result<Vec<Va
     Ok(values)
 }
 
-/// Writes the members with the environments and configurations to which a demand applies.
+/// Writes the members of a demand that hold the environments and configurations to which it applies.
 fn put_condition(
     members: &mut Map<String, Value>,
     alloc: Global,
@@ -304,7 +304,7 @@ fn put_condition(
     Ok(())
 }
 
-/// Writes the members with the requirements of a demand on the chosen configuration.
+/// Writes the members of a demand that hold its requirements on the chosen configuration.
 fn put_asked(
     members: &mut Map<String, Value>,
     alloc: Global,
@@ -348,7 +348,7 @@ fn make_assumption(alloc: Global, spec: &Spec) -> Result<Value, AllocError>
     json!(in alloc; {"changes": spec.changes, "halts": spec.halts, "window": spec.window})
 }
 
-/// Writes the members to which the rest of the document refers.
+/// Writes the members to which the rest of the document refers: processors, applications, configurations and factors.
 fn put_named(members: &mut Map<String, Value>, alloc: Global, spec: &Spec) -> Result<(), AllocError>
     ensures { OnOk result (members_view members.new.entries ≡ with_named spec.now (members_view members.old.entries)) }
 {
@@ -366,7 +366,7 @@ fn put_named(members: &mut Map<String, Value>, alloc: Global, spec: &Spec) -> Re
     Ok(())
 }
 
-/// Writes the members of the choice table, the bounds, the start and the goal.
+/// Writes the members that hold the choice table, the bounds, the start and the goal.
 fn put_table(members: &mut Map<String, Value>, alloc: Global, spec: &Spec) -> Result<(), AllocError>
     ensures { OnOk result (members_view members.new.entries ≡ with_table spec.now (members_view members.old.entries)) }
 {
@@ -379,7 +379,7 @@ fn put_table(members: &mut Map<String, Value>, alloc: Global, spec: &Spec) -> Re
     Ok(())
 }
 
-/// Writes the members of the intervals and of the failure assumption.
+/// Writes the members that hold the invariants, the preconditions and the failure assumption.
 fn put_limits(
     members: &mut Map<String, Value>,
     alloc: Global,
@@ -406,7 +406,8 @@ fn put_limits(
     Ok(())
 }
 
-/// Writes the members of the version of a specification without demands, and of its policy unless it is to retarget.
+/// Writes the member `scram` of a specification without demands, and the member `policy` unless the policy is to
+/// retarget.
 fn put_policy(
     members: &mut Map<String, Value>,
     alloc: Global,
@@ -423,7 +424,7 @@ fn put_policy(
     }
 }
 
-/// Writes the members of the demands, the policy and the version of a specification with demands.
+/// Writes the members `demands`, `policy` and `scram` of a specification with demands.
 fn put_demands(
     members: &mut Map<String, Value>,
     alloc: Global,
@@ -438,7 +439,8 @@ fn put_demands(
     serde_json::put(members, alloc, "scram", json!(in alloc; 3)?)
 }
 
-/// Writes the member of the version, and those of the policy and the demands if the version has them.
+/// Writes the member `scram`, which holds the version, and the members `policy` and `demands` if the version has
+/// them.
 fn put_version(
     members: &mut Map<String, Value>,
     alloc: Global,
