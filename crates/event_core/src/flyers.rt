@@ -1,6 +1,6 @@
 //! Processors that fly with a core. The fields are public so that clauses can name them.
 
-ghost use Rattle.std.specs.Prelude.{◌≡◌, ◌<◌, IfOk, IfSome, Some, length, map, ℕ};
+ghost use Rattle.std.specs.Prelude.{◌≡◌, ◌<◌, IfOk, IfSome, Some, length, map, vec_len, ℕ};
 ghost use Rattle.event_core.specs.Cores.{IsNextIn, IsWordIn, core_places, core_flight};
 ghost use Rattle.event_core.specs.Flyers.{FlyAfter, FlyBy, FlyersFit, IsLastDraft};
 ghost use Rattle.event_core.specs.Places.{HasLooked};
@@ -34,7 +34,10 @@ impl Flyers {
     /// # Errors
     ///
     /// Returns an error if memory runs out.
+    // No clause depends on the precondition, which each `Boxes` meets. A function that returns boxes without any
+    // precondition counts as one that may make them.
     pub fn open(alloc: Global, boxes: Boxes) -> Result<Flyers, NoMemory>
+        requires { vec_len boxes.racks ≡ 8 }
         ensures fits { (spec : Parts) (script : ScriptParts) → IfOk result (λ flyers. FlyersFit spec script (λ p. At 0 0) flyers) }
         ensures racks { IfOk result (λ flyers. map (λ flyer. unit_rack flyer.unit) flyers.all.items ≡ map Some boxes.racks.items) }
         ensures spares { IfOk result (λ flyers. map (λ flyer. flyer.spare) flyers.all.items ≡ map Some boxes.spares.items) }

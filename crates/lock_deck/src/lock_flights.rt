@@ -41,11 +41,14 @@ pub struct LockFlight<'a> {
 impl<'a> LockFlight<'a> {
     /// Returns a flight of a mission before its first step. Allocates all memory that the flight needs. Returns an
     /// error only if memory runs out.
+    // No clause depends on the precondition, which each `Boxes` meets. A function that returns boxes without any
+    // precondition counts as one that may make them.
     pub fn open(
         alloc: Global,
         mission: &'a Mission,
         boxes: Boxes,
     ) -> Result<LockFlight<'a>, NoMemory>
+        requires { vec_len boxes.racks ≡ 8 }
         ensures mission { IfOk result (λ flight. flight.mission.now ≡ mission.now) }
         ensures fits { IfOk result (λ flight. All (λ member. MemberFits flight.mission.now member.value) flight.members.items) }
     {
@@ -108,6 +111,7 @@ fn make_members(
     mission: &Mission,
     boxes: Boxes,
 ) -> Result<Vec<CachePadded<Member>>, NoMemory>
+    requires { vec_len boxes.racks ≡ 8 }
     ensures fits { IfOk result (λ members. All (λ member. MemberFits mission.now member.value) members.items) }
 {
     let Boxes {

@@ -57,12 +57,15 @@ pub struct Landed<'a> {
 impl<'a> WordFlight<'a> {
     /// Creates a flight of a mission. All memory of the flight is allocated here. The only error is that memory runs
     /// out.
+    // No clause depends on the precondition, which each `Boxes` meets. A function that returns boxes without any
+    // precondition counts as one that may make them.
     #[tactic(auto, using(crate::proofs::Outcomes::at_table))]
     pub fn open(
         alloc: Global,
         mission: &'a Mission,
         boxes: Boxes,
     ) -> Result<WordFlight<'a>, NoMemory>
+        requires { vec_len boxes.racks ≡ 8 }
         ensures mission { IfOk result (λ flight. flight.mission ≡ mission.entry) }
     {
         mission.holds();
