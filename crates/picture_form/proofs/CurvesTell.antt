@@ -39,7 +39,7 @@ drop_by false n = omega arith
 drop_small : (ends : Extremes) (number : ℤ) → drop_of ends number ≤ 480
 drop_small ends number = drop_by (distance ends.least ends.greatest == 0) (distance ends.least number * 480 / distance ends.least ends.greatest)
 
--- The letter at the start of a point: `L` if the curve joins it to the preceding point, or `M` otherwise.
+-- The letter at the start of a point: `L` if the curve joins the point to the preceding point, or `M` otherwise.
 abbrev mark : Bool → ℕ
 mark joined = if joined then 76 else 77
 
@@ -123,7 +123,7 @@ extremes_small quantity (row ∷ rows) known ends e =
     let same : widened (quantity_of quantity row.world) (extremes_of quantity rows) ≡ ends = same_some _ ends e in
     rw same at (widened_small (quantity_of quantity row.world) (extremes_of quantity rows) (known 0 row refl) (extremes_small quantity rows (λ i x there. known (suc i) x there)))
 
--- Whether a byte is less than that of `<`.
+-- Whether a byte is less than the byte of `<`.
 abbrev is_low : ℕ → Bool
 is_low b = nat_lt b 60
 

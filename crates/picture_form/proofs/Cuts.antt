@@ -27,8 +27,8 @@ fields P d f (c ∷ a) (b ∷ bs) r s free other e g h =
 pub field : (P : ℕ → Bool) (d : ℕ) (a b r s : List ℕ) → P d ≡ false → list_all P a ≡ true → list_all P b ≡ true → a ++ d ∷ r ≡ b ++ d ∷ s → (a ≡ b) × (r ≡ s)
 field P d a b r s free e g h = let both = fields P d d a b r s free free e g h in (both.0, append_cancel_left (d ∷ []) r s both.1)
 
--- The number of occurrences of byte `d` that are still to come in a text after byte `b`, given their number before
--- `b`. It is `None` if the text goes on past the last occurrence.
+-- The number of occurrences of byte `d` that remain after byte `b`, given the number that remained before `b`. It is
+-- `None` if none remained before `b`, which means that `b` is past the end.
 abbrev pub to_come : ℕ → Option ℕ → ℕ → Option ℕ
 to_come d None b = None
 to_come d (Some zero) b = None
@@ -65,7 +65,7 @@ cut d n (b ∷ t) (c ∷ u) r s e f h =
     let tails : t ≡ u = more.0 in
     (let x : b ∷ t ≡ c ∷ u = cc in x, more.1)
 
--- A text without byte `d` does not change the number of occurrences of `d` that are still to come.
+-- A text without byte `d` does not change the number of occurrences of `d` that remain.
 pub passed : (d least n : ℕ) (text rest : List ℕ) → d < least → all_over least text ≡ true → left_after d (Some (suc n)) (text ++ rest) ≡ left_after d (Some (suc n)) rest
 passed d least n [] rest h e = refl
 passed d least n (b ∷ text) rest h e =

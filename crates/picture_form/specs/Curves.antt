@@ -19,15 +19,15 @@ use Rattle.picture_form.specs.declared.sheets.Sheet.{Sheet}
 abbrev pub distance : ℤ → ℤ → ℕ
 distance a b = int_gap a b + int_gap b a
 
--- The distance of a number from the top of its curve, in tenths of a pixel. The distance is 480 for the minimum, 0 for
--- the maximum, and 240 if the extremes are equal.
+-- The distance of a value of a quantity from the top of the quantity's curve, in tenths of a pixel. The distance is
+-- 480 for the minimum, 0 for the maximum, and 240 if the extremes are equal.
 abbrev pub drop_of : Extremes → ℤ → ℕ
 drop_of extremes number =
     if distance extremes.least extremes.greatest == 0 then 240
     else 480 - distance extremes.least number * 480 / distance extremes.least extremes.greatest
 
--- Whether a quantity with these values in two consecutive rows crosses north between them, which interrupts its
--- curve. Only the heading can cross north.
+-- Whether a quantity crosses north between two consecutive rows, given its values in them. This interrupts the
+-- quantity's curve. Only the heading can cross north.
 abbrev pub crosses_north : Quantity → ℤ → ℤ → Bool
 crosses_north Altitude before number = false
 crosses_north Climb before number = false

@@ -46,7 +46,8 @@ drawn_in frames reports = filter (λ (report : Report). nat_lt report.begin fram
 abbrev pub drawn_titles : Parts → ℕ → List Report → List (List ℕ)
 drawn_titles spec frames reports = map (report_title spec) (drawn_in frames reports)
 
--- The distance of row `k` from the top of its curve, in tenths of a pixel, or `None` if there is no such row.
+-- The distance of the point of row `k` from the top of a quantity's curve, in tenths of a pixel, or `None` if there
+-- is no such row.
 abbrev pub drop_at : Quantity → Extremes → List Row → ℕ → Option ℕ
 drop_at quantity extremes rows k = option_map (λ (row : Row). drop_of extremes (quantity_of quantity row.world)) (slice_get rows k)
 

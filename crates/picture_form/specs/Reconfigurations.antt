@@ -44,7 +44,8 @@ report_title spec report = route_text spec report.from report.to ++ times_text s
 abbrev pub rows_width : Sheet → ℕ → ℕ → ℕ
 rows_width sheet begin last = width_of sheet (min last (sheet.rows - 1) + 1 - begin)
 
--- The outline of the rows that a bound allows, or the empty text if there is no bound.
+-- The outline of the rows that a bound allows for a reconfiguration that begins in row `begin`, or the empty text if
+-- there is no bound.
 abbrev pub bound_rect : Sheet → ℕ → Option ℕ → List ℕ
 bound_rect sheet begin None = []
 bound_rect sheet begin (Some bound) =

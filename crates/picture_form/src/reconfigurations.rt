@@ -1,4 +1,4 @@
-//! Reconfigurations and their bounds, made without allocating.
+//! The boxes of reconfigurations and of their bounds, made without allocating.
 
 ghost use Rattle.std.specs.Prelude.{◌≡◌, ◌<◌, ◌≤◌, ◌+◌, ◌++◌, length};
 ghost use Rattle.scram_types.specs.declared.limits.TheConstants.{MAX_LINE_BYTES};
