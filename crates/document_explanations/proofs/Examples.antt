@@ -72,7 +72,7 @@ elements : found_text_at Specification 6 (codes ".demands") (object members) ≡
 unfolding members
 elements = refl
 
--- Each rule of both kinds of document has a text.
+-- The rules of specifications have the numbers 1 to 25, and the rules of scripts have the numbers 1 to 14.
 specification_rules : all_below (λ (k : ℕ). is_some (broken_rule Specification (k + 1))) 25 ≡ true
 specification_rules = refl
 

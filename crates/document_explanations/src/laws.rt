@@ -8,7 +8,7 @@ pub fn tables_are_read()
     ensures { TablesAreRead }
 {}
 
-/// States that at most 62 characters are shown of any text.
+/// States that at most 62 characters of any text are shown.
 pub fn found_is_short()
     ensures { FoundIsShort }
 {}
