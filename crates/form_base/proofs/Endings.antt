@@ -1,4 +1,4 @@
--- Lemmas that give the result of a form from the text that it printed.
+-- Lemmas on the result of a form, given the text that it printed.
 use Rattle.std.proofs.Common.{◌≡◌, ℕ, ◌-◌, ◌<◌, ◌≤◌, List, [], ◌++◌, length, append_assoc, append-nil, refl, sym, ◌∙◌, ap, inl, inr, arith}
 use Rattle.std.specs.Prelude.{◌≢◌, Option, Some, None, Result, Ok, Err, IfSome, IsTrue, ◌⊎◌}
 use Rattle.scram_io.specs.Outside.{Agrees, CutOff, FileMap, FilesState, Flushed, History, Printed, Prints, Rose, SinkState, TakesSurely, Took, TookPrefix, Unrisen, taken}
@@ -20,12 +20,13 @@ pub cut_taken : (status : ℕ) (text : List ℕ) (old new : SinkState) → CutOf
 cut_taken status text old new cut = record { shown = inr (refl, cut.prefix, cut.rose); surely = cut.surely; count = cut.count }
 
 -- If a text was written, the sink took it or a prefix of it. The code is the status of the text if the sink did not
--- fail, or that of unwritten output.
+-- fail, and otherwise the status of unwritten output.
 pub put_taken : {A E : Type 0} (put : Result A E) (status : ℕ) (text : List ℕ) (old new : SinkState) → Prints put old new text → IsTaken old new (status_after put status) status text
 put_taken {A} {E} (Ok _) status text old new printed = printed_taken status text old new printed
 put_taken {A} {E} (Err _) status text old new cut = cut_taken status text old new cut
 
--- If the sink took a text of status 0, it took the answer that has this text.
+-- If the sink took a text of status 0 or a prefix of it, the result is correct for the answer with this status and
+-- text.
 pub answered_tells : (text : List ℕ) (old new : SinkState) (code : ℕ) → IsTaken old new code ANSWERED text → Tells (Gives (ANSWERED, text)) old new code
 answered_tells text old new code taken =
     record { status = ANSWERED; text = text; answer = inl refl; read = λ same. absurd (omega (arith, same)); written = λ same. absurd (omega (arith, same)); taken = taken }

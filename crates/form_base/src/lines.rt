@@ -105,7 +105,7 @@ fn add_env_or_dash(line: &mut Line, spec: &Spec, env: &Option<Env>)
     }
 }
 
-/// Appends an environment in the form in which refusals show it.
+/// Appends the text of an environment: each factor with its value, and the names of the processors that are down.
 pub fn add_env(line: &mut Line, spec: &Spec, env: &Env)
     requires { length line.old + 346 ≤ MAX_LINE_BYTES }
     ensures text { line.new ≡ line.old ++ env_text spec.now env.now }

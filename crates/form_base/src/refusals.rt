@@ -29,7 +29,7 @@ pub enum Refused {
     Trace,
     /// A file breaks a rule of schedules, or the schedule does not fly to the end.
     Schedule,
-    /// A word is not the name of a part of the specification, as it has to be.
+    /// A word that must be the name of a part of the specification is not such a name.
     Name,
 }
 

@@ -42,5 +42,5 @@ pub const BROKEN_TRACE: u8 = 11;
 /// The schedule's file breaks a rule of schedules, or the schedule does not fly to the end.
 pub const BROKEN_SCHEDULE: u8 = 12;
 
-/// A word is not the name of a part of the specification, as it has to be.
+/// A word that must be the name of a part of the specification is not such a name.
 pub const UNKNOWN_NAME: u8 = 13;
