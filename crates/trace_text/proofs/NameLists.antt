@@ -1,4 +1,4 @@
--- Reading lists of names to their end.
+-- Lemmas on reading lists of names to their end.
 use Rattle.std.proofs.Common.{ℕ, ◌≡◌, ◌<◌, ◌≤◌, ◌+◌, ◌∙◌, false, List, [], ◌∷◌, Option, Some, None, drop, length, arith, refl, sym, Bor}
 use Rattle.std.specs.Prelude.{◌==◌, option_map}
 use Rattle.std.proofs.lemmas.Bool.{ne_eqb}

@@ -63,13 +63,13 @@ after_app spec s a row =
     else record { rows = s.rows ++ row ∷ []; reports = s.reports; standing = Rows }
 
 -- The state after the first line of a row, given the result of reading the line. The lines of the row's applications
--- are due.
+-- are expected next.
 abbrev pub with_row : ReadingState → Result Row ℕ → Result ReadingState ℕ
 with_row s (Ok row) = Ok (record { rows = s.rows; reports = s.reports; standing = Apps 0 row })
 with_row s (Err rule) = Err rule
 
--- The state after the line of application `a`, given the result of reading the line. Its act and area are added to
--- the row.
+-- The state after the line of application `a`, given the result of reading the line. The act and the area in the line
+-- are added to the row.
 abbrev pub with_done : Parts → ReadingState → ℕ → Row → Result Done ℕ → Result ReadingState ℕ
 with_done spec s a row (Ok done) = Ok (after_app spec s a (with_app row a done.act done.area))
 with_done spec s a row (Err rule) = Err rule

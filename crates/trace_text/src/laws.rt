@@ -9,7 +9,7 @@ pub fn least_rule_is_reported()
     ensures { LeastRuleIsReported }
 {}
 
-/// Reading the printed text of a flight gives the flight's rows and reconfigurations. The text is never too long,
+/// Reading the printed text of a flight returns the flight's rows and reconfigurations. The text is never too long,
 /// since a row and its applications have at most 1,520 bytes, and a reconfiguration at most 100.
 pub fn printed_is_read()
     ensures { PrintedIsRead }

@@ -69,7 +69,11 @@ impl Progress {
         }
     }
 
-    /// Reads a further line, given without its line feed.
+    /// Reads a further line, given without its line feed, and returns the state after the line.
+    ///
+    /// # Errors
+    ///
+    /// Returns the first rule that the line breaks, or `NoMemory` if there is no memory for a further row or report.
     pub fn read_line(self, spec: &Spec, line: &[u8]) -> Result<Progress, Stop>
         ensures { AnswersLine (after_line spec.now self line.now) result }
     {
