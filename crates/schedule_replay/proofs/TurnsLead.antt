@@ -19,7 +19,7 @@ use Rattle.schedule_replay.specs.Turns.{ending, steps_by}
 other_false : (a b : ℕ) → a ≢ b → nat_eq a b ≡ false
 other_false a b h = grind (arith, nat_tests, h)
 
--- An event of processor `p` moves neither the kernel nor any other processor.
+-- The event `e` is an event of processor `p`. It moves neither the kernel nor any other processor.
 record IsOf (p : ℕ) (e : Event) : Type 0 where
   actor : (q : ℕ) → is_actor e q ≡ nat_eq q p
   asks : (m : Flight) (at : Places) (words : Word → ℕ) → next_of_actor m at words e ≡ next_of m at words p

@@ -35,7 +35,7 @@ not_at_once : (o : Option ℕ) (f : ℕ) → back_by o f f ≡ false
 not_at_once None f = refl
 not_at_once (Some r) f = grind (arith, nat_tests)
 
--- At the place, the turn of a processor in frame `f` is still to come.
+-- A processor at this place has not yet had its turn in frame `f`.
 abbrev Waits : ℕ → Place → Type 0
 Waits f (At g n) = (g ≡ f) × (n ≡ 0)
 Waits f (Halted h) = h < f
@@ -94,8 +94,7 @@ module _ (m : Flight) (y : Flies m) where
             goes = ap (moved m (Start (proc_id p)) p) here ∙ (rw b.is (ap (λ (k : ℕ). At k 1) same));
           }
 
-  -- If a processor is down in frame `f`, then its place before its turn in the frame is also its place after the
-  -- turn.
+  -- The place that a processor has before its turn in a frame in which it is down is also a place after the turn.
   down_went : (s : Machine) (p f : ℕ) (place : Place) → s.at.frame ≡ f → m.up p f ≡ false → IsPlaced m s.at.frame s.at.step p place → Waits f place → Went m p f place
   down_went s p f (At g n) frame down is w = absurd (let same : m.up p f ≡ true = subst (λ (k : ℕ). m.up p k ≡ true) w.0 is.up in let bad : true ≡ false = sym same ∙ down in cc)
   down_went s p f (Halted h) frame down is w = (omega (arith, w), not_back (back_by (m.restart p) h f) refl)
@@ -129,7 +128,7 @@ module _ (m : Flight) (y : Flies m) where
     went = down_went s p f (s.at.proc p) frame down (kept.placed p low) w;
   }
 
-  -- The kernel is at the begin of frame `f`, and the turn of each processor in the frame is still to come.
+  -- The kernel is at the begin of frame `f`, and no processor has yet had its turn in the frame.
   record Begun (s : Machine) (f : ℕ) : Type 0 where
     kept : Kept m s.at s.words
     frame : s.at.frame ≡ f

@@ -1,4 +1,4 @@
--- Lemmas on how the reading of a schedule goes on or ends after its next line.
+-- Lemmas on how the reading of a schedule continues or ends after a further line.
 use Rattle.std.proofs.Common.{ℕ, ◌≡◌, ◌<◌, ◌≤◌, ◌+◌, ◌∙◌, List, [], ◌∷◌, ◌++◌, Result, Ok, Err, length, arith, refl, sym, ap}
 use Rattle.std.proofs.lemmas.Bool.{le-ltb}
 use Rattle.scram_types.specs.Specification.{Parts}

@@ -34,8 +34,8 @@ pub record IsWholeSchedule (m : Flight) (list : List Event) : Type 0 where
   pub replay : IsReplay m list at words
   pub over : IsOver m at
 
--- The events before index `index` are a schedule. The event `given` at that index is not its actor's next event after
--- them, which is `next`.
+-- The events before index `index` are a schedule, and the event at that index is `given`. After the schedule, the
+-- next event of the actor of `given` is `next`, or `None` if it has none. It is not `given`.
 pub record IsIllegal (m : Flight) (list : List Event) (index : ℕ) (given : Event) (next : Option Event) : Type 0 where
   pub at : Places
   pub words : Word → ℕ

@@ -1,5 +1,5 @@
--- The round-robin schedule. In each frame, each processor in order makes all its steps, and then the kernel makes its
--- own.
+-- The round-robin schedule. In each frame, each processor in order makes all its steps, and then the kernel makes all
+-- its steps.
 use Rattle.std.specs.Prelude.{◌≡◌, ℕ, zero, suc, List, [], ◌∷◌, ◌++◌, Option, Some, None, nat_lt, if◌then◌else◌}
 use Rattle.scram_types.specs.Lookups.{proc_id}
 use Rattle.scram_types.specs.Scripts.{ScriptParts}
@@ -59,7 +59,7 @@ in_turns spec script = frames_in_turns (flight_of spec script) script.frames
 abbrev pub Adds : List Event → List Event → List Event → Type 0
 Adds old new events = new ≡ old ++ events
 
--- The events are a schedule from the opening, at whose end the flight is over.
+-- The events are a schedule from the opening state, at whose end the flight is over.
 pub record LeadsToTheEnd (m : Flight) (events : List Event) : Type 0 where
   pub state : Machine
   pub schedule : IsSchedule m (opening m) events state
