@@ -1,4 +1,4 @@
--- Including the outcome of the next line in the totals gives the totals of all lines up to this one.
+-- Including the outcome of the next line in the totals results in the totals of all lines up to this one.
 use Rattle.std.proofs.Common.{◌≡◌, ◌∙◌, ℕ, ◌+◌, ◌≤◌, Bool, true, false, List, [], ◌∷◌, ◌++◌, arith, length, refl, sym, ap}
 use Rattle.std.proofs.lemmas.Int.{ints}
 use Rattle.std.proofs.lemmas.List.Sums.{count_by-le-length, sum_by-append}
@@ -102,7 +102,7 @@ totals_same : (lines others refused rejected : ℕ) (margin least : Option Fligh
     → (a b : Totals) → a ≡ record { lines = lines; refused = refused; margin = margin; gap = gap } → b ≡ record { lines = others; refused = rejected; margin = least; gap = greatest } → a ≡ b
 totals_same lines others refused rejected margin least gap greatest e f g h a b is that = cc
 
--- Including an outcome in the totals of the outcomes before it gives the totals of all these outcomes.
+-- Including an outcome in the totals of the outcomes before it results in the totals of all these outcomes.
 pub totals_more : (outcomes : List Outcome) (outcome : Outcome) → totals_of (outcomes ++ outcome ∷ []) ≡ with_outcome (totals_of outcomes) outcome
 totals_more outcomes outcome =
     let from_first : 0 + length outcomes ≡ length outcomes = omega arith in

@@ -1,4 +1,4 @@
--- The assurances that status 0 gives about a file of scripts.
+-- The assurances that follow from status 0 for a file of scripts.
 use Rattle.std.specs.Prelude.{◌≡◌, ℕ, ℤ, ◌<◌, ◌≤◌, ◌-◌, pos, ◌-ℤ◌, ◌≤ℤ◌, List, [], length, slice_get, Option, Some, Ok}
 use Rattle.scram_types.specs.Scripts.{ScriptParts}
 use Rattle.scram_types.specs.Specification.{Parts, bound_in}
@@ -91,6 +91,6 @@ AssuresFlights specification scripts =
     OfSpecification specification (λ (spec : Parts). OfDocument SaysScripts scripts (λ (bytes : List ℕ) (reads : History) (text : List ℕ).
     (reads ≡ []) × AreAssuredFlights spec bytes text))
 
--- Each answer of `flights` with status 0 gives the assurance of the form.
+-- The assurance `AssuresFlights` follows from each answer of `flights` with status 0.
 abbrev pub SeriesAreAssured : Type 0
 SeriesAreAssured = (specification scripts : List ℕ) → IsAssuring (FlightsAnswers specification scripts) (AssuresFlights specification scripts)

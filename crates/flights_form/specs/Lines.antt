@@ -16,7 +16,7 @@ abbrev pub greatest_text : Parts → Option AppGap → List ℕ
 greatest_text spec None = codes " gap 0"
 greatest_text spec (Some gap) = codes " gap " ++ decimal gap.gap.frames ++ codes " " ++ app_name spec gap.app.0 ++ codes " at " ++ decimal gap.gap.at
 
--- The reconfiguration with the minimum margin, and the margin, or `-` if there is none.
+-- The reconfiguration with the minimum margin, and the margin, or `-` if there is no margin.
 abbrev pub worst_text : Parts → Option Margin → List ℕ
 worst_text spec None = codes " worst -"
 worst_text spec (Some margin) =
