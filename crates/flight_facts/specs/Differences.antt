@@ -18,7 +18,8 @@ values_changed (factor ∷ factors) i before after =
     if slice_index before i == slice_index after i then values_changed factors (i + 1) before after
     else value_change factor (slice_index after i) ∷ values_changed factors (i + 1) before after
 
--- The text of a processor's change: `+` if the lowest bit of `up` is 1, or else `-`, and the processor's name.
+-- The text of a processor's change: `+` if the lowest bit of `up` is 1, or else `-`, followed by the processor's
+-- name.
 abbrev pub proc_change : Proc → ℕ → List ℕ
 proc_change proc up = (if up % 2 == 1 then codes "+" else codes "-") ++ proc.name
 

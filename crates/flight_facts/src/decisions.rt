@@ -27,7 +27,7 @@ pub fn decided_in(rows: &[Row], begin: u32) -> usize
     }
 }
 
-/// Returns whether two optional environments are both present and differ.
+/// Returns `true` if two optional environments are both present and differ.
 pub fn differ(spec: &Spec, before: Option<Env>, after: Option<Env>) -> bool
     ensures { result ≡ differ spec.now before after }
 {
