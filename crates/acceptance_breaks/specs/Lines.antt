@@ -96,7 +96,7 @@ unmet_piece spec requirement.Stays c v = unsettled_piece spec c v
 abbrev pub unmet_line : Parts → Requirement → ConfId → Env → List ℕ
 unmet_line spec asked c v = situation_piece spec c v ++ unmet_piece spec asked c v
 
--- The line for a start configuration that is left at once.
+-- The line for a start configuration from which another configuration is chosen in the opening environment.
 abbrev pub start_line : Parts → List ℕ
 start_line spec = situation_piece spec spec.start (opening_env spec) ++ codes "\n"
 
@@ -138,8 +138,8 @@ limits_text spec limits = subject_text spec limits ++ intervals_text limits
 abbrev pub way_text : Parts → Way → List ℕ
 way_text spec taken = conf_name spec taken.from.0 ++ (if taken.from.0 == taken.to.0 then [] else codes " > " ++ conf_name spec taken.to.0)
 
--- The line of an invariant, with the interval that it needs and the first way whose range its interval does not
--- contain.
+-- The line of an invariant, with the interval that the invariant needs, and the first way whose range the invariant's
+-- interval does not contain.
 abbrev pub unheld_line_of : Parts → Unheld → Invariant → List ℕ
 unheld_line_of spec found inv =
     codes "  invariant" ++ limits_text spec (invariant_limits found inv) ++ way_text spec found.way ++ codes " "
@@ -149,7 +149,8 @@ unheld_line_of spec found inv =
 abbrev pub unheld_line : Parts → Unheld → List ℕ
 unheld_line spec found = option_map_or (unheld_line_of spec found) (slice_get spec.invariants found.invariant) []
 
--- The line of precondition `k`, with the interval that it needs and its configuration.
+-- The line of precondition `k`, with the interval that the precondition needs, and the configuration of the
+-- precondition.
 abbrev pub missed_line_of : Parts → ℕ → Precondition → List ℕ
 missed_line_of spec k pre =
     codes "  precondition" ++ limits_text spec (precondition_limits spec k pre) ++ conf_name spec pre.conf.0 ++ codes " "
