@@ -147,7 +147,7 @@ fn put_choice<K: Sink>(
     requires { IsShare spec.now (is_ruled_by spec.now from k) share.now }
     ensures { Prints result (K.state out.old) (K.state out.new) (choice_text spec.now from.0 k) }
 {
-    // Using a field of a specification shows that it keeps its invariant.
+    // From the use of a field, the prover knows that the specification satisfies its invariant.
     let _ = &spec.rules;
     match share.first {
         Some(first) => out.put(make_choice_line(spec, from, k, share.count, &first).as_bytes()),
