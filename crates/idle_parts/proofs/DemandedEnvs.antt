@@ -1,4 +1,5 @@
--- Lemmas on the environment to which a demand applies if it applies to any in scope.
+-- Lemmas on `demanded_env`, the environment of a demand. If the demand applies to any environment in scope, it
+-- applies to this environment, which is then in scope.
 use Rattle.std.proofs.Common.{◌≡◌, ◌∙◌, ℕ, zero, suc, ◌<◌, ◌≤◌, ◌^◌, ap, arith, length, refl, sym, List, [], ◌∷◌, Bool, true, false, subst}
 use mathlib.Core.Logic.{inl, inr}
 use Rattle.std.specs.Prelude.{◌&&◌, ◌==◌, not, slice_get, Some, bit_and}
