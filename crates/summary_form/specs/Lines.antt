@@ -32,7 +32,7 @@ count_unfinished reports = count_by (λ (report : Report). has_no_target report.
 abbrev pub flight_line : List Row → List Report → List ℕ
 flight_line rows reports = codes "flight" ++ counts_text rows reports ++ codes " unfinished " ++ decimal (count_unfinished reports) ++ codes "\n"
 
--- The line of a reconfiguration, given `earlier`, which is the preceding reconfiguration if there is one.
+-- The line of a reconfiguration, given the preceding reconfiguration `earlier`, or `None` if there is none.
 abbrev pub reconfiguration_line : Parts → List Row → Option Report → Report → List ℕ
 reconfiguration_line spec rows earlier report =
     codes "reconfiguration " ++ conf_name spec report.from.0 ++ target_text spec report report.to ++ codes " margin " ++ margin_of spec report

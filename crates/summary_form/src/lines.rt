@@ -54,7 +54,7 @@ fn has_no_target(to: Option<ConfId>) -> bool
     }
 }
 
-/// Returns the line of a reconfiguration, given `earlier`, which is the preceding reconfiguration if there is one.
+/// Returns the line of a reconfiguration, given the preceding reconfiguration `earlier`, or `None` if there is none.
 pub fn make_reconfiguration_line(
     spec: &Spec,
     rows: &[Row],
