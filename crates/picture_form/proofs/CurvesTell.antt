@@ -1,4 +1,5 @@
--- If two pictures have the same curves, their flights have the same extremes and heights.
+-- If two pictures have the same curves, their flights have the same extremes, and each row is drawn at the same
+-- height.
 use Rattle.std.proofs.Common.{◌≡◌, ℕ, ℤ, pos, negsuc, zero, suc, ◌+◌, ◌-◌, ◌*◌, ◌/◌, ◌<◌, ◌≤◌, ◌^◌, Bool, true, false, cond, List, [], ◌∷◌, ◌++◌, Option, Some, None, drop as past, length, decimal, refl, sym, ap, arith, append_assoc, ◌∙◌}
 use mathlib.Core.Logic.{inl, inr}
 use Rattle.std.specs.Prelude.{◌==◌, codes, int_lt, nat_lt, nat_le, slice_get, if◌then◌else◌}

@@ -28,7 +28,7 @@ pub field : (P : ℕ → Bool) (d : ℕ) (a b r s : List ℕ) → P d ≡ false 
 field P d a b r s free e g h = let both = fields P d d a b r s free free e g h in (both.0, append_cancel_left (d ∷ []) r s both.1)
 
 -- The number of occurrences of byte `d` that remain after byte `b`, given the number that remained before `b`. It is
--- `None` if none remained before `b`, which means that `b` is past the end.
+-- `None` if none remained before `b`, which means that `b` is past the end of the part.
 abbrev pub to_come : ℕ → Option ℕ → ℕ → Option ℕ
 to_come d None b = None
 to_come d (Some zero) b = None

@@ -158,8 +158,8 @@ abbrev pub NoneSeen : Lane → List Row → Type 0
 NoneSeen lane [] = Unit {0}
 NoneSeen lane (row ∷ rows) = (is_seen lane row ≡ false) × NoneSeen lane rows
 
--- Each row is shown as the row with the same index in the other list, and the rows past the end of the other list
--- have no boxes.
+-- Each row shows the same in the lane as the row with the same index in the other list. The rows past the end of the
+-- other list have no boxes.
 abbrev pub SameRows : Lane → List Row → List Row → Type 0
 SameRows lane [] others = NoneSeen lane others
 SameRows lane (row ∷ rows) [] = NoneSeen lane (row ∷ rows)

@@ -26,8 +26,8 @@ use Rattle.picture_form.proofs.CurvesTell.{SameCurves, quantity_same}
 use Rattle.picture_form.proofs.ReportsTell.{boxes_begin, boxes_of, boxes_same, boxes_whole, reports_tell}
 use Rattle.picture_form.proofs.Sections.{IsSmall, grid_walk, lane_walk, open_ends, reports_walk, stable_spans_walk}
 
--- Concatenating the parts of a text from the right instead of from the left gives the same text. `n` is the text of
--- the first two lanes' names without its first two bytes.
+-- Concatenating the parts of a text from the right instead of from the left results in the same text. `n` is the text
+-- of the first two lanes' names without its first two bytes.
 ordered : (n u m z : List ℕ) → ((((60 ∷ 116 ∷ n) ++ u) ++ m) ++ z) ≡ 60 ∷ 116 ∷ (n ++ ((u ++ m) ++ z))
 ordered n u m z =
     append_assoc ((60 ∷ 116 ∷ n) ++ u) m z ∙ append_assoc (60 ∷ 116 ∷ n) u (m ++ z) ∙ ap (λ (rest : List ℕ). 60 ∷ 116 ∷ (n ++ rest)) (sym (append_assoc u m z))

@@ -1,4 +1,4 @@
--- What a row shows in a lane can be recovered from its title.
+-- What a row shows in a lane can be recovered from the title of the row's box.
 use Rattle.std.proofs.Common.{◌≡◌, ℕ, ◌+◌, ◌<◌, ◌^◌, Bool, true, List, [], ◌∷◌, ◌++◌, Option, Some, None, IsSome, length, decimal, refl, sym, ap, arith, append_assoc, ◌∙◌}
 use Rattle.std.specs.Prelude.{◌==◌, codes, slice_get, slice_index}
 use Rattle.std.specs.Option.{option_map_or}

@@ -94,7 +94,7 @@ rects_same spec lane y sheet other_sheet row other k n j m r s sound inside know
       behind = lines.1;
     }
 
--- Lemmas on rows that are shown alike.
+-- Lemmas on rows that look alike in a lane.
 
 proc_is : (p q : Option ProcId) → same_proc p q ≡ true → p ≡ q
 proc_is None None e = refl
@@ -121,7 +121,7 @@ doing_swaps act other third e =
     ∙ ap (λ (n : ℕ). (word_number (act_word other) == word_number (act_word third)) && (n == mode_of_act third) && same_proc (proc_of_act act) (proc_of_act third)) modes
     ∙ ap (λ (p : Option ProcId). (word_number (act_word other) == word_number (act_word third)) && (mode_of_act other == mode_of_act third) && same_proc p (proc_of_act third)) procs
 
--- If two rows are shown alike, a third row is shown like both of them or like neither.
+-- If two rows look alike in a lane, a third row looks like both of them or like neither.
 pub alike_swaps : (spec : Parts) (lane : Lane) (row other third : Row) → IsShownIn spec lane → are_alike lane row other ≡ true → are_alike lane row third ≡ are_alike lane other third
 alike_swaps spec Configuration row other third inside e = absurd inside
 alike_swaps spec (InFactor i) row other third inside e =

@@ -1,4 +1,5 @@
--- The law that two flights with the same picture show the same, and the flights and traces for which it holds.
+-- The law that two flights that can be drawn and have the same picture show the same, and the laws that every flight
+-- and every trace can be drawn.
 use Rattle.std.specs.Prelude.{◌≡◌, ◌<◌, ◌^◌, ℕ, true, List, Option, filter, length, map, nat_lt, option_map, slice_get, slice_index, Some}
 use lib.Signed.{mag}
 use Rattle.scram_types.specs.Specification.{Each, IsSpec, Parts}

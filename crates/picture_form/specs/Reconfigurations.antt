@@ -1,4 +1,4 @@
--- Reconfigurations and their bounds.
+-- The boxes of reconfigurations and of their bounds.
 use Rattle.std.specs.Prelude.{ℕ, ◌+◌, ◌-◌, min, List, [], ◌++◌, slice_get, nat_lt, Option, Some, None, codes, decimal, if◌then◌else◌}
 use Rattle.std.specs.Option.{option_map_or}
 use Rattle.scram_types.specs.Lookups.{conf_name}

@@ -1,4 +1,4 @@
-//! The curves of quantities, made without allocating.
+//! The curves of the aircraft's quantities over the rows of a flight, made without allocating.
 
 ghost use Rattle.std.specs.Prelude.{◌≡◌, ◌<◌, ◌≤◌, ◌+◌, ◌++◌, ◌^◌, length, option_map};
 ghost use Rattle.std.specs.Fmt.{signed_decimal};
@@ -26,7 +26,7 @@ fn distance(a: &i64, b: &i64) -> u64
     a.abs_diff(*b)
 }
 
-// Returns the distance of a number from the top of its curve, in tenths of a pixel.
+// Returns the distance of a value of a quantity from the top of the quantity's curve, in tenths of a pixel.
 fn drop_of(extremes: &Extremes, number: &i64) -> u64
     ensures { result ≡ drop_of extremes.now number.now }
 {

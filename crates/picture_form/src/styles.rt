@@ -6,7 +6,7 @@ ghost use Rattle.picture_form.specs.Styles.{part_text};
 /// A part of the document that is the same in every picture.
 #[derive(Clone, Copy, Debug, PartialEq, Eq)]
 pub enum Part {
-    /// The styles, which give the colours of the classes.
+    /// The styles, which set the colours of the classes.
     Style,
     /// The names of the lanes of configurations and reconfigurations.
     Names,
