@@ -74,7 +74,8 @@ refusal_written Trace same = absurd (omega (arith, same))
 refusal_written Schedule same = absurd (omega (arith, same))
 refusal_written Name same = absurd (omega (arith, same))
 
--- If a refusal was decided and the sink took its line, the form ends with this refusal.
+-- If a refusal was decided and the sink took the line of the refusal or a prefix of it, the form ends with this
+-- refusal.
 pub refusal_ends : (A : Answer) (names : List (List ℕ)) (before after : FilesState) (refused : Refused) (line : List ℕ) (old new : SinkState) (code : ℕ)
     → Decides A names before after (code_of refused) line → IsTaken old new code (code_of refused) line → Ends A names before after (IsTaken old new code)
 refusal_ends A names before after refused line old new code decides taken =
@@ -85,7 +86,8 @@ found_answer : (A : Answer) (Rest : ℕ → List ℕ → Type 0) (names : List (
 found_answer A Rest names before after finds status text (inl is) = inl (finds.answers status text is)
 found_answer A Rest names before after finds status text (inr is) = inr (is, finds.turn)
 
--- If the files of an answer were read and the sink took the rest of the answer, the form ends with this answer.
+-- If the files of an answer were read and the sink took a text that `Rest` allows, or a prefix of it, the form ends
+-- with this answer.
 pub found_ends : (A : Answer) (Rest : ℕ → List ℕ → Type 0) (names : List (List ℕ)) (before after : FilesState) (old new : SinkState) (code : ℕ)
     → IsPrepared A Rest names before after → Tells Rest old new code → Ends A names before after (IsTaken old new code)
 found_ends A Rest names before after old new code finds tells = record {
@@ -126,7 +128,8 @@ went_out old mid new text flushed empty took = record {
   held = empty;
 }
 
--- If the sink took the whole text and the flush failed, a prefix of the text was sent. The rest is held back.
+-- If the sink took the whole text and the flush failed, a prefix of the text was sent. The sink holds the remaining
+-- bytes back.
 stopped_whole : (old mid new : SinkState) (text : List ℕ) → Took old mid text → Flushed mid new → Rose mid.faults new.faults → old.faults ≤ mid.faults → StoppedIn old new text
 stopped_whole old mid new text took flushed rose count = record { rest = new.held; parts = sym took ∙ sym flushed.same; rose = omega (arith, rose, count) }
 

@@ -41,14 +41,15 @@ pub record IsPrepared (Answers : Answer) (Rest : ℕ → List ℕ → Type 0) (n
   pub turn : AreInTurn names reads
   pub answers : (status : ℕ) (text : List ℕ) → Rest status text → Answers before after reads status text
 
--- The files of an answer were read. The result is a value, from which the rest of the answer is made, or a refusal,
--- which is the answer.
+-- The files of an answer were read. If the result is a value, every status and text that `Rest` allows for the value
+-- is an answer. If the result is a refusal, it is the answer.
 abbrev pub Prepares : {T : Type 0} → Answer → (T → ℕ → List ℕ → Type 0) → List (List ℕ) → FilesState → FilesState → Result T Refusal → Type 0
 Prepares Answers Rest names before after (Ok value) = IsPrepared Answers (Rest value) names before after
 Prepares Answers Rest names before after (Err refusal) = Decides Answers names before after (answer_of refusal).0 (answer_of refusal).1
 
--- A decision was made without reading a file. The result is a value, from which the rest of the answer is made, or a
--- refusal. The refusal is the answer or reports that the allocator was out of memory.
+-- A decision was made without reading a file. If the result is a value, every status and text that `Rest` allows for
+-- the value is an answer. If the result is a refusal, it is an answer or reports that the allocator was out of
+-- memory.
 abbrev pub PreparesWithoutFiles : {T : Type 0} → (ℕ → List ℕ → Type 0) → (T → ℕ → List ℕ → Type 0) → Result T Refusal → Type 0
 PreparesWithoutFiles Answers Rest (Ok value) = (status : ℕ) (text : List ℕ) → Rest value status text → Answers status text
 PreparesWithoutFiles Answers Rest (Err refusal) =

@@ -1,4 +1,4 @@
--- Concatenated texts.
+-- The concatenation of numbered texts.
 use Rattle.std.specs.Prelude.{ℕ, zero, suc, List, [], ◌++◌}
 
 -- The texts of the numbers below `n`, concatenated in ascending order of the numbers.

@@ -25,7 +25,7 @@ pub fn make_specification_line(fault: &SpecFault) -> Line
     line
 }
 
-/// Returns the line for a specification that is not accepted. It has the condition, and the configuration, the
+/// Returns the line for a specification that is not accepted. The line has the condition, and the configuration, the
 /// environment and the further part at which the condition is broken.
 pub fn make_shown_line(spec: &Spec, shown: &Shown) -> Line
     ensures { result ≡ shown_line spec.now shown.now }

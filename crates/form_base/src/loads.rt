@@ -1,4 +1,4 @@
-//! The loading of the files that words name.
+//! The loading of the files that the command's words name.
 
 ghost use Rattle.std.specs.Prelude.{◌≡◌, ◌≢◌, IfErr, ℕ, List};
 ghost use Rattle.scram_io.specs.Outside.{Rose, StaysSteady};

@@ -15,7 +15,7 @@ pub const BROKEN_USAGE: u8 = 2;
 /// A file was not read.
 pub const UNREAD_FILE: u8 = 3;
 
-/// The output was not written, or only a prefix of it.
+/// None of the output was written, or only a prefix of it.
 pub const UNWRITTEN_OUTPUT: u8 = 4;
 
 /// The specification's file breaks a rule of specifications.
