@@ -1,4 +1,4 @@
--- Each printed line of an application is read.
+-- The printed line of each application is read back.
 use Rattle.std.proofs.Common.{ℕ, ℤ, suc, ◌≡◌, ◌<◌, ◌≤◌, ◌*◌, ◌^◌, ◌∙◌, true, false, List, [], ◌∷◌, ◌++◌, Some, Ok, length, map, decimal, arith, refl, sym, subst, length-append}
 use Rattle.std.specs.Prelude.{◌==◌, bytes_eq, codes, nat_le, slice_get}
 use Rattle.std.specs.Fmt.{signed_decimal}

@@ -1,4 +1,4 @@
--- Each printed name is found.
+-- Each printed name is found by the lookup of names.
 use Rattle.std.proofs.Common.{ℕ, suc, zero, ◌≡◌, ◌<◌, ◌+◌, ◌∙◌, Bool, true, false, cond, List, [], ◌∷◌, Option, Some, None, IsSome, length, arith, refl, sym, ap, subst}
 use Rattle.std.specs.Prelude.{◌==◌, bytes_eq, codes, slice_get}
 use Rattle.std.specs.Option.{option_map_or}

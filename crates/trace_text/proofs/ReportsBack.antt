@@ -1,4 +1,4 @@
--- The printed lines of reconfigurations and the end line are read.
+-- The printed lines of reconfigurations and the end line are read back.
 use Rattle.std.proofs.Common.{ℕ, suc, ◌≡◌, ◌<◌, ◌≤◌, ◌-◌, ◌^◌, ◌∙◌, Bool, true, false, cond, List, [], ◌∷◌, ◌++◌, Option, Some, None, Ok, length, decimal, arith, refl}
 use Rattle.std.specs.Prelude.{◌==◌, ◌&&◌, IfSome, codes, nat_le, nat_lt}
 use Rattle.std.specs.List.{list_all}

@@ -49,7 +49,7 @@ pub record IsWorldShown (world : World) : Type 0 where
   pub heading : IsShown world.heading
   pub bank : IsShown world.bank
 
--- An application ran in a mode that its specification lists, on a processor that exists.
+-- An application ran in a mode that the specification lists for it, on a processor that exists.
 pub record IsRun (spec : Parts) (app : AppSpec) (mode : Mode) (proc : ProcId) : Type 0 where
   pub listed : IsSome (mode_in app.modes mode.0)
   pub on : proc.0 < length spec.procs

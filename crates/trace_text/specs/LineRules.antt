@@ -150,7 +150,7 @@ is_due spec s words Finished = true
 is_due spec s words Unfinished = true
 is_due spec s words Ending = true
 
--- The number before a slash is below the number after it, which is at most 16.
+-- The number before a slash is below the number after it. The number after it is at most 16.
 abbrev pub is_in_phase : List ℕ × List ℕ → Bool
 is_in_phase sides =
     is_some_and (spelled_number 256 sides.0) (λ (k : ℕ). is_some_and (spelled_number 256 sides.1) (λ (n : ℕ). nat_lt k n && nat_le n MAX_PHASE))

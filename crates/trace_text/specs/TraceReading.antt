@@ -22,7 +22,8 @@ use Rattle.trace_text.specs.ReportReading.{report_read, end_read}
 use Rattle.trace_text.specs.RowReading.{row_read}
 use Rattle.trace_text.specs.declared.rule.TheConstants.{BROKEN_LINE, OUT_OF_PLACE, WRONG_END}
 
--- The state of reading a trace: the rows and reports of the lines so far, and the lines that may come next.
+-- The state of reading a trace: the rows and reports of the lines that have been read, and the lines that may come
+-- next.
 pub record ReadingState : Type 0 where
   pub rows : List Row
   pub reports : List Report

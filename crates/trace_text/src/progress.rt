@@ -1,4 +1,5 @@
-//! The state of reading a trace: the rows and reports of the lines so far, and the lines that may come next.
+//! The state of reading a trace: the rows and reports of the lines that have been read, and the lines that may come
+//! next.
 
 ghost use Rattle.std.specs.Prelude.{◌≡◌, ◌≤◌, ◌<◌, Ok, length};
 ghost use Rattle.std.specs.List.{list_all};
@@ -38,7 +39,7 @@ pub enum Stop {
     NoMemory,
 }
 
-/// The rows and reports of the lines so far, and the lines that may come next.
+/// The rows and reports of the lines that have been read, and the lines that may come next.
 #[derive(Drop)]
 pub struct Progress {
     pub rows: Vec<Row>,
