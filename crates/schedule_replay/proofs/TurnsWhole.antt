@@ -1,4 +1,4 @@
--- The round-robin schedule takes the flight from the opening to its end.
+-- The round-robin schedule takes the flight from the opening state to the end of the flight.
 use Rattle.std.proofs.lemmas.Bool.{eq-eqb, le-ltb, lt-ltb}
 use Rattle.std.proofs.Common.{◌≡◌, ◌∙◌, ℕ, zero, suc, ◌+◌, ◌-◌, ◌*◌, ◌/◌, ◌%◌, ◌<◌, ◌≤◌, Bool, true, false, ◌||◌, refl, ap, sym, subst, inl, inr, arith, List, [], ◌∷◌, ◌++◌}
 use Rattle.std.specs.Prelude.{Option, Some, None, nat_eq, nat_lt, nat_le, ◌&&◌, if◌then◌else◌}
@@ -53,7 +53,7 @@ ended_went m p f None = (refl, refl)
 ended_went m p f (Some s) = (omega arith, not_at_once (m.restart p) f)
 
 module _ (m : Flight) (y : Flies m) where
-  -- The first step of the turn of processor `p` in frame `f` is next.
+  -- The next event of processor `p` is the start of its turn in frame `f`.
   record Starts (s : Machine) (p f : ℕ) : Type 0 where
     next : next_of m s.at s.words p ≡ Some (Start (proc_id p))
     goes : moved m (Start (proc_id p)) p (s.at.proc p) ≡ At f 1

@@ -9,7 +9,7 @@ use Rattle.schedule_replay.specs.declared.limits.TheConstants.{MAX_SCHEDULE_BYTE
 use Rattle.schedule_replay.specs.declared.schedule_reading.ScheduleFault.{ScheduleFault}
 use Rattle.schedule_replay.specs.Reading.{events_from, event_read, schedule_fault, read_on, schedule_of}
 
--- A line that is not the last is read, and the reading continues with the next one.
+-- A line that is not the last is read, and the reading continues with the line after it.
 pub line_then : (spec : Parts) (k : ℕ) (so_far : List Event) (line : List ℕ) (lines : List (List ℕ)) → 0 < length lines →
     events_from spec k so_far (line ∷ lines) ≡ read_on k (event_read spec line) (λ (event : Event). events_from spec (k + 1) (so_far ++ event ∷ []) lines)
 line_then spec k so_far line [] h = absurd (omega arith)
