@@ -29,7 +29,7 @@ flown_line spec k facts =
     codes "flight " ++ decimal k ++ codes " frames " ++ decimal facts.frames ++ codes " reconfigurations " ++ decimal facts.reconfigurations
     ++ codes " unfinished " ++ decimal facts.unfinished ++ greatest_text spec facts.gap ++ worst_text spec facts.margin ++ codes "\n"
 
--- The text that precedes the refusal of flight `k` in its line.
+-- The text that precedes the refusal in the line of flight `k`.
 abbrev pub refused_start : ℕ → List ℕ
 refused_start k = codes "flight " ++ decimal k ++ codes " "
 

@@ -28,7 +28,7 @@ pub record PrintsLine (spec : Parts) (line : List ℕ) (totals : Totals) (result
   pub comes : IsOutcome spec line outcome
   pub prints : PrintsOutcome spec totals outcome result old new
 
--- The lines of a file that precede its rest were flown, the lines for their outcomes were printed, and `totals` are
+-- The lines of a file that precede `rest` were flown, the lines for their outcomes were printed, and `totals` are
 -- their totals.
 pub record IsFlownTo (spec : Parts) (bytes rest : List ℕ) (totals : Totals) (old new : SinkState) : Type 0 where
   pub front : List (List ℕ)
