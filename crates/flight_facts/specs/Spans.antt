@@ -48,8 +48,8 @@ same_conf (Some c) None = false
 same_conf (Some c) (Some d) = c.0 == d.0
 
 -- Whether two rows look alike in a lane. They have the same stable configuration in the lane of configurations, the
--- same value in the lane of a factor, and the same state in the lane of a processor. In the lane of an application they
--- have the same first word, mode and processor of its act.
+-- same value in the lane of a factor, and the same state in the lane of a processor. In the lane of an application,
+-- its acts in the two rows have the same first word, mode and processor.
 abbrev pub are_alike : Lane → Row → Row → Bool
 are_alike lane.Configuration row other = same_conf (stable_conf row.mode) (stable_conf other.mode)
 are_alike (lane.Factor i) row other = slice_index row.env.factors i == slice_index other.env.factors i
