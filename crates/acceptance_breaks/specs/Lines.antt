@@ -134,7 +134,8 @@ intervals_text limits = codes " " ++ extremes_text limits.given ++ codes " needs
 abbrev pub limits_text : Parts → Limits → List ℕ
 limits_text spec limits = subject_text spec limits ++ intervals_text limits
 
--- The name of the source of a way, and the name of the target if it is another configuration.
+-- The text of a way from a configuration to one of its possible targets, or to itself: the name of the source, and
+-- the name of the target if the target is another configuration.
 abbrev pub way_text : Parts → Way → List ℕ
 way_text spec taken = conf_name spec taken.from.0 ++ (if taken.from.0 == taken.to.0 then [] else codes " > " ++ conf_name spec taken.to.0)
 

@@ -117,7 +117,8 @@ fn variable_text(spec: &Spec, app: AppId, variable: u8) -> &'static str
     }
 }
 
-// Appends the name of the source of a way, and the name of the target if it is another configuration.
+// Appends the text of a way from a configuration to one of its possible targets, or to itself: the name of the
+// source, and the name of the target if the target is another configuration.
 fn add_way(line: &mut Line, spec: &Spec, way: &Way)
     requires { length line.old + 35 ≤ MAX_LINE_BYTES }
     ensures text { line.new ≡ line.old ++ way_text spec.now way.now }
