@@ -59,8 +59,8 @@ curve_begin sheet y =
     codes "<path class=\"line\" transform=\"translate(" ++ decimal (x_of sheet 0 + scale_of sheet.rows / 2) ++ codes " " ++ decimal y
     ++ codes ") scale(" ++ decimal (scale_of sheet.rows) ++ codes " .1)\" d=\""
 
--- The end of the path element of a curve whose top is at `y`, followed by text elements for the quantity's extremes,
--- which are to the right of the curve.
+-- The end of the path element of a curve whose top is at `y`, followed by text elements for the quantity's maximum
+-- and minimum. These elements are to the right of the curve.
 abbrev pub curve_end : Sheet → ℕ → Extremes → List ℕ
 curve_end sheet y extremes =
     codes "\"/>\n" ++ placed_text (codes "note") (x_of sheet sheet.rows + 8) (y + 8) (signed_decimal extremes.greatest)

@@ -110,7 +110,7 @@ pub fn make_curve_begin(sheet: Sheet, y: u64) -> Line
 }
 
 /// Returns the end of the path element of a curve whose top is at `y`, followed by text elements for the quantity's
-/// extremes, which are to the right of the curve.
+/// maximum and minimum. These elements are to the right of the curve.
 pub fn make_curve_end(sheet: Sheet, y: u64, extremes: &Extremes) -> Line
     requires { y ≤ 6100 }
     ensures { result ≡ curve_end sheet y extremes.now }
