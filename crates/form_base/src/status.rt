@@ -1,6 +1,6 @@
 //! The statuses of the command.
 
-/// The status with which the command ends, which is one of the constants below.
+/// The status with which the command ends. It is one of the constants below.
 #[derive(Clone, Copy, Debug, PartialEq, Eq)]
 pub struct Status {
     pub code: u8,
