@@ -59,7 +59,8 @@ ran_line spec next words =
     if app == next then Ok (done (act.Ran mode proc) area) else Err NOT_NEXT))))
 
 -- The result of reading the words of an application in a phase, given the number of the application whose line is
--- expected, the phase, and the two sides of the slash between the frame and the length of the phase.
+-- expected, the phase, and the two sides of a slash. The slash separates the frame of the phase from the length of
+-- the phase.
 abbrev pub phase_line : Parts → ℕ → List (List ℕ) → Phase → List ℕ × List ℕ → Result Done ℕ
 phase_line spec next words phase fraction =
     or_rule UNKNOWN_NAME (app_number spec (word_at words 1)) (λ (app : ℕ).

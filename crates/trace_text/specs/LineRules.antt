@@ -166,8 +166,8 @@ is_in_order spec words Finished = true
 is_in_order spec words Unfinished = true
 is_in_order spec words Ending = true
 
--- The words of a reconfiguration spell a first frame that is no later than `end`, the difference between `end` and
--- the first frame, and the bound `given`.
+-- The words of a reconfiguration spell a first frame, a length and a bound. The first frame is no later than `end`,
+-- the length is the difference between the two, and the bound is `given`.
 abbrev pub is_measured : Words → ℕ → Option ℕ → Bool
 is_measured words end given =
     is_some_and (spelled_number MAX_FRAMES (word_at words 5)) (λ (begin : ℕ).
