@@ -53,8 +53,8 @@ impl From<NoMemory> for ReplayError {
 ///
 /// # Errors
 ///
-/// Returns an error with the first event that is not the next of its actor, or with the event that would come next if
-/// the list ends before the flight is over, and `NoMemory` if memory runs out.
+/// Returns an error with the first event that is not the next of its actor. If the list ends before the flight is
+/// over, returns an error with the event that would come next. Returns `NoMemory` if memory runs out.
 pub fn replay(
     alloc: Global,
     spec: &Spec,
