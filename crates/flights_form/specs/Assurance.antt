@@ -70,8 +70,9 @@ pub record IsAssuredFlight (spec : Parts) (line : List ℕ) (facts : FlightFacts
       → KeepsMargin spec facts.margin report to
   pub gaps : (a : ℕ) (gap : Gap) → a < length spec.apps → longest_gap a 0 (rows_of spec script) ≡ Some gap → IsAtLeastOf facts.gap gap.frames
 
--- The specification is accepted, and the text is that of the outcomes of the lines, one for each. Each line that was
--- flown is assured. No line that was flown has a smaller margin or a longer gap than the totals report.
+-- The specification is accepted, there is one outcome for each line, and the text is `flights_text` for the outcomes.
+-- Each line that was flown is assured. No line that was flown has a smaller margin or a longer gap than the totals
+-- report.
 pub record AreAssuredFlights (spec : Parts) (scripts text : List ℕ) : Type 0 where
   pub accepts : Accepts spec
   pub outcomes : List Outcome
