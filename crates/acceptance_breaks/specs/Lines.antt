@@ -201,8 +201,8 @@ abbrev pub off_missed_text : Parts → Option ℕ → List ℕ
 off_missed_text spec None = []
 off_missed_text spec (Some a) = codes ", in which " ++ app_name spec a ++ codes " is on"
 
--- The text for an application that must be on but is off or in a mode that the demand does not allow. If there is none,
--- it is the text for the first application that must be off but is on.
+-- The text for an application that must be on but is off or in a mode that the demand does not allow. If there is no
+-- such application, the text is that for the first application that must be off but is on.
 abbrev pub app_missed_text : Parts → Demand → ConfId → Option ℕ → List ℕ
 app_missed_text spec demand c None = off_missed_text spec (first_off_missed spec demand c)
 app_missed_text spec demand c (Some a) = codes ", in which " ++ whereabouts_text spec a (place_of spec c a)
