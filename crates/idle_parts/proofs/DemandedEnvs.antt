@@ -194,7 +194,7 @@ module _ (spec : Parts) (made : IsSpec spec) (demand : Demand) (is : IsDemand sp
     spoken_in_scope = at_most_test _ spec.halts (let most = at_most (down_count spec v) spec.halts scope in let fewer = fewer_down in omega (arith, most, fewer))
 
   -- A demand applies to some environment in scope if and only if the environment of the demand is in scope and the
-  -- demand applies to it.
+  -- demand applies to that environment.
   pub spoken_somewhere : passes_somewhere spec (applies_in demand) ≡ (in_scope spec spoken && applies_in demand spoken)
   spoken_somewhere = same_test _ _
       (λ passes. let found = passes_found spec made (applies_in demand) passes in
