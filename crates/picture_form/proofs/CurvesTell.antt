@@ -31,7 +31,7 @@ use Rattle.picture_form.specs.declared.sheets.Sheet.{Sheet}
 use Rattle.picture_form.proofs.Cuts.{field, fields}
 use Rattle.picture_form.proofs.RectsBack.{decimal_digits, placed_grouped}
 
--- Lemmas that the distance of a point from the top of its curve is at most 480.
+-- Lemmas that the distance of a point from the top of its curve is at most 480 tenths of a pixel.
 
 drop_by : (t : Bool) (n : ℕ) → cond t 240 (480 - n) ≤ 480
 drop_by true n = omega arith

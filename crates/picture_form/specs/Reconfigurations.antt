@@ -40,7 +40,8 @@ route_text spec from to = codes "reconfiguration " ++ conf_name spec from.0 ++ c
 unfoldable pub report_title : Parts → Report → List ℕ
 report_title spec report = route_text spec report.from report.to ++ times_text spec report
 
--- The width of the rows from `begin` to `last`, inclusive, or to the last row of the flight if this is earlier.
+-- The width of the rows from `begin` to `last`, inclusive, or to the last row of the flight if that row is earlier.
+-- The width is 0 if `last` is less than `begin`.
 abbrev pub rows_width : Sheet → ℕ → ℕ → ℕ
 rows_width sheet begin last = width_of sheet (min last (sheet.rows - 1) + 1 - begin)
 
