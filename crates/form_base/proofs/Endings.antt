@@ -117,7 +117,7 @@ sent_surely_by (Some n) mid before between now last text first second = λ fits.
     let two : Unrisen between now × (last ≡ Some (n - length text - 0)) = then (omega arith) in
     record { same = two.0.same ∙ one.0.same; below = one.0.below }
 
--- If the sink is certain to take a text and then to send it, no fault is counted.
+-- If the sink is certain to take a text and then to send it, the sink's fault count does not rise.
 sent_surely : (old mid new : SinkState) (text : List ℕ) → TakesSurely old mid text → Flushed mid new → IsQuietFor text old new
 sent_surely old mid new text first flushed = sent_surely_by old.surely mid.surely old.faults mid.faults new.faults new.surely text first flushed.surely
 

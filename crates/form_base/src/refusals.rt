@@ -1,4 +1,4 @@
-//! Refusals, which are printed instead of an answer. Each has a status and a line.
+//! Refusals, which are the answers to requests that are not carried out. Each has a status and a line.
 
 ghost use Rattle.std.specs.Prelude.{◌≡◌};
 ghost use Rattle.form_base.specs.Refusals.{IsUnread, code_of, line_text, memory_line, answer_of};
