@@ -31,7 +31,8 @@ abbrev pub IsModeShown : Parts → KMode → Type 0
 IsModeShown spec (Stable c) = IsIn spec.confs c
 IsModeShown spec (Moving from halting to since) = IsMove spec from halting to since
 
--- The processors that are up exist, each factor has one of its values, and the entries past the last factor are 0.
+-- The processors that are up exist, and each factor has one of its values. There are six entries for values, and
+-- those past the last factor are 0.
 pub record IsEnvShown (spec : Parts) (env : Env) : Type 0 where
   pub up : env.up < 2 ^ length spec.procs
   pub width : length env.factors ≡ 6
