@@ -24,7 +24,7 @@ step : (spec : Parts) (k : ℕ) (so_far : List Event) (text rest behind : List �
 step spec k so_far text rest behind read split here =
     sym (line_then spec k so_far text (pieces_of 10 behind) (some_piece 10 behind)) ∙ ap (events_from spec k so_far) (sym split) ∙ here
 
--- If a line is read as an event, then the reading continues after it.
+-- If a line is read as an event, then the reading continues after the line with the same result.
 pub taken : (spec : Parts) (k : ℕ) (so_far : List Event) (text rest behind : List ℕ) (event : Event) (read : Result (List Event) ScheduleFault) → pieces_of 10 rest ≡ text ∷ pieces_of 10 behind
     → event_read spec text ≡ Ok event → events_from spec k so_far (pieces_of 10 rest) ≡ read
     → events_from spec (k + 1) (so_far ++ event ∷ []) (pieces_of 10 behind) ≡ read
