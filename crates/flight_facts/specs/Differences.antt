@@ -35,7 +35,7 @@ procs_changed (proc ∷ procs) before after =
 abbrev pub differences : Parts → Env → Env → List (List ℕ)
 differences spec before after = values_changed spec.factors 0 before.factors after.factors ++ procs_changed spec.procs before.up after.up
 
--- The text of the difference between two environments, or `-` if there is none.
+-- The text of the difference between two environments, or `-` if they do not differ.
 abbrev pub difference_text : Parts → Env → Env → List ℕ
 difference_text spec before after = joined (differences spec before after)
 
