@@ -93,8 +93,8 @@ fn speaks_in_scope(spec: &Spec, demand: &Demand, env: &Env) -> bool
     in_scope(spec, env) && applies_in(demand, env)
 }
 
-// Returns the environment in which each factor has the value that a demand requires, and each processor is up unless
-// the demand requires it to be down.
+// Returns the environment in which each factor has the value that a demand requires, or its first value if the demand
+// requires none. Each processor is up unless the demand requires it to be down.
 fn make_spoken(spec: &Spec, demand: &Demand) -> Env
     ensures { result ≡ demanded_env spec.now demand.now }
 {
