@@ -75,7 +75,7 @@ pub fn make_reconfiguration_line(
     line
 }
 
-/// Returns the line of the changes of the environment in row `k`.
+/// Returns the line of the changes of the environment from the preceding row to row `k`, with `-` if nothing changed.
 pub fn make_change_line(spec: &Spec, rows: &[Row], k: usize) -> Line
     requires { k < 2 ^ 32 }
     ensures { result ≡ change_line spec.now rows.now k }
