@@ -61,11 +61,11 @@ variables_spaced variables = spaced (map (λ (variable : Variable). variable.nam
 abbrev pub kind_words : Kind → List ℕ
 kind_words kind = kind.name
 
--- The name of a kind, followed by the names of its modes.
+-- The name of a kind and a colon, followed by the names of its modes, each preceded by a space.
 abbrev pub kind_and_modes : Kind → List ℕ
 kind_and_modes kind = kind.name ++ codes ":" ++ spaced kind.modes
 
--- The name of a kind, followed by the names of the variables that it uses.
+-- The name of a kind and a colon, followed by the names of the variables that it uses, each preceded by a space.
 abbrev pub variables_text : Kind → List ℕ
 variables_text kind = kind.name ++ codes ":" ++ variables_spaced kind.variables
 
@@ -74,7 +74,7 @@ abbrev pub names_spaced : List (List ℕ) → List ℕ
 names_spaced [] = []
 names_spaced (name ∷ names) = codes " " ++ name ++ names_spaced names
 
--- The name of a factor, followed by the names of its values.
+-- The name of a factor and a colon, followed by the names of its values, each preceded by a space.
 abbrev pub factor_and_values : Factor → List ℕ
 factor_and_values factor = factor.name ++ codes ":" ++ names_spaced factor.values
 
