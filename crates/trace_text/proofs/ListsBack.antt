@@ -150,7 +150,8 @@ apart : (proc : Proc) (procs : List Proc) → NamesDiffer (λ (p : Proc). p.name
 apart proc procs differ i other there =
     not_true _ (λ t. let same : 0 ≡ suc i = differ 0 (suc i) proc other refl there (same_text proc.name other.name t) in absurd (omega (arith, same)))
 
--- The bits of the processors that are up are read from their names, given the bit `bit` of the first processor.
+-- Reading the names of the processors that are up adds `bit * up` to `sum`, given the bit `bit` of the first
+-- processor.
 up_back : (procs : List Proc) (bit sum up : ℕ) → NamesDiffer (λ (proc : Proc). proc.name) procs → up < 2 ^ length procs →
     up_from procs (names_up procs up) bit sum ≡ Some (sum + bit * up)
 up_back [] bit sum up differ below =

@@ -77,15 +77,16 @@ names_left proc (name ∷ names) = if bytes_eq proc.name name then names else na
 abbrev pub with_bit : Bool → ℕ → ℕ → ℕ
 with_bit named bit up = if named then up + bit else up
 
--- The bits of the named processors, or `None` if the names are not in the order of the processors. `bit` is the bit
--- of the first processor of the list, and `up` has the bits of the preceding ones.
+-- The bits of the named processors, or `None` if a name is unknown or the names are not in the order of the
+-- processors. `bit` is the bit of the first processor of the list, and `up` has the bits of the preceding ones.
 abbrev pub up_from : List Proc → List (List ℕ) → ℕ → ℕ → Option ℕ
 up_from [] [] bit up = Some up
 up_from [] (name ∷ names) bit up = None
 up_from (proc ∷ procs) names bit up =
     up_from procs (names_left proc names) (bit * 2) (with_bit (is_next proc names) bit up)
 
--- The bits of the processors that a list names, or `None` if the names are not in the order of the processors.
+-- The bits of the processors that a list names, or `None` if a name is unknown or the names are not in the order of
+-- the processors.
 abbrev pub up_in : List Proc → List ℕ → Option ℕ
 up_in procs list = up_from procs (items_of list) 1 0
 
