@@ -1,4 +1,4 @@
--- The intervals that invariants and preconditions give, and the intervals that they need.
+-- The intervals that invariants and preconditions specify, and the intervals that they need.
 use Rattle.std.specs.Prelude.{ℕ}
 use Rattle.scram_types.specs.Lookups.{place_of}
 use Rattle.scram_types.specs.Specification.{Parts}
@@ -8,7 +8,8 @@ use Rattle.condition_breaks.specs.declared.breaks.Unheld.{Unheld}
 use Rattle.condition_breaks.specs.Ranges.{interval, range_entering}
 use Rattle.acceptance_breaks.specs.declared.limits.Limits.{Limits}
 
--- The variable of an invariant, the interval that the invariant gives, and the smallest interval that suffices.
+-- The number, the application and the variable of an invariant, the interval that the invariant specifies, and the
+-- smallest interval that suffices.
 abbrev pub invariant_limits : Unheld → Invariant → Limits
 invariant_limits found inv = record {
   item = found.invariant;
@@ -18,8 +19,8 @@ invariant_limits found inv = record {
   needed = found.needed;
 }
 
--- The variable of precondition `k`, the interval that the precondition gives, and the range that the interval must
--- contain.
+-- The number `k`, the application and the variable of precondition `k`, the interval that the precondition specifies,
+-- and the range that the interval must contain.
 abbrev pub precondition_limits : Parts → ℕ → Precondition → Limits
 precondition_limits spec k pre = record {
   item = k;

@@ -96,7 +96,7 @@ unmet_piece spec requirement.Stays c v = unsettled_piece spec c v
 abbrev pub unmet_line : Parts → Requirement → ConfId → Env → List ℕ
 unmet_line spec asked c v = situation_piece spec c v ++ unmet_piece spec asked c v
 
--- The line for a start configuration that is left at once.
+-- The line for a start configuration from which another configuration is chosen in the opening environment.
 abbrev pub start_line : Parts → List ℕ
 start_line spec = situation_piece spec spec.start (opening_env spec) ++ codes "\n"
 
@@ -134,12 +134,13 @@ intervals_text limits = codes " " ++ extremes_text limits.given ++ codes " needs
 abbrev pub limits_text : Parts → Limits → List ℕ
 limits_text spec limits = subject_text spec limits ++ intervals_text limits
 
--- The name of the source of a way, and the name of the target if it is another configuration.
+-- The text of a way from a configuration to one of its possible targets, or to itself: the name of the source, and
+-- the name of the target if the target is another configuration.
 abbrev pub way_text : Parts → Way → List ℕ
 way_text spec taken = conf_name spec taken.from.0 ++ (if taken.from.0 == taken.to.0 then [] else codes " > " ++ conf_name spec taken.to.0)
 
--- The line of an invariant, with the interval that it needs and the first way whose range its interval does not
--- contain.
+-- The line of an invariant, with the interval that the invariant needs, and the first way whose range the invariant's
+-- interval does not contain.
 abbrev pub unheld_line_of : Parts → Unheld → Invariant → List ℕ
 unheld_line_of spec found inv =
     codes "  invariant" ++ limits_text spec (invariant_limits found inv) ++ way_text spec found.way ++ codes " "
@@ -149,7 +150,8 @@ unheld_line_of spec found inv =
 abbrev pub unheld_line : Parts → Unheld → List ℕ
 unheld_line spec found = option_map_or (unheld_line_of spec found) (slice_get spec.invariants found.invariant) []
 
--- The line of precondition `k`, with the interval that it needs and its configuration.
+-- The line of precondition `k`, with the interval that the precondition needs, and the configuration of the
+-- precondition.
 abbrev pub missed_line_of : Parts → ℕ → Precondition → List ℕ
 missed_line_of spec k pre =
     codes "  precondition" ++ limits_text spec (precondition_limits spec k pre) ++ conf_name spec pre.conf.0 ++ codes " "
@@ -199,8 +201,8 @@ abbrev pub off_missed_text : Parts → Option ℕ → List ℕ
 off_missed_text spec None = []
 off_missed_text spec (Some a) = codes ", in which " ++ app_name spec a ++ codes " is on"
 
--- The text for an application that must be on but is off or in a mode that the demand does not allow. If there is none,
--- it is the text for the first application that must be off but is on.
+-- The text for an application that must be on but is off or in a mode that the demand does not allow. If there is no
+-- such application, the text is that for the first application that must be off but is on.
 abbrev pub app_missed_text : Parts → Demand → ConfId → Option ℕ → List ℕ
 app_missed_text spec demand c None = off_missed_text spec (first_off_missed spec demand c)
 app_missed_text spec demand c (Some a) = codes ", in which " ++ whereabouts_text spec a (place_of spec c a)

@@ -13,7 +13,7 @@ use form_base::lines::add_env;
 use scram_types::{ConfId, Env, Spec};
 use trace_text::lines::Line;
 
-// Returns the start of a line, with configuration `c`, an environment and the choice from `c` in it.
+// Returns the start of a line, with configuration `c`, an environment and the choice from `c` in that environment.
 pub(crate) fn make_situation_piece(spec: &Spec, c: ConfId, env: &Env) -> Line
     requires { IsEnv spec.now env.now }
     ensures { result ≡ situation_piece spec.now c env.now }
@@ -24,7 +24,7 @@ pub(crate) fn make_situation_piece(spec: &Spec, c: ConfId, env: &Env) -> Line
     line
 }
 
-// Appends the text of configuration `c`, an environment and the choice from `c` in it.
+// Appends the text of configuration `c`, an environment and the choice from `c` in that environment.
 pub(crate) fn add_situation(line: &mut Line, spec: &Spec, c: ConfId, env: &Env)
     requires env { IsEnv spec.now env.now }
     requires room { length line.old + 420 ≤ MAX_LINE_BYTES }

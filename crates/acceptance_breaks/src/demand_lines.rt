@@ -18,7 +18,8 @@ use scram_types::{AppId, ConfId, Demand, Env, Mode, Modes, Place, Spec};
 use trace_text::lines::Line;
 use trace_text::row_lines::name_of_mode;
 
-// Returns the start of a line, with demand `k`, configuration `c`, an environment and the choice from `c` in it.
+// Returns the start of a line, with demand `k`, configuration `c`, an environment and the choice from `c` in that
+// environment.
 pub(crate) fn make_demand_piece(spec: &Spec, c: ConfId, k: u32, env: &Env) -> Line
     requires { IsEnv spec.now env.now }
     ensures { result ≡ demand_piece spec.now c k env.now }

@@ -13,8 +13,8 @@ use scram_types::{AppId, Invariant, Place, Precondition, Spec};
 use trace_text::lines::Line;
 use trace_text::row_lines::name_of_mode;
 
-// Returns the line of an invariant, with the interval that it needs and the first way whose range its interval does not
-// contain. The line is empty if there is no such invariant.
+// Returns the line of an invariant, with the interval that the invariant needs, and the first way whose range the
+// invariant's interval does not contain. The line is empty if there is no such invariant.
 pub(crate) fn make_unheld_line(spec: &Spec, found: &Unheld) -> Line
     ensures { result ≡ unheld_line spec.now found.now }
 {
@@ -44,8 +44,8 @@ fn make_unheld_line_of(spec: &Spec, found: &Unheld, inv: &Invariant) -> Line
     line
 }
 
-// Returns the line of precondition `k`, with the interval that it needs and its configuration. The line is empty if
-// there is no such precondition.
+// Returns the line of precondition `k`, with the interval that the precondition needs, and the configuration of the
+// precondition. The line is empty if there is no such precondition.
 pub(crate) fn make_missed_line(spec: &Spec, k: u32) -> Line
     ensures { result ≡ missed_line spec.now k }
 {
@@ -117,7 +117,8 @@ fn variable_text(spec: &Spec, app: AppId, variable: u8) -> &'static str
     }
 }
 
-// Appends the name of the source of a way, and the name of the target if it is another configuration.
+// Appends the text of a way from a configuration to one of its possible targets, or to itself: the name of the
+// source, and the name of the target if the target is another configuration.
 fn add_way(line: &mut Line, spec: &Spec, way: &Way)
     requires { length line.old + 35 ≤ MAX_LINE_BYTES }
     ensures text { line.new ≡ line.old ++ way_text spec.now way.now }

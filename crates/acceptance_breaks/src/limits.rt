@@ -1,4 +1,4 @@
-//! The intervals that invariants and preconditions give, and the intervals that they need.
+//! The intervals that invariants and preconditions specify, and the intervals that they need.
 
 ghost use Rattle.std.specs.Prelude.{◌≡◌};
 ghost use Rattle.acceptance_breaks.specs.Limits.{invariant_limits, precondition_limits};
@@ -19,7 +19,8 @@ pub struct Limits {
     pub needed: Extremes,
 }
 
-// Returns the variable of an invariant, the interval that the invariant gives, and the smallest interval that suffices.
+// Returns the number, the application and the variable of an invariant, the interval that the invariant specifies,
+// and the smallest interval that suffices.
 pub(crate) fn invariant_limits(found: &Unheld, inv: &Invariant) -> Limits
     ensures { result ≡ invariant_limits found.now inv.now }
 {
@@ -32,8 +33,8 @@ pub(crate) fn invariant_limits(found: &Unheld, inv: &Invariant) -> Limits
     }
 }
 
-// Returns the variable of precondition `k`, the interval that the precondition gives, and the range that the interval
-// must contain.
+// Returns the number `k`, the application and the variable of precondition `k`, the interval that the precondition
+// specifies, and the range that the interval must contain.
 pub(crate) fn precondition_limits(spec: &Spec, k: u32, pre: &Precondition) -> Limits
     ensures { result ≡ precondition_limits spec.now k pre.now }
 {

@@ -1,4 +1,4 @@
--- Each answer of `choices` or `choose` with status 0 gives the assurance of its form.
+-- The assurance of `choices` or `choose` follows from each of its answers with status 0.
 use Rattle.std.proofs.Common.{◌≡◌, ℕ, List}
 use Rattle.std.specs.Prelude.{Option, Some, None}
 use Rattle.scram_types.specs.Specification.{Parts}

@@ -1,4 +1,5 @@
--- Changing an environment by the words of a state gives an environment of the specification.
+-- If an environment of the specification is changed by the words of a state, the result is an environment of the
+-- specification.
 use Rattle.std.proofs.Common.{◌≡◌, ◌∙◌, ℕ, ◌<◌, ◌≤◌, ap, arith, length, length-set, refl, subst, sym, List}
 use mathlib.Core.Logic.{inl, inr}
 use Rattle.std.specs.Prelude.{slice_get, Some}

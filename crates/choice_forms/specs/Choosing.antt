@@ -80,7 +80,7 @@ abbrev pub rule_needs : Parts → ℕ → Env → List ℕ
 rule_needs spec k v = option_map_or (λ (rule : Choice). needs_text spec rule.to v) (slice_get spec.rules k) []
 
 -- The first piece of the line of a choice from configuration `c` in environment `v`: the configuration, the
--- environment, rule `k` and its target.
+-- environment, rule `k` and its target. The piece has the text ` no rule` if there is no rule `k`.
 abbrev pub choice_piece : Parts → ConfId → Env → ℕ → List ℕ
 choice_piece spec c v k = codes "choice " ++ conf_name spec c.0 ++ codes " in " ++ state_text spec v ++ ruled_text spec k
 

@@ -23,12 +23,13 @@ abbrev pub state_word : List ℕ → Option StateWord
 state_word [] = value_word []
 state_word (byte ∷ rest) = if byte == 45 then option_map (λ (proc : List ℕ). Down proc) (name_of rest) else value_word (byte ∷ rest)
 
--- The words of a state that the texts spell, or `None` if some text spells no word.
+-- The words of a state that the texts spell, or `None` if at least one text spells no word.
 abbrev pub state_words : List (List ℕ) → Option (List StateWord)
 state_words [] = Some []
 state_words (word ∷ words) = option_and_then (λ (first : StateWord). option_map (λ (rest : List StateWord). first ∷ rest) (state_words words)) (state_word word)
 
--- The state that texts spell, or `None` if there are too many of them or some text spells no word.
+-- The state that texts spell, or `None` if there are more than `MAX_STATE_WORDS` texts or at least one text spells no
+-- word.
 abbrev pub state_in : List (List ℕ) → Option (List StateWord)
 state_in words = if nat_le (length words) MAX_STATE_WORDS then state_words words else None
 

@@ -43,8 +43,8 @@ struct Chosen {
 }
 
 /// Prints the choice from a configuration in a state, by the specification in a file. The line has the rule, its
-/// target, and the processors that the target needs but that are down. If the specification does not have a name in
-/// the words, the first such word is refused instead.
+/// target, and the processors that the target needs but that are down. If a word has a name that the specification
+/// does not have, prints the refusal of the first such word instead.
 pub fn choose<F: Files, K: Sink>(
     alloc: Global,
     question: Question<'_>,
@@ -127,7 +127,7 @@ fn env_after_all<'a>(spec: &Spec, state: &'a [StateWord]) -> Result<Env, &'a Sta
     ensures belongs { IfOk result (λ v. IsEnv spec.now v) }
     ensures word { IfErr result (λ word. env_after_all spec.now (opening_env spec.now) state.now ≡ Err word.now) }
 {
-    // Using a field of a specification shows that it keeps its invariant.
+    // From the use of a field, the prover knows that the specification satisfies its invariant.
     let _ = &spec.procs;
     let mut env = spec.opening_env();
     for word in state {
@@ -156,7 +156,7 @@ fn valued(spec: &Spec, env: &Env, factor: &Name, value: &Name) -> Option<Env>
     ensures env { result ≡ valued spec.now env.now factor.now value.now }
     ensures belongs { IfSome result (λ v. IsEnv spec.now v) }
 {
-    // Using a field of a specification shows that it keeps its invariant.
+    // From the use of a field, the prover knows that the specification satisfies its invariant.
     let _ = &spec.factors;
     let x = spec.factor_named(factor.as_str().as_bytes())?;
     let number = find_value(spec, x, value.as_str().as_bytes())?;
@@ -182,7 +182,7 @@ fn taken_down(spec: &Spec, env: &Env, proc: &Name) -> Option<Env>
     ensures env { result ≡ taken_down spec.now env.now proc.now }
     ensures belongs { IfSome result (λ v. IsEnv spec.now v) }
 {
-    // Using a field of a specification shows that it keeps its invariant.
+    // From the use of a field, the prover knows that the specification satisfies its invariant.
     let _ = &spec.procs;
     let p = spec.proc_named(proc.as_str().as_bytes())?;
     Some(Env {
@@ -200,7 +200,8 @@ fn others_up(up: u8, p: u8) -> u8
     if has_bit(up, p) { up - (1 << p) } else { up }
 }
 
-// Returns the refusal of a word of a state with a name that the specification does not have.
+// Returns the refusal of a word of a state with a name that the specification does not have, or the out-of-memory
+// refusal if there is no memory for its line.
 fn no_word(alloc: Global, word: &StateWord) -> Refusal
     ensures { IsUnknown (state_word_text word.now) (answer_of result) }
 {

@@ -1,5 +1,5 @@
-//! The forms `choices` and `choose`, which show the choice table. Their output depends only on their words and the
-//! bytes of the file that the words name.
+//! The forms `choices` and `choose`, which show the choice table. The output of a form depends only on the command's
+//! words and the bytes of the file that the words name.
 #![tactic(auto)]
 
 mod choosing;

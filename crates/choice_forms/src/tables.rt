@@ -1,5 +1,5 @@
-//! The form `choices`, which shows for each configuration the rules that choose its target and the number of
-//! environments in which they do.
+//! The form `choices`. For each configuration, it shows the rules that choose the configuration's target, and the
+//! number of environments in which each of these rules chooses it.
 
 ghost use Rattle.std.specs.Prelude.{◌≡◌, ◌<◌, ◌≤◌, ◌∷◌, [], IfOk, length};
 ghost use Rattle.scram_types.specs.Lookups.{conf_id};
@@ -32,9 +32,9 @@ struct Table {
     shares: Vec<List<Share>>,
 }
 
-/// Prints a line for each configuration and each rule that chooses its target in some environment in scope, with the
-/// number of these environments and the first of them. If too many environments are in scope, it prints the refusal
-/// instead.
+/// Prints a line for each configuration and each rule that chooses the configuration's target in some environment in
+/// scope, with the number of these environments and the first of them. If too many environments are in scope, it
+/// prints the refusal instead.
 pub fn choices<F: Files, K: Sink>(
     alloc: Global,
     specification: &str,
@@ -147,7 +147,7 @@ fn put_choice<K: Sink>(
     requires { IsShare spec.now (is_ruled_by spec.now from k) share.now }
     ensures { Prints result (K.state out.old) (K.state out.new) (choice_text spec.now from.0 k) }
 {
-    // Using a field of a specification shows that it keeps its invariant.
+    // From the use of a field, the prover knows that the specification satisfies its invariant.
     let _ = &spec.rules;
     match share.first {
         Some(first) => out.put(make_choice_line(spec, from, k, share.count, &first).as_bytes()),

@@ -30,7 +30,7 @@ mode_fields spec (Stable c) = codes ",0," ++ conf_name spec c.0 ++ codes ",,,"
 mode_fields spec (Moving from halting to since) =
     codes ",1," ++ conf_name spec from.0 ++ codes "," ++ conf_field spec halting ++ codes "," ++ conf_name spec to.0 ++ codes "," ++ decimal since
 
--- A field for each factor, with the name of its value. `i` is the number of the first factor.
+-- A field for each factor, with the name of the factor's value. `i` is the number of the first factor.
 abbrev pub value_fields : List Factor → ℕ → List ℕ → List ℕ
 value_fields [] i values = []
 value_fields (factor ∷ factors) i values = codes "," ++ value_name factor (slice_index values i) ++ value_fields factors (i + 1) values
@@ -57,7 +57,8 @@ abbrev pub proc_field : Parts → Option ProcId → List ℕ
 proc_field spec None = []
 proc_field spec (Some p) = proc_name spec p.0
 
--- The fields of an act: its word, its mode and its processor. The mode or the processor is empty if the act has none.
+-- The fields of an act: its word, its mode and its processor. The field of the mode is empty if the application did
+-- not run, and the field of the processor is empty if the act names none.
 abbrev pub act_fields : Parts → ℕ → Act → List ℕ
 act_fields spec kind act =
     codes "," ++ word_text (act_word act) ++ codes "," ++ mode_text kind (mode_of_act act) ++ codes "," ++ proc_field spec (proc_of_act act)
@@ -66,7 +67,8 @@ act_fields spec kind act =
 abbrev pub word_field : ℕ → List ℤ → ℕ → List ℕ
 word_field kind area i = option_map_or (λ (variable : List ℕ). codes "," ++ signed_decimal (slice_index_or area i (pos 0))) (name_in (variable_names kind) i) []
 
--- The fields of application `a` in a row: the fields of its act, and the words of its area that its kind uses.
+-- The fields of application `a` in a row: the fields of its act, and the words of its area that the application's
+-- kind uses.
 abbrev pub app_fields : Parts → Row → ℕ → AppSpec → List ℕ
 app_fields spec row a app =
     act_fields spec app.kind.0 (act_of row a) ++ texts_below (word_field app.kind.0 (slice_index_or row.areas a [])) 8

@@ -102,8 +102,8 @@ fn add_world_fields(line: &mut Line, world: &World)
     line.signed(&world.bank);
 }
 
-/// Returns the fields of application `a` in a row: the fields of its act, and the words of its area that its kind
-/// uses.
+/// Returns the fields of application `a` in a row: the fields of its act, and the words of its area that the
+/// application's kind uses.
 pub fn make_app_fields(spec: &Spec, row: &Row, a: usize, app: &AppSpec) -> Line
     requires { a < 8 }
     ensures { result ≡ app_fields spec.now row.now a app.now }
@@ -158,8 +158,8 @@ fn add_word_field(line: &mut Line, kind: KindId, area: &Area, i: u8)
     }
 }
 
-/// Returns the name of word `i` of a kind's area, at most 16 bytes. Returns `None` if there is no such kind or it does
-/// not use this word of its area.
+/// Returns the name of word `i` of a kind's area, which has at most 16 bytes. Returns `None` if there is no such kind
+/// or the kind does not use this word.
 #[tactic(auto, using(app_model::proofs::ShortNames::variable_short))]
 pub fn name_of_variable(kind: KindId, i: u8) -> Option<&'static str>
     ensures name { option_map (λ s. s.now) result ≡ name_in (variable_names kind.0) i }

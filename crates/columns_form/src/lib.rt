@@ -1,5 +1,5 @@
-//! The form `columns`, which prints a trace as a table of comma-separated values. Its output is the answer to the bytes
-//! of the files that its words name.
+//! The form `columns`, which prints a trace as a table of comma-separated values. The output of the form depends only
+//! on the bytes of the files that the command's words name.
 #![tactic(auto)]
 
 mod fields;

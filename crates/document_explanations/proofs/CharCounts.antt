@@ -35,7 +35,7 @@ shorter_at false n b text many more =
     let one : suc (length (take_chars n text)) < suc (length text) = omega (arith, less) in
     one
 
--- If a text has more than `n` characters, its first `n` characters are fewer bytes than the text.
+-- If a text has more than `n` characters, its first `n` characters have fewer bytes than the text.
 pub shorter_text : (n : ℕ) (text : List ℕ) → n < char_count text → length (take_chars n text) < length text
 unfolding char_count take_chars
 shorter_text n [] many = absurd (omega (arith, many))
@@ -71,7 +71,8 @@ dots_by false text short is shown other =
 pub cut_dots : (text short : List ℕ) → short ≡ take_chars 60 text → (length short ≡ length text → ⊥) → cut text ≡ short ++ codes ".."
 cut_dots text short shown other = dots_by (nat_lt 60 (char_count text)) text short refl shown other
 
--- If the first byte of a text begins a character, the first `n` characters of the text are at most `n` characters.
+-- If the first byte of a text begins a character, `take_chars n` of the text has at most `n` characters. The same
+-- must hold for every number and the text after that byte.
 counted_start : (none : Bool) (n b : ℕ) (text : List ℕ) → (n == 0) ≡ none → is_char_start b ≡ true → ((m : ℕ) → char_count (take_chars m text) ≤ m)
     → char_count (cond none [] (b ∷ take_chars (n - 1) text)) ≤ n
 unfolding char_count

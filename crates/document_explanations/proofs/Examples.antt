@@ -56,7 +56,7 @@ restarts_missing = refl
 halts : wanted_in Script 6 (codes ".halts") ≡ codes "0 to " ++ decimal 8 ++ codes " elements, 0 to " ++ decimal 16 ++ codes " where scram is 2"
 halts = refl
 
--- The members of a document of version 2, some of which are not in its table.
+-- The members of a document of version 2. The table has some of them only for other versions, or not at all.
 members : Members
 members = member (codes "demands") (array no_items) (member (codes "extra") (number (unsigned 1)) (member (codes "policy") (string (codes "settle")) (member (codes "scram") (number (unsigned 2)) no_members)))
 
@@ -72,7 +72,7 @@ elements : found_text_at Specification 6 (codes ".demands") (object members) ≡
 unfolding members
 elements = refl
 
--- Each rule of both kinds of document has a text.
+-- The rules of specifications have the numbers 1 to 25, and the rules of scripts have the numbers 1 to 14.
 specification_rules : all_below (λ (k : ℕ). is_some (broken_rule Specification (k + 1))) 25 ≡ true
 specification_rules = refl
 

@@ -16,19 +16,20 @@ four_more a b c d e = append_assoc ((a ++ b) ++ c) d e ∙ three_more a b c (d +
 pub six_more : (a b c d e f g : List ℕ) → (((((a ++ b) ++ c) ++ d) ++ e) ++ f) ++ g ≡ a ++ (b ++ (c ++ (d ++ (e ++ (f ++ g)))))
 six_more a b c d e f g = append_assoc ((((a ++ b) ++ c) ++ d) ++ e) f g ∙ append_assoc (((a ++ b) ++ c) ++ d) e (f ++ g) ∙ four_more a b c d (e ++ (f ++ g))
 
--- Appending three texts one by one is the same as appending their concatenation.
+-- Appending three texts to a text one by one is the same as appending their concatenation.
 pub joined_three : (a b c d : List ℕ) → ((a ++ b) ++ c) ++ d ≡ a ++ (b ++ c ++ d)
 joined_three a b c d = three_more a b c d ∙ ap (λ (rest : List ℕ). a ++ rest) (sym (append_assoc b c d))
 
--- Appending four texts one by one is the same as appending their concatenation.
+-- Appending four texts to a text one by one is the same as appending their concatenation.
 pub joined_four : (a b c d e : List ℕ) → (((a ++ b) ++ c) ++ d) ++ e ≡ a ++ (b ++ c ++ d ++ e)
 joined_four a b c d e = four_more a b c d e ∙ ap (λ (rest : List ℕ). a ++ rest) (sym (three_more b c d e))
 
--- The text of the rule that a document has at most `limit` bytes.
+-- The text of the rule that limits the number of bytes of a document. `limit` is the decimal text of that number.
 abbrev pub limit_end : List ℕ → List ℕ
 limit_end limit = codes "more than" ++ (codes " " ++ limit ++ codes " bytes")
 
--- The pieces of the lines for a document that is too long give the line with the rule and the line with its words.
+-- The pieces that are appended for a document with too many bytes are the line with the number of the broken rule,
+-- followed by the line with the rule's text.
 pub long_lines : (first rule number limit : List ℕ)
     → (((((first ++ rule) ++ codes "\n  rule ") ++ number) ++ codes ": more than ") ++ limit) ++ codes " bytes\n"
     ≡ first ++ rule ++ codes "\n" ++ (codes "  rule " ++ number ++ codes ": " ++ limit_end limit ++ codes "\n")

@@ -18,7 +18,7 @@ no_dots text lacks = All-from_get_or (λ (b : ℕ). (b == 46) ≡ false) text 0 
 pub last_level : (text : List ℕ) → Lacks text → pieces_of 46 text ≡ text ∷ []
 last_level text lacks = slice_split_none (λ (b : ℕ). b == 46) text (no_dots text lacks)
 
--- The first level of a text is the text before the first dot, and the other levels are those of the text after it.
+-- The first level of a text is the text before the first dot. The other levels are those of the text after that dot.
 pub first_level : (text level rest : List ℕ) → text ≡ level ++ 46 ∷ rest → Lacks level → pieces_of 46 text ≡ level ∷ pieces_of 46 rest
 first_level text level rest parts lacks =
     ap (pieces_of 46) parts ∙ slice_split_at (λ (b : ℕ). b == 46) level 46 rest (no_dots level lacks) (eq-eqb 46 46 refl)

@@ -11,7 +11,8 @@ items_each : (vs : List Value) → items_of (map (λ (v : Value). without_floats
 items_each [] = refl
 items_each (v ∷ vs) = ap (item (without_floats (view v))) (items_each vs)
 
--- If each copy is the value without floats, the list of the copies is the list without floats.
+-- If each of `copies` is the value at the same index of `vs` without floats, the list of the copies is the list `vs`
+-- without floats.
 pub items_shown : (copies vs : List Value) → map view copies ≡ map (λ (v : Value). without_floats (view v)) vs
     → items_view copies ≡ items_without_floats (items_view vs)
 items_shown copies vs same = ap items_of same ∙ items_each vs
@@ -21,8 +22,8 @@ match_shown Less a b c = refl
 match_shown Equal a b c = refl
 match_shown Greater a b c = refl
 
--- Adding a member without floats to the members without floats gives the members with the added member, without
--- floats.
+-- Adding a member without floats to members without floats has the same result as adding the member and then
+-- replacing all floats.
 pub put_shown : (k : List ℕ) (d : Data) (ms : Members) → put k (without_floats d) (members_without_floats ms) ≡ members_without_floats (put k d ms)
 put_shown k d no_members = refl
 put_shown k d (member l e ms) = rw (put_shown k d ms) (sym (match_shown (slice_cmp nat_cmp k l) (member k d (member l e ms)) (member l d ms) (member l e (put k d ms))))

@@ -1,4 +1,4 @@
--- The tables have the members that the readers need for each version of a document.
+-- The tables have the members that the readers of specifications and scripts expect for each version of a document.
 use Rattle.std.proofs.Common.{◌≡◌, ℕ, Bool, true, false, List, [], ◌∷◌, ◌++◌, cond, length, Option, Some, None, option_and_then, refl, map}
 use Rattle.std.specs.Prelude.{◌==◌, ◌||◌, codes}
 use Rattle.serde_json.specs.Find.{as_number, as_u64, get}

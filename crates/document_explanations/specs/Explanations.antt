@@ -9,7 +9,7 @@ use Rattle.document_explanations.specs.Rules.{DocumentRule, broken_rule, rule_wo
 use Rattle.document_explanations.specs.Wants.{wanted_text}
 use Rattle.document_explanations.specs.declared.rules.DocumentKind.{DocumentKind}
 
--- The line with the number and the words of a rule.
+-- The line with the number and the text of a rule.
 abbrev pub rule_line : DocumentRule → List ℕ
 rule_line rule = codes "  rule " ++ decimal rule.number ++ codes ": " ++ rule_words rule ++ codes "\n"
 

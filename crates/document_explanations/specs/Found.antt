@@ -54,8 +54,9 @@ further_members d (Some (wanted.Text text)) value = []
 abbrev pub elements_text : Data → List ℕ
 elements_text value = option_map_or (λ (items : Items). decimal (items_len items) ++ codes " elements") (as_array value) []
 
--- The text that is shown for `value`, which was found at a path of document `d` where `rule` is broken: the names of
--- the members that are not known, the number of elements if the length is wrong, or otherwise the value itself.
+-- The text that is shown for `value`, which was found at a path of document `d` where `rule` is broken. It has the
+-- names of the members that are not known if `rule` forbids further members, the number of elements if `rule` is that
+-- of a wrong length, and otherwise the value itself.
 abbrev pub found_in : DocumentKind → ℕ → List ℕ → Data → Data → List ℕ
 found_in kind rule path d value =
     if rule == FURTHER_MEMBER then further_members d (wanted_at kind rule path) value

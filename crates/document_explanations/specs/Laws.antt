@@ -14,14 +14,14 @@ use Rattle.document_explanations.specs.declared.objects.Object.TheVariants as ob
 abbrev pub names_of : Data → Object → List (List ℕ)
 names_of d object = map (λ (m : Member). m.name) (filter (λ (m : Member). is_version_of d m.versions) (members_of object))
 
--- The table of a specification has the members that the readers need for the version of a document, in order. For
--- specifications and scripts, the number of members is the one that the readers allow.
+-- The table of a specification has the members that the reader of specifications expects for the version of a
+-- document, in order. For specifications and scripts, the number of members is the number that the reader expects.
 pub record TablesAreRead : Type 0 where
   pub specification : (d : Data) → names_of d object.Specification
       ≡ first_members ++ (if has_policy d then codes "policy" ∷ [] else []) ++ (if has_demands d then codes "demands" ∷ [] else [])
   pub specification_count : (d : Data) → length (names_of d object.Specification) ≡ members_count d
   pub script_count : (d : Data) → length (names_of d object.Script) ≡ member_count (version_of d)
 
--- At most 62 characters are shown of any text.
+-- At most 62 characters of any text are shown.
 abbrev pub FoundIsShort : Type 0
 FoundIsShort = (text : List ℕ) → char_count (cut text) ≤ 62

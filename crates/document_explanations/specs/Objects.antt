@@ -26,7 +26,7 @@ pub record Member : Type 0 where
 abbrev pub member_read : TableMember → Member
 member_read m = record { name = m.name.now; versions = m.versions; wanted = m.wanted }
 
--- A member that only some versions have.
+-- A member that only the given versions of the document have.
 abbrev pub later : List ℕ → Versions → Wanted → Member
 later name versions wanted = record { name = name; versions = versions; wanted = wanted }
 

@@ -60,8 +60,8 @@ all_but_last (level ∷ next ∷ levels) = level ∷ all_but_last (next ∷ leve
 abbrev pub wanted_levels : ℕ → List ℕ → List (List ℕ)
 wanted_levels rule path = if rule == MISSING_MEMBER then all_but_last (levels_of path) else levels_of path
 
--- The expected value at a path where a rule of a document is broken, or the expected value of the object if a member
--- of it is missing. It is `None` if the document has no such path.
+-- The expected value at a path where a rule of a document is broken, or `None` if this kind of document has no such
+-- path. If a member is missing, it is the expected value of the member's object.
 abbrev pub wanted_at : DocumentKind → ℕ → List ℕ → Option Wanted
 wanted_at kind rule path = wanted_along (wanted_levels rule path) (wanted.Object (root_of kind))
 

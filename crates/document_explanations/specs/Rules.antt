@@ -34,7 +34,7 @@ rule_read r = record { number = r.number; text = r.text.now; limit = r.limit; sh
 abbrev pub says : ℕ → List ℕ → Shows → DocumentRule
 says number text shows = record { number = number; text = text; limit = None; shows = shows }
 
--- The rule with this number, that a document has at most `limit` bytes.
+-- The rule with this number, which states that a document has at most `limit` bytes.
 abbrev pub has_limit : ℕ → ℕ → DocumentRule
 has_limit number limit = record { number = number; text = codes "more than"; limit = Some limit; shows = Nothing }
 

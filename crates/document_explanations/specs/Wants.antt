@@ -61,11 +61,11 @@ variables_spaced variables = spaced (map (λ (variable : Variable). variable.nam
 abbrev pub kind_words : Kind → List ℕ
 kind_words kind = kind.name
 
--- The name of a kind, followed by the names of its modes.
+-- The name of a kind and a colon, followed by the names of its modes, each preceded by a space.
 abbrev pub kind_and_modes : Kind → List ℕ
 kind_and_modes kind = kind.name ++ codes ":" ++ spaced kind.modes
 
--- The name of a kind, followed by the names of the variables that it uses.
+-- The name of a kind and a colon, followed by the names of the variables that it uses, each preceded by a space.
 abbrev pub variables_text : Kind → List ℕ
 variables_text kind = kind.name ++ codes ":" ++ variables_spaced kind.variables
 
@@ -74,7 +74,7 @@ abbrev pub names_spaced : List (List ℕ) → List ℕ
 names_spaced [] = []
 names_spaced (name ∷ names) = codes " " ++ name ++ names_spaced names
 
--- The name of a factor, followed by the names of its values.
+-- The name of a factor and a colon, followed by the names of its values, each preceded by a space.
 abbrev pub factor_and_values : Factor → List ℕ
 factor_and_values factor = factor.name ++ codes ":" ++ names_spaced factor.values
 
@@ -101,7 +101,8 @@ length_wanted (extent.Within least most) = decimal least ++ codes " to " ++ deci
 length_wanted extent.Halts =
     codes "0 to " ++ decimal (halts_limit First) ++ codes " elements, 0 to " ++ decimal (halts_limit Second) ++ codes " where scram is 2"
 
--- The text that describes an expected number. `spec` is the specification that a script is for.
+-- The text that describes an expected number. `spec` is the specification that a script is for, or `None` if there is
+-- none.
 abbrev pub number_text : Option Parts → Number → List ℕ
 number_text spec number.SpecificationVersion = codes "1, 2 or 3"
 number_text spec number.ScriptVersion = codes "1 or 2"
@@ -110,7 +111,8 @@ number_text spec (number.Signed least greatest) = signed_decimal least ++ codes 
 number_text spec (number.Frame least) = decimal least ++ codes " to frames - 1"
 number_text spec number.Step = codes "0 to " ++ decimal (step_after_mark spec)
 
--- The text that describes an expected text. `spec` is the specification that a script is for.
+-- The text that describes an expected text. `spec` is the specification that a script is for, or `None` if there is
+-- none.
 abbrev pub text_text : Option Parts → Text → List ℕ
 text_text spec text.Name = codes "a name, 1 to 16 of a-z 0-9 _, a letter first"
 text_text spec text.Processor = codes "the name of a processor"
@@ -126,7 +128,8 @@ text_text spec text.Policy = codes "retarget or settle"
 text_text spec text.ScriptFactor = factors_and_values (script_factors spec)
 text_text spec text.ScriptProcessor = listed (map name_of_proc (script_procs spec))
 
--- The text that describes an expected value. `spec` is the specification that a script is for.
+-- The text that describes an expected value. `spec` is the specification that a script is for, or `None` if there is
+-- none.
 abbrev pub wanted_text : Option Parts → Wanted → List ℕ
 wanted_text spec (wanted.Object object) = listed (map member_wanted (members_of object))
 wanted_text spec (wanted.List length element) = length_wanted length

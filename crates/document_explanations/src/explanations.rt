@@ -28,6 +28,7 @@ pub struct BrokenDocument<'a> {
 }
 
 /// Appends the lines that follow the first line of the refusal of a document that breaks the rule with this number.
+/// Appends nothing if there is no such rule.
 ///
 /// # Errors
 ///

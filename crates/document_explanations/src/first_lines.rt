@@ -11,7 +11,8 @@ use reconf_spec::SpecFault;
 use scram_doc::Path;
 use scram_types::{Name, NoMemory};
 
-/// Appends the line for a specification document that breaks a rule.
+/// Appends the line for a specification document that breaks a rule. If the needs have a cycle, the line names the
+/// applications in it.
 ///
 /// # Errors
 ///

@@ -65,7 +65,7 @@ fn add_name(alloc: Global, lines: &mut Lines, is_later: bool, name: &String) -> 
     lines.push(text.as_str())
 }
 
-// Returns the names of those members that the table of their object does not have for the version of the document, as
+// Returns the names of those `members` that the table of `object` does not have for the version of the document, as
 // JSON texts separated by a comma and a space.
 #[tactic(auto, using(crate::proofs::Listing::nothing_left, crate::proofs::Listing::one_more))]
 fn further_text(

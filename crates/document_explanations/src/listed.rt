@@ -109,7 +109,7 @@ impl Shown<Kind> for KindText {
     }
 }
 
-/// The way to show a kind with its modes.
+/// The way to show a kind: its name, and the names of its modes.
 pub struct ModesText;
 
 impl Shown<Kind> for ModesText {
@@ -147,7 +147,7 @@ fn add_spaced(lines: &mut Lines, name: Option<&'static str>) -> Result<(), NoMem
     }
 }
 
-/// The way to show a kind with the variables that it uses.
+/// The way to show a kind: its name, and the names of the variables that it uses.
 pub struct VariablesText;
 
 impl Shown<Kind> for VariablesText {
@@ -185,7 +185,7 @@ impl Shown<Proc> for ProcText {
     }
 }
 
-/// The way to show a factor with its values.
+/// The way to show a factor: its name, and the names of its values.
 pub struct FactorText;
 
 impl Shown<Factor> for FactorText {

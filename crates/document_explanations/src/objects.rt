@@ -83,7 +83,7 @@ pub enum Number {
 /// An expected text.
 #[derive(Clone, Copy)]
 pub enum Text {
-    /// A new name.
+    /// A name that the document defines.
     Name,
     /// The name of a processor of the same document.
     Processor,
@@ -118,7 +118,7 @@ pub enum Element {
     Text(Text),
 }
 
-/// The expected value at a place of a document.
+/// The expected value at a path of a document.
 #[derive(Clone, Copy)]
 pub enum Wanted {
     Object(Object),

@@ -72,8 +72,8 @@ fn descend(start: Wanted, levels: &str) -> Option<(Wanted, &str)>
     Some((wanted, rest))
 }
 
-/// Returns the expected value at a path where a rule of a document is broken, or at the path's object if a member is
-/// missing. Returns `None` if the document has no such path.
+/// Returns the expected value at a path where a rule of a document is broken, or `None` if this kind of document has
+/// no such path. If a member is missing, the expected value is that of the member's object.
 pub fn wanted_at(kind: DocumentKind, rule: u8, path: &Path) -> Option<Wanted>
     ensures { result ≡ wanted_at kind rule path.now }
 {

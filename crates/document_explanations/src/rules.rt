@@ -11,7 +11,7 @@ use scram_types::NoMemory;
 use scram_types::limits::{MAX_SCRIPT_BYTES, MAX_SPECIFICATION_BYTES};
 use spec_members::rule as specification_rule;
 
-/// A kind of document that is explained.
+/// A kind of document whose broken rules are explained.
 #[derive(Clone, Copy)]
 pub enum DocumentKind {
     Specification,

@@ -12,7 +12,8 @@ use app_model::table::Kind;
 use scram_types::limits::MAX_PROCESSORS;
 use scram_types::{Factor, NoMemory, Proc, Spec};
 
-/// Appends the text that describes an expected value. `spec` is the specification that a script is for.
+/// Appends the text that describes an expected value. `spec` is the specification that a script is for, or `None` if
+/// there is none.
 ///
 /// # Errors
 ///

@@ -16,8 +16,8 @@ is_under_way (Stable c) = false
 is_under_way (Moving from halting to since) = true
 
 -- The row in which the reconfiguration that begins in row `begin` is decided. This is row `begin` if a
--- reconfiguration is under way in that row. Otherwise something was lost in row `begin`, and the deciding row is the
--- next row.
+-- reconfiguration is under way in that row. Otherwise an application was lost in row `begin`, and the deciding row is
+-- the next row.
 abbrev pub decided_in : List Row → ℕ → ℕ
 decided_in rows begin = if option_map_or (λ (row : Row). is_under_way row.mode) (slice_get rows begin) false then begin else begin + 1
 

@@ -18,7 +18,8 @@ values_changed (factor ∷ factors) i before after =
     if slice_index before i == slice_index after i then values_changed factors (i + 1) before after
     else value_change factor (slice_index after i) ∷ values_changed factors (i + 1) before after
 
--- The text of a processor's change: `+` if the lowest bit of `up` is 1, or else `-`, and the processor's name.
+-- The text of a processor's change: `+` if the lowest bit of `up` is 1, or else `-`, followed by the processor's
+-- name.
 abbrev pub proc_change : Proc → ℕ → List ℕ
 proc_change proc up = (if up % 2 == 1 then codes "+" else codes "-") ++ proc.name
 
@@ -34,7 +35,7 @@ procs_changed (proc ∷ procs) before after =
 abbrev pub differences : Parts → Env → Env → List (List ℕ)
 differences spec before after = values_changed spec.factors 0 before.factors after.factors ++ procs_changed spec.procs before.up after.up
 
--- The text of the difference between two environments, or `-` if there is none.
+-- The text of the difference between two environments, or `-` if they do not differ.
 abbrev pub difference_text : Parts → Env → Env → List ℕ
 difference_text spec before after = joined (differences spec before after)
 

@@ -22,6 +22,6 @@ abbrev pub margin_text : Option ℕ → ℕ → List ℕ
 margin_text None took = codes "-"
 margin_text (Some bound) took = signed_decimal (pos bound -ℤ pos took)
 
--- The text of the margin of a reconfiguration.
+-- The text of the margin of a reconfiguration, or `-` if there is no bound.
 abbrev pub margin_of : Parts → Report → List ℕ
 margin_of spec report = margin_text (bound_of spec report) (report.end - report.begin)

@@ -48,8 +48,8 @@ same_conf (Some c) None = false
 same_conf (Some c) (Some d) = c.0 == d.0
 
 -- Whether two rows look alike in a lane. They have the same stable configuration in the lane of configurations, the
--- same value in the lane of a factor, and the same state in the lane of a processor. In the lane of an application they
--- have the same first word, mode and processor of its act.
+-- same value in the lane of a factor, and the same state in the lane of a processor. In the lane of an application,
+-- its acts in the two rows have the same first word, mode and processor.
 abbrev pub are_alike : Lane → Row → Row → Bool
 are_alike lane.Configuration row other = same_conf (stable_conf row.mode) (stable_conf other.mode)
 are_alike (lane.Factor i) row other = slice_index row.env.factors i == slice_index other.env.factors i
@@ -72,7 +72,7 @@ row_before rows zero = None
 row_before rows (suc k) = slice_get rows k
 
 -- The number of rows of the span of a lane that begins with row `k`: row `k` and the consecutive rows after it that
--- look like it in the lane. `None` if row `k` looks like the preceding row or does not exist.
+-- look like row `k` in the lane. The value is `None` if row `k` looks like the preceding row or does not exist.
 abbrev pub span_at : Lane → List Row → ℕ → Option ℕ
 span_at lane rows k =
     option_and_then (λ (row : Row). if is_new lane (row_before rows k) row then Some (alike_rows lane row (drop (k + 1) rows) + 1) else None) (slice_get rows k)

@@ -5,7 +5,7 @@ ghost use Rattle.flight_facts.specs.Acts.{act_word, count_acts, mode_of_act, pro
 
 use scram_types::{Act, Mode, ProcId, Row, Spec};
 
-/// The first word of an act as a trace spells it. It shows what an application did in a frame.
+/// The first word of an act in a trace, which names what an application did in a frame.
 #[derive(Clone, Copy, Debug, PartialEq, Eq)]
 pub enum ActWord {
     Ran,
@@ -33,7 +33,7 @@ pub fn act_word(act: &Act) -> ActWord
 }
 
 impl ActWord {
-    /// Returns the text of the word, as a trace spells it. It has at most 12 bytes.
+    /// Returns the text of the word, as a trace spells it. The text has at most 12 bytes.
     pub fn text(self) -> &'static str
         ensures text { result.now ≡ word_text self }
         ensures short { length result.now ≤ 12 }

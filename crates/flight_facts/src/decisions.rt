@@ -11,8 +11,8 @@ use scram_types::{Env, KMode, Report, Row, Spec};
 use trace_text::lines::Line;
 
 /// Returns the row in which the reconfiguration that begins in row `begin` is decided. This is row `begin` if a
-/// reconfiguration is under way in that row. Otherwise something was lost in row `begin`, and the deciding row is the
-/// next row, which may not exist.
+/// reconfiguration is under way in that row. Otherwise an application was lost in row `begin`, and the deciding row
+/// is the next row, which may not exist.
 pub fn decided_in(rows: &[Row], begin: u32) -> usize
     ensures { result ≡ decided_in rows.now begin }
 {
@@ -27,7 +27,7 @@ pub fn decided_in(rows: &[Row], begin: u32) -> usize
     }
 }
 
-/// Returns whether two optional environments are both present and differ.
+/// Returns `true` if two optional environments are both present and differ.
 pub fn differ(spec: &Spec, before: Option<Env>, after: Option<Env>) -> bool
     ensures { result ≡ differ spec.now before after }
 {

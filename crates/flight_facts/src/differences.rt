@@ -22,7 +22,7 @@ pub fn add_difference(line: &mut Line, spec: &Spec, before: &Env, after: &Env)
     }
 }
 
-/// Returns whether two environments differ.
+/// Returns `true` if two environments differ.
 #[tactic(auto, using(crate::proofs::Listing::any_both))]
 pub fn have_changed(spec: &Spec, before: &Env, after: &Env) -> bool
     ensures { result ≡ have_changed spec.now before.now after.now }

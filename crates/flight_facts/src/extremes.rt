@@ -7,7 +7,7 @@ ghost use Rattle.flight_facts.specs.Extremes.{extremes_of, extremes_text, quanti
 use scram_types::{Row, World};
 use trace_text::lines::Line;
 
-/// A quantity of the aircraft that a row shows.
+/// A quantity of the aircraft that a row contains.
 #[derive(Clone, Copy, Debug, PartialEq, Eq)]
 pub enum Quantity {
     /// The altitude, in feet.

@@ -22,7 +22,7 @@ pub enum Lane {
 }
 
 /// Returns the number of rows of the span of a lane that begins with row `k`: row `k` and the consecutive rows after
-/// it that look like it in the lane. Returns `None` if row `k` looks like the preceding row or does not exist.
+/// it that look like row `k` in the lane. Returns `None` if row `k` looks like the preceding row or does not exist.
 pub fn span_at(lane: Lane, rows: &[Row], k: usize) -> Option<u32>
     requires lane { IsLane lane }
     requires rows { length rows.now < 2 ^ 32 }

@@ -1,4 +1,4 @@
--- Each answer of `flights` with status 0 gives the assurance of the form.
+-- The assurance `AssuresFlights` follows from each answer of `flights` with status 0.
 use Rattle.std.proofs.Common.{◌≡◌, ◌∙◌, ◌+◌, sym, ◌-◌, ◌-ℤ◌, pos, ap, arith, ℕ, zero, suc, List, [], ◌∷◌, refl, subst, inl, inr}
 use Rattle.std.specs.Prelude.{Option, Some, None, Result, Ok, Err, slice_get}
 use Rattle.scram_types.specs.Scripts.{ScriptParts}

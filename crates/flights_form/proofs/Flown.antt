@@ -26,7 +26,7 @@ are_both spec [] behind (outcome ∷ outcomes) others first second = absurd firs
 are_both spec (line ∷ front) behind [] others first second = absurd first
 are_both spec (line ∷ front) behind (outcome ∷ outcomes) others first second = (first.0, are_both spec front behind outcomes others first.1 second)
 
--- The outcomes that `outcome_of` gives for lines are outcomes of these lines.
+-- The values of `outcome_of` for lines are outcomes of these lines.
 all_come : (spec : Parts) (lines : List (List ℕ)) → AreOutcomes spec lines (map (outcome_of spec) lines)
 all_come spec [] = tt
 all_come spec (line ∷ lines) = (inl refl, all_come spec lines)

@@ -1,4 +1,4 @@
--- The reported minimum margin and longest gap are bounds for each flight.
+-- No flight has a smaller margin than the reported minimum margin, or a longer gap than the reported longest gap.
 use Rattle.std.proofs.Common.{◌≡◌, ◌∙◌, ◌<◌, ◌≤◌, ◌≤ℤ◌, ◌+◌, ℕ, zero, suc, ℤ, Bool, true, false, List, [], ◌∷◌, arith, length, refl, ap}
 use Rattle.std.proofs.lemmas.Int.{ints}
 use Rattle.std.specs.Prelude.{Option, Some, None, int_lt, nat_lt, slice_get, option_map, if◌then◌else◌}

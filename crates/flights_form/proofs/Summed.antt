@@ -1,4 +1,4 @@
--- Including the outcome of the next line in the totals gives the totals of all lines up to this one.
+-- Including the outcome of the next line in the totals results in the totals of all lines up to this one.
 use Rattle.std.proofs.Common.{◌≡◌, ◌∙◌, ℕ, ◌+◌, ◌≤◌, Bool, true, false, List, [], ◌∷◌, ◌++◌, arith, length, refl, sym, ap}
 use Rattle.std.proofs.lemmas.Int.{ints}
 use Rattle.std.proofs.lemmas.List.Sums.{count_by-le-length, sum_by-append}
@@ -10,8 +10,8 @@ use Rattle.flights_form.specs.declared.totals.FlightMargin.{FlightMargin}
 use Rattle.flights_form.specs.declared.totals.Totals.{Totals}
 use Rattle.flights_form.specs.Totals.{gap_in_flight, greater_in_flight, greatest_in_flights, is_refused, least_in_flights, lesser_in_flight, margin_in_flight, totals_of, with_outcome}
 
--- Lemmas that the minimum margin of outcomes with one more at their end is the smaller of the minimum margin of these
--- outcomes and the margin of the last one.
+-- Lemmas on outcomes that are followed by a further outcome. The minimum margin of all of them is the smaller of the
+-- minimum margin of the preceding outcomes and the margin of the further outcome.
 
 lesser_none : (a : Option FlightMargin) → lesser_in_flight a None ≡ a
 lesser_none None = refl
@@ -46,8 +46,8 @@ least_more k (first ∷ outcomes) outcome =
     ∙ sym (lesser_assoc (margin_in_flight k first) (least_in_flights (k + 1) outcomes) (margin_in_flight (k + 1 + length outcomes) outcome))
     ∙ ap (λ (n : ℕ). lesser_in_flight (least_in_flights k (first ∷ outcomes)) (margin_in_flight n outcome)) same
 
--- Lemmas that the longest gap of outcomes with one more at their end is the longer of the longest gap of these
--- outcomes and the gap of the last one.
+-- Lemmas on outcomes that are followed by a further outcome. The longest gap of all of them is the longer of the
+-- longest gap of the preceding outcomes and the gap of the further outcome.
 
 greater_none : (a : Option FlightGap) → greater_in_flight a None ≡ a
 greater_none None = refl
@@ -82,7 +82,7 @@ greatest_more k (first ∷ outcomes) outcome =
     ∙ sym (greater_assoc (gap_in_flight k first) (greatest_in_flights (k + 1) outcomes) (gap_in_flight (k + 1 + length outcomes) outcome))
     ∙ ap (λ (n : ℕ). greater_in_flight (greatest_in_flights k (first ∷ outcomes)) (gap_in_flight n outcome)) same
 
--- Lemmas that one more outcome adds one to the number of lines, and one to the number of refused lines if it is a
+-- Lemmas that a further outcome adds one to the number of lines, and one to the number of refused lines if it is a
 -- refusal.
 
 one_refused : (b : Bool) (n m : ℕ) → m ≡ n + (0 + (if b then 1 else 0)) → m ≡ n + (if b then 1 else 0)
@@ -102,7 +102,7 @@ totals_same : (lines others refused rejected : ℕ) (margin least : Option Fligh
     → (a b : Totals) → a ≡ record { lines = lines; refused = refused; margin = margin; gap = gap } → b ≡ record { lines = others; refused = rejected; margin = least; gap = greatest } → a ≡ b
 totals_same lines others refused rejected margin least gap greatest e f g h a b is that = cc
 
--- Including an outcome in the totals of the outcomes before it gives the totals of all these outcomes.
+-- Including an outcome in the totals of the outcomes before it results in the totals of all these outcomes.
 pub totals_more : (outcomes : List Outcome) (outcome : Outcome) → totals_of (outcomes ++ outcome ∷ []) ≡ with_outcome (totals_of outcomes) outcome
 totals_more outcomes outcome =
     let from_first : 0 + length outcomes ≡ length outcomes = omega arith in

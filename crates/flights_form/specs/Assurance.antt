@@ -1,4 +1,4 @@
--- The assurances that status 0 gives about a file of scripts.
+-- The assurances that follow from status 0 for a file of scripts.
 use Rattle.std.specs.Prelude.{◌≡◌, ℕ, ℤ, ◌<◌, ◌≤◌, ◌-◌, pos, ◌-ℤ◌, ◌≤ℤ◌, List, [], length, slice_get, Option, Some, Ok}
 use Rattle.scram_types.specs.Scripts.{ScriptParts}
 use Rattle.scram_types.specs.Specification.{Parts, bound_in}
@@ -70,8 +70,9 @@ pub record IsAssuredFlight (spec : Parts) (line : List ℕ) (facts : FlightFacts
       → KeepsMargin spec facts.margin report to
   pub gaps : (a : ℕ) (gap : Gap) → a < length spec.apps → longest_gap a 0 (rows_of spec script) ≡ Some gap → IsAtLeastOf facts.gap gap.frames
 
--- The specification is accepted, and the text is that of the outcomes of the lines, one for each. Each line that was
--- flown is assured. No line that was flown has a smaller margin or a longer gap than the totals report.
+-- The specification is accepted, there is one outcome for each line, and the text is `flights_text` for the outcomes.
+-- Each line that was flown is assured. No line that was flown has a smaller margin or a longer gap than the totals
+-- report.
 pub record AreAssuredFlights (spec : Parts) (scripts text : List ℕ) : Type 0 where
   pub accepts : Accepts spec
   pub outcomes : List Outcome
@@ -91,6 +92,6 @@ AssuresFlights specification scripts =
     OfSpecification specification (λ (spec : Parts). OfDocument SaysScripts scripts (λ (bytes : List ℕ) (reads : History) (text : List ℕ).
     (reads ≡ []) × AreAssuredFlights spec bytes text))
 
--- Each answer of `flights` with status 0 gives the assurance of the form.
+-- The assurance `AssuresFlights` follows from each answer of `flights` with status 0.
 abbrev pub SeriesAreAssured : Type 0
 SeriesAreAssured = (specification scripts : List ℕ) → IsAssuring (FlightsAnswers specification scripts) (AssuresFlights specification scripts)

@@ -27,7 +27,7 @@ pub record SumsUp (spec : Parts) (text : List ℕ) (facts : FlightFacts) : Type 
   pub facts_are : facts ≡ facts_of spec rows reports
 
 -- The outcome of a line sums up a status and a text. If the line was flown, the status is 0 and the text is a trace
--- with its facts. Otherwise the status and the text are the refusal of a script.
+-- with the facts of the outcome. Otherwise the status and the text are the refusal of a script.
 abbrev pub IsSummed : Parts → ℕ → List ℕ → Outcome → Type 0
 IsSummed spec status text (Flown facts) = (status ≡ ANSWERED) × SumsUp spec text facts
 IsSummed spec status text (Refused line) = ((status ≡ BROKEN_SCRIPT) ⊎ (status ≡ UNASSUMED_SCRIPT)) × (text ≡ line)

@@ -16,7 +16,7 @@ abbrev pub greatest_text : Parts → Option AppGap → List ℕ
 greatest_text spec None = codes " gap 0"
 greatest_text spec (Some gap) = codes " gap " ++ decimal gap.gap.frames ++ codes " " ++ app_name spec gap.app.0 ++ codes " at " ++ decimal gap.gap.at
 
--- The reconfiguration with the minimum margin, and the margin, or `-` if there is none.
+-- The reconfiguration with the minimum margin, and the margin, or `-` if there is no margin.
 abbrev pub worst_text : Parts → Option Margin → List ℕ
 worst_text spec None = codes " worst -"
 worst_text spec (Some margin) =
@@ -29,7 +29,7 @@ flown_line spec k facts =
     codes "flight " ++ decimal k ++ codes " frames " ++ decimal facts.frames ++ codes " reconfigurations " ++ decimal facts.reconfigurations
     ++ codes " unfinished " ++ decimal facts.unfinished ++ greatest_text spec facts.gap ++ worst_text spec facts.margin ++ codes "\n"
 
--- The text that precedes the refusal of flight `k` in its line.
+-- The text that precedes the refusal in the line of flight `k`.
 abbrev pub refused_start : ℕ → List ℕ
 refused_start k = codes "flight " ++ decimal k ++ codes " "
 

@@ -13,8 +13,9 @@ use Rattle.flights_form.specs.declared.outcomes.Outcome.{Outcome}
 use Rattle.flights_form.specs.declared.outcomes.Outcome.TheVariants.{Flown, Refused}
 use Rattle.flights_form.specs.Facts.{facts_of}
 
--- The outcome of a script that fits the specification, given the first frame with which the script leaves the failure
--- assumption if there is one. The outcome is the refusal by `run`, or the facts of the one-thread flight.
+-- The outcome of a script that fits the specification, given the first frame in which the script violates the failure
+-- assumption, or `None` if it does not violate the assumption. The outcome is the refusal by `run`, or the facts of
+-- the one-thread flight.
 abbrev pub outcome_within : Parts → ScriptParts → Option Outside → Outcome
 outcome_within spec script (Some outside) = Refused (outside_line outside)
 outcome_within spec script None = Flown (facts_of spec (rows_of spec script) (reports_of spec script))

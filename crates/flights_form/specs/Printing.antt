@@ -15,19 +15,19 @@ use Rattle.flights_form.specs.Totals.{totals_of, with_outcome}
 abbrev pub GivesSeries : Series → ℕ → List ℕ → Type 0
 GivesSeries series = GivesFlights series.accepted series.scripts
 
--- The line for an outcome was printed, and the result is the totals with this outcome. If the sink failed, only a
--- prefix of the line may have been printed.
+-- If the sink did not fail, the line for an outcome was printed, and the result is the totals with this outcome.
+-- Otherwise, only a prefix of the line may have been printed.
 abbrev pub PrintsOutcome : Parts → Totals → Outcome → Result Totals SinkFault → SinkState → SinkState → Type 0
 PrintsOutcome spec totals outcome (Ok next) old new = (next ≡ with_outcome totals outcome) × Printed old new (outcome_line spec totals.lines outcome)
 PrintsOutcome spec totals outcome (Err fault) old new = CutOff old new (outcome_line spec totals.lines outcome)
 
--- A line was flown, and the line for its outcome was printed. If the sink failed, only a prefix may have been printed.
+-- A line was flown, and the line for its outcome was printed, or only a prefix of the latter line if the sink failed.
 pub record PrintsLine (spec : Parts) (line : List ℕ) (totals : Totals) (result : Result Totals SinkFault) (old new : SinkState) : Type 0 where
   pub outcome : Outcome
   pub comes : IsOutcome spec line outcome
   pub prints : PrintsOutcome spec totals outcome result old new
 
--- The lines of a file that precede its rest were flown, the lines for their outcomes were printed, and `totals` are
+-- The lines of a file that precede `rest` were flown, the lines for their outcomes were printed, and `totals` are
 -- their totals.
 pub record IsFlownTo (spec : Parts) (bytes rest : List ℕ) (totals : Totals) (old new : SinkState) : Type 0 where
   pub front : List (List ℕ)
@@ -37,8 +37,8 @@ pub record IsFlownTo (spec : Parts) (bytes rest : List ℕ) (totals : Totals) (o
   pub totals_are : totals ≡ totals_of outcomes
   pub printed : Printed old new (outcome_lines spec 0 outcomes)
 
--- The lines for all outcomes were printed, and the result is the totals. If the sink failed, only a prefix of the lines
--- may have been printed.
+-- If the sink did not fail, the lines for all outcomes were printed, and the result is the totals. Otherwise, only a
+-- prefix of the lines may have been printed.
 abbrev pub PrintsOutcomes : Parts → List Outcome → Result Totals SinkFault → SinkState → SinkState → Type 0
 PrintsOutcomes spec outcomes (Ok totals) old new = (totals ≡ totals_of outcomes) × Printed old new (outcome_lines spec 0 outcomes)
 PrintsOutcomes spec outcomes (Err fault) old new = CutOff old new (outcome_lines spec 0 outcomes)

@@ -10,7 +10,7 @@ pub fn lines_are_runs()
     ensures { LinesAreRuns }
 {}
 
-/// States that each answer of `flights` with status 0 gives the assurance of the form.
+/// States that the assurance of the form follows from each answer of `flights` with status 0.
 pub fn series_are_assured()
     ensures { SeriesAreAssured }
 {

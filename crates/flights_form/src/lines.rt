@@ -29,7 +29,7 @@ pub fn make_flown_line(spec: &Spec, k: u32, facts: &FlightFacts) -> Line
     line
 }
 
-/// Returns the text that precedes the refusal of flight `k` in its line.
+/// Returns the text that precedes the refusal in the line of flight `k`.
 pub fn make_refused_start(k: u32) -> Line
     ensures { result ≡ refused_start k }
 {

@@ -26,8 +26,8 @@ pub enum Outcome {
     Refused(Line),
 }
 
-/// Reads the script in a line, flies it on the caller's thread if it keeps to the failure assumption, and returns the
-/// outcome.
+/// Reads the script in a line, flies the script on the caller's thread if it satisfies the failure assumption, and
+/// returns the outcome.
 pub fn fly_line(alloc: Global, spec: &Spec, line: &[u8]) -> Outcome
     ensures { IsOutcome spec.now line.now result }
 {

@@ -1,4 +1,4 @@
--- Lemmas on the assurance that an answer with status 0 gives.
+-- Lemmas on the assurance that follows from an answer with status 0.
 use Rattle.std.proofs.Common.{◌≡◌, ℕ, suc, List, [], ◌∷◌, refl, sym, ap, inl, inr, arith}
 use Rattle.std.specs.Prelude.{◌≢◌, ◌⊎◌}
 use Rattle.scram_types.specs.Specification.{IsSpec, Parts}
@@ -25,7 +25,8 @@ document_assures_by {T} Says Breaks name Then Assures law never bytes before aft
     record { bytes = bytes; rest = rest; read = first; value = is.0; says = is.1; assured = law is.0 bytes is.1 before after rest text is.2 }
 document_assures_by {T} Says Breaks name Then Assures law never bytes before after rest reads text first (inr is) = absurd (never text bytes is.1 refl)
 
--- If no refusal of a document has status 0, then an answer of status 0 to the document gives the assurance.
+-- If no refusal of a document has status 0, the assurance follows from an answer of status 0 to the document. The
+-- assurance must follow from an answer of status 0 to the document's value.
 pub document_assures : {T : Type 0} (Says : T → List ℕ → Type 0) (Breaks : ℕ × List ℕ → List ℕ → Type 0) (limit n : ℕ) (line name : List ℕ) (Then : T → Answer) (Assures : T → History → List ℕ → Type 0)
     → ((value : T) (bytes : List ℕ) → Says value bytes → IsAssuring (Then value) (Assures value))
     → ((text bytes : List ℕ) → Breaks (ANSWERED, text) bytes → ANSWERED ≢ ANSWERED)
@@ -38,7 +39,8 @@ document_assures {T} Says Breaks limit n line name Then Assures law never before
 no_broken_specification : (text bytes : List ℕ) → BreaksSpecification (ANSWERED, text) bytes → ANSWERED ≢ ANSWERED
 no_broken_specification text bytes breaks = not_zero 4 _ text (sym breaks.line)
 
--- An answer of status 0 to the specification in a file gives the assurance.
+-- The assurance follows from an answer of status 0 to the specification in a file. The assurance must follow from an
+-- answer of status 0 to the specification.
 pub specification_assures : (name : List ℕ) (Then : Parts → Answer) (Assures : Parts → History → List ℕ → Type 0)
     → ((spec : Parts) → IsSpec spec → IsAssuring (Then spec) (Assures spec)) → IsAssuring (AsksSpecification name Then) (OfSpecification name Assures)
 specification_assures name Then Assures law before after reads text is =

@@ -1,4 +1,4 @@
--- Lemmas that give the result of a form from the text that it printed.
+-- Lemmas on the result of a form, given the text that it printed.
 use Rattle.std.proofs.Common.{◌≡◌, ℕ, ◌-◌, ◌<◌, ◌≤◌, List, [], ◌++◌, length, append_assoc, append-nil, refl, sym, ◌∙◌, ap, inl, inr, arith}
 use Rattle.std.specs.Prelude.{◌≢◌, Option, Some, None, Result, Ok, Err, IfSome, IsTrue, ◌⊎◌}
 use Rattle.scram_io.specs.Outside.{Agrees, CutOff, FileMap, FilesState, Flushed, History, Printed, Prints, Rose, SinkState, TakesSurely, Took, TookPrefix, Unrisen, taken}
@@ -20,12 +20,13 @@ pub cut_taken : (status : ℕ) (text : List ℕ) (old new : SinkState) → CutOf
 cut_taken status text old new cut = record { shown = inr (refl, cut.prefix, cut.rose); surely = cut.surely; count = cut.count }
 
 -- If a text was written, the sink took it or a prefix of it. The code is the status of the text if the sink did not
--- fail, or that of unwritten output.
+-- fail, and otherwise the status of unwritten output.
 pub put_taken : {A E : Type 0} (put : Result A E) (status : ℕ) (text : List ℕ) (old new : SinkState) → Prints put old new text → IsTaken old new (status_after put status) status text
 put_taken {A} {E} (Ok _) status text old new printed = printed_taken status text old new printed
 put_taken {A} {E} (Err _) status text old new cut = cut_taken status text old new cut
 
--- If the sink took a text of status 0, it took the answer that has this text.
+-- If the sink took a text of status 0 or a prefix of it, the result is correct for the answer with this status and
+-- text.
 pub answered_tells : (text : List ℕ) (old new : SinkState) (code : ℕ) → IsTaken old new code ANSWERED text → Tells (Gives (ANSWERED, text)) old new code
 answered_tells text old new code taken =
     record { status = ANSWERED; text = text; answer = inl refl; read = λ same. absurd (omega (arith, same)); written = λ same. absurd (omega (arith, same)); taken = taken }
@@ -73,7 +74,8 @@ refusal_written Trace same = absurd (omega (arith, same))
 refusal_written Schedule same = absurd (omega (arith, same))
 refusal_written Name same = absurd (omega (arith, same))
 
--- If a refusal was decided and the sink took its line, the form ends with this refusal.
+-- If a refusal was decided and the sink took the line of the refusal or a prefix of it, the form ends with this
+-- refusal.
 pub refusal_ends : (A : Answer) (names : List (List ℕ)) (before after : FilesState) (refused : Refused) (line : List ℕ) (old new : SinkState) (code : ℕ)
     → Decides A names before after (code_of refused) line → IsTaken old new code (code_of refused) line → Ends A names before after (IsTaken old new code)
 refusal_ends A names before after refused line old new code decides taken =
@@ -84,7 +86,8 @@ found_answer : (A : Answer) (Rest : ℕ → List ℕ → Type 0) (names : List (
 found_answer A Rest names before after finds status text (inl is) = inl (finds.answers status text is)
 found_answer A Rest names before after finds status text (inr is) = inr (is, finds.turn)
 
--- If the files of an answer were read and the sink took the rest of the answer, the form ends with this answer.
+-- If the files of an answer were read and the sink took a text that `Rest` allows, or a prefix of it, the form ends
+-- with this answer.
 pub found_ends : (A : Answer) (Rest : ℕ → List ℕ → Type 0) (names : List (List ℕ)) (before after : FilesState) (old new : SinkState) (code : ℕ)
     → IsPrepared A Rest names before after → Tells Rest old new code → Ends A names before after (IsTaken old new code)
 found_ends A Rest names before after old new code finds tells = record {
@@ -114,7 +117,7 @@ sent_surely_by (Some n) mid before between now last text first second = λ fits.
     let two : Unrisen between now × (last ≡ Some (n - length text - 0)) = then (omega arith) in
     record { same = two.0.same ∙ one.0.same; below = one.0.below }
 
--- If the sink is certain to take a text and then to send it, no fault is counted.
+-- If the sink is certain to take a text and then to send it, the sink's fault count does not rise.
 sent_surely : (old mid new : SinkState) (text : List ℕ) → TakesSurely old mid text → Flushed mid new → IsQuietFor text old new
 sent_surely old mid new text first flushed = sent_surely_by old.surely mid.surely old.faults mid.faults new.faults new.surely text first flushed.surely
 
@@ -125,7 +128,8 @@ went_out old mid new text flushed empty took = record {
   held = empty;
 }
 
--- If the sink took the whole text and the flush failed, a prefix of the text was sent. The rest is held back.
+-- If the sink took the whole text and the flush failed, a prefix of the text was sent. The sink holds the remaining
+-- bytes back.
 stopped_whole : (old mid new : SinkState) (text : List ℕ) → Took old mid text → Flushed mid new → Rose mid.faults new.faults → old.faults ≤ mid.faults → StoppedIn old new text
 stopped_whole old mid new text took flushed rose count = record { rest = new.held; parts = sym took ∙ sym flushed.same; rose = omega (arith, rose, count) }
 

@@ -1,4 +1,4 @@
--- Lemmas that give the answer of a form from the files that it loaded.
+-- Lemmas on the answer of a form, given the files that it loaded.
 use Rattle.std.proofs.Common.{◌≡◌, ℕ, ◌≤◌, List, [], ◌∷◌, ◌++◌, refl, sym, ◌∙◌, ap, inl, inr, arith}
 use Rattle.std.specs.Prelude.{◌≢◌, Bool, Option, Some, None, IfNone, IfSome, IsSome, IsTrue, ◌⊎◌, ◌<◌, Result, Ok, Err, ⊤}
 use Rattle.scram_io.specs.Outside.{FileMap, FilesState, FoundLonger, Grew, History, Rose, SinkState, StaysSteady, Unrisen, file_at, greatest_count}
@@ -26,7 +26,8 @@ quiet_last_by : (told : Option FileMap) (name : List ℕ) (names : List (List �
 quiet_last_by None name names still again before now first = tt
 quiet_last_by (Some map) name names still again before now first = λ steady there. (first steady there.0).0
 
--- If only the first of the named files was read and the files stay steady, their fault count did not rise.
+-- If only the first of the named files was read and reading it keeps the files steady, the files satisfy `StaysQuiet`
+-- for all named files.
 quiet_last : (name : List ℕ) (names : List (List ℕ)) (before after : FilesState) → StaysSteady before after name → StaysQuiet (name ∷ names) before after
 quiet_last name names before after steady = quiet_last_by before.known_map name names before.steady after.steady before.faults after.faults steady
 

@@ -8,11 +8,12 @@ use Rattle.form_base.specs.Refusals.{read_line}
 abbrev pub Gives : ℕ × List ℕ → ℕ → List ℕ → Type 0
 Gives answered status text = answered ≡ (status, text)
 
--- An answer, as a relation between the files before and after, the reads made meanwhile, a status and a text.
+-- An answer: a relation between the states of the files before and after, the reads made between them, a status and a
+-- text.
 abbrev pub Answer : Type 1
 Answer = FilesState → FilesState → History → ℕ → List ℕ → Type 0
 
--- The answer is given, and no file is read.
+-- The status and the text satisfy `Answers`, and no file is read.
 abbrev pub WithoutFiles : (ℕ → List ℕ → Type 0) → Answer
 WithoutFiles Answers before after reads status text = (reads ≡ []) × Answers status text
 
@@ -29,7 +30,7 @@ pub record AnswersBytes (limit : ℕ) (name : List ℕ) (Answers : List ℕ → 
   pub answers : Answers bytes between after rest status text
 
 -- Only the file of this name was read. It has more than `limit` bytes, and the answer is `long`. If the map of the
--- files is not known, their fault count rose.
+-- files is not known, the fault count of the files rose.
 pub record AnswersLonger (limit : ℕ) (long : ℕ × List ℕ) (name : List ℕ) (before after : FilesState)
     (reads : History) (status : ℕ) (text : List ℕ) : Type 0 where
   pub bytes : List ℕ

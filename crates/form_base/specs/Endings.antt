@@ -14,7 +14,7 @@ IsMemoryRefusal status text = (status ≡ OUT_OF_MEMORY) × (text ≡ memory_lin
 abbrev pub AreInTurn : List (List ℕ) → History → Type 0
 AreInTurn names reads = (rest : List (List ℕ)) × (names ≡ map (λ (read : List ℕ × List ℕ). read.0) reads ++ rest)
 
--- All these files exist.
+-- All files with these names exist.
 abbrev pub AreThere : FileMap → List (List ℕ) → Type 0
 AreThere map [] = ⊤
 AreThere map (name ∷ names) = IsSome (file_at name map) × AreThere map names
@@ -41,14 +41,15 @@ pub record IsPrepared (Answers : Answer) (Rest : ℕ → List ℕ → Type 0) (n
   pub turn : AreInTurn names reads
   pub answers : (status : ℕ) (text : List ℕ) → Rest status text → Answers before after reads status text
 
--- The files of an answer were read. The result is a value, from which the rest of the answer is made, or a refusal,
--- which is the answer.
+-- The files of an answer were read. If the result is a value, every status and text that `Rest` allows for the value
+-- is an answer. If the result is a refusal, it is the answer.
 abbrev pub Prepares : {T : Type 0} → Answer → (T → ℕ → List ℕ → Type 0) → List (List ℕ) → FilesState → FilesState → Result T Refusal → Type 0
 Prepares Answers Rest names before after (Ok value) = IsPrepared Answers (Rest value) names before after
 Prepares Answers Rest names before after (Err refusal) = Decides Answers names before after (answer_of refusal).0 (answer_of refusal).1
 
--- A decision was made without reading a file. The result is a value, from which the rest of the answer is made, or a
--- refusal. The refusal is the answer or reports that the allocator was out of memory.
+-- A decision was made without reading a file. If the result is a value, every status and text that `Rest` allows for
+-- the value is an answer. If the result is a refusal, it is an answer or reports that the allocator was out of
+-- memory.
 abbrev pub PreparesWithoutFiles : {T : Type 0} → (ℕ → List ℕ → Type 0) → (T → ℕ → List ℕ → Type 0) → Result T Refusal → Type 0
 PreparesWithoutFiles Answers Rest (Ok value) = (status : ℕ) (text : List ℕ) → Rest value status text → Answers status text
 PreparesWithoutFiles Answers Rest (Err refusal) =
@@ -72,7 +73,7 @@ pub record StoppedIn (old new : SinkState) (text : List ℕ) : Type 0 where
   pub parts : taken old ++ text ≡ new.sent ++ rest
   pub rose : Rose old.faults new.faults
 
--- If the sink is certain to take at least the number of bytes that the text has, its fault count did not rise.
+-- If the sink is certain to take the whole text, its fault count did not rise.
 abbrev pub IsQuietFor : List ℕ → SinkState → SinkState → Type 0
 IsQuietFor text old new = IfSome old.surely (λ room. length text ≤ room → Unrisen old.faults new.faults)
 
@@ -82,8 +83,8 @@ pub record IsSent (old new : SinkState) (code status : ℕ) (text : List ℕ) : 
   pub shown : ((code ≡ status) × WentOut old new text) ⊎ ((code ≡ UNWRITTEN_OUTPUT) × StoppedIn old new text)
   pub surely : IsQuietFor text old new
 
--- The sink took an answer that needs no file, or the out-of-memory line, or a prefix of it. The status is neither that
--- of an unread file nor that of unwritten output.
+-- The sink took a text or a prefix of it. The text is that of an answer that needs no file, or the out-of-memory
+-- line. The status is neither that of an unread file nor that of unwritten output.
 pub record Tells (Answers : ℕ → List ℕ → Type 0) (old new : SinkState) (code : ℕ) : Type 0 where
   pub status : ℕ
   pub text : List ℕ
@@ -110,7 +111,8 @@ pub record HasRoom (Answers : Answer) (map : FileMap) (files : FilesState) (sink
       → (status : ℕ) (text : List ℕ) → Answers files after reads status text → length text ≤ room
   pub memory : length memory_line ≤ room
 
--- If the map is known, the files are steady, the named files exist and the sink has room, neither fault count rose.
+-- If the map is known, the files are steady, the named files exist and the sink has room, neither the fault count of
+-- the files nor that of the sink rose.
 abbrev pub Completes : Answer → List (List ℕ) → FilesState → FilesState → SinkState → SinkState → Type 0
 Completes Answers names before after old new = IfSome before.known_map (λ map. IsTrue before.steady → AreThere map names
     → HasRoom Answers map before old → Unrisen before.faults after.faults × Unrisen old.faults new.faults)

@@ -16,11 +16,11 @@ use Rattle.coverage_check.specs.declared.shown.Other.{Other}
 use Rattle.coverage_check.specs.declared.shown.Other.TheVariants as other
 use Rattle.trace_text.specs.Names.{conf_or_dash, further_joined}
 
--- The text of a broken rule of a document, with the place at which it is broken.
+-- The text of the number of a broken rule, and of the path at which the rule is broken.
 abbrev pub rule_text : ℕ → List ℕ → List ℕ
 rule_text rule path = codes " rule " ++ decimal rule ++ codes " at " ++ path_text path
 
--- The text of the names of the applications in a cycle of needs, or the empty text if there is none.
+-- The text of the names of the applications in a cycle of needs, or the empty text if the list of names is empty.
 abbrev pub cycle_text : List (List ℕ) → List ℕ
 cycle_text [] = []
 cycle_text (name ∷ names) = codes " cycle " ++ name ++ further_joined names

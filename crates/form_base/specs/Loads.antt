@@ -21,8 +21,8 @@ abbrev pub ReadsAs : {T : Type 0} → (T → List ℕ → Type 0) → (ℕ × Li
 ReadsAs Says Breaks bytes (Ok value) = Says value bytes
 ReadsAs Says Breaks bytes (Err refusal) = Breaks (answer_of refusal) bytes ⊎ IsOutOfMemory (answer_of refusal)
 
--- The reason why a file was not loaded. Its bytes break a rule, it is too long, the files failed, or the allocator was
--- out of memory before or after the reading.
+-- The reason why a file was not loaded. The file breaks a rule, is too long or was not read, or the allocator was out
+-- of memory before or after the reading.
 abbrev pub IsUnloaded : (ℕ × List ℕ → List ℕ → Type 0) → ℕ → ℕ × List ℕ → List ℕ → FilesState → FilesState → ℕ × List ℕ → Type 0
 IsUnloaded Breaks limit long name before after refusal =
     HasRead limit name (Breaks refusal) before after

@@ -33,7 +33,7 @@ answer_of refusal = (code_of refusal.refused, line_text refusal.line)
 abbrev pub memory_line : List ℕ
 memory_line = codes "refused: memory\n"
 
--- The line of a file that was not read.
+-- The line of the refusal of a file that was not read.
 abbrev pub read_line : List ℕ → List ℕ
 read_line name = codes "refused: read " ++ name ++ codes "\n"
 

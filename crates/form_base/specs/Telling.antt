@@ -1,4 +1,4 @@
--- The status after printing.
+-- The status after a text is printed.
 use Rattle.std.specs.Prelude.{ℕ, Result, Ok, Err}
 use Rattle.form_base.specs.declared.status.TheConstants.{UNWRITTEN_OUTPUT}
 

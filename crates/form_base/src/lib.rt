@@ -1,5 +1,5 @@
-//! The base of the forms of the command: statuses, refusals, printing, and the loading of the files that words name.
-//! A form reads its files, builds its text and prints it.
+//! The base of the forms of the command: statuses, refusals, printing, and the loading of the files that the
+//! command's words name. A form reads its files, builds its text and prints it.
 #![tactic(auto)]
 
 pub mod lines;

@@ -25,7 +25,7 @@ pub fn make_specification_line(fault: &SpecFault) -> Line
     line
 }
 
-/// Returns the line for a specification that is not accepted. It has the condition, and the configuration, the
+/// Returns the line for a specification that is not accepted. The line has the condition, and the configuration, the
 /// environment and the further part at which the condition is broken.
 pub fn make_shown_line(spec: &Spec, shown: &Shown) -> Line
     ensures { result ≡ shown_line spec.now shown.now }
@@ -105,7 +105,7 @@ fn add_env_or_dash(line: &mut Line, spec: &Spec, env: &Option<Env>)
     }
 }
 
-/// Appends an environment in the form in which refusals show it.
+/// Appends the text of an environment: each factor with its value, and the names of the processors that are down.
 pub fn add_env(line: &mut Line, spec: &Spec, env: &Env)
     requires { length line.old + 346 ≤ MAX_LINE_BYTES }
     ensures text { line.new ≡ line.old ++ env_text spec.now env.now }

@@ -1,4 +1,4 @@
-//! The loading of the files that words name.
+//! The loading of the files that the command's words name.
 
 ghost use Rattle.std.specs.Prelude.{◌≡◌, ◌≢◌, IfErr, ℕ, List};
 ghost use Rattle.scram_io.specs.Outside.{Rose, StaysSteady};
@@ -43,8 +43,8 @@ pub trait Document<T> {
 ///
 /// # Errors
 ///
-/// Returns the refusal of an unread file if reading fails, the refusal of the document if the file is too long or
-/// breaks a rule, and the out-of-memory refusal if memory runs out.
+/// Returns the refusal of an unread file if reading fails. Returns the refusal of the document if the file is too
+/// long or breaks a rule. Returns the out-of-memory refusal if memory runs out.
 pub fn load<T, D: Document<T>, F: Files>(
     alloc: Global,
     document: &D,

@@ -1,4 +1,4 @@
-//! Refusals, which are printed instead of an answer. Each has a status and a line.
+//! Refusals, which are the answers to requests that are not carried out. Each has a status and a line.
 
 ghost use Rattle.std.specs.Prelude.{◌≡◌};
 ghost use Rattle.form_base.specs.Refusals.{IsUnread, code_of, line_text, memory_line, answer_of};
@@ -29,7 +29,7 @@ pub enum Refused {
     Trace,
     /// A file breaks a rule of schedules, or the schedule does not fly to the end.
     Schedule,
-    /// A word is not the name of a part of the specification, as it has to be.
+    /// A word that must be the name of a part of the specification is not such a name.
     Name,
 }
 

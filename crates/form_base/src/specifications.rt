@@ -43,7 +43,7 @@ impl Document<Spec> for Specification {
     fn read(&self, alloc: Global, bytes: &[u8]) -> Result<Spec, Refusal> {
         match read_spec(alloc, bytes) {
             Ok(spec) => {
-                // Using a field of a specification shows that it keeps its invariant.
+                // From the use of a field, the prover knows that the specification satisfies its invariant.
                 let _ = &spec.procs;
                 Ok(spec)
             }

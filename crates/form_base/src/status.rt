@@ -1,6 +1,6 @@
 //! The statuses of the command.
 
-/// The status with which the command ends, which is one of the constants below.
+/// The status with which the command ends. It is one of the constants below.
 #[derive(Clone, Copy, Debug, PartialEq, Eq)]
 pub struct Status {
     pub code: u8,
@@ -15,7 +15,7 @@ pub const BROKEN_USAGE: u8 = 2;
 /// A file was not read.
 pub const UNREAD_FILE: u8 = 3;
 
-/// The output was not written, or only a prefix of it.
+/// None of the output was written, or only a prefix of it.
 pub const UNWRITTEN_OUTPUT: u8 = 4;
 
 /// The specification's file breaks a rule of specifications.
@@ -42,5 +42,5 @@ pub const BROKEN_TRACE: u8 = 11;
 /// The schedule's file breaks a rule of schedules, or the schedule does not fly to the end.
 pub const BROKEN_SCHEDULE: u8 = 12;
 
-/// A word is not the name of a part of the specification, as it has to be.
+/// A word that must be the name of a part of the specification is not such a name.
 pub const UNKNOWN_NAME: u8 = 13;

@@ -1,4 +1,5 @@
--- Lemmas on the environment to which a demand applies if it applies to any in scope.
+-- Lemmas on `demanded_env`, the environment of a demand. If the demand applies to any environment in scope, it
+-- applies to this environment, which is then in scope.
 use Rattle.std.proofs.Common.{◌≡◌, ◌∙◌, ℕ, zero, suc, ◌<◌, ◌≤◌, ◌^◌, ap, arith, length, refl, sym, List, [], ◌∷◌, Bool, true, false, subst}
 use mathlib.Core.Logic.{inl, inr}
 use Rattle.std.specs.Prelude.{◌&&◌, ◌==◌, not, slice_get, Some, bit_and}
@@ -193,7 +194,7 @@ module _ (spec : Parts) (made : IsSpec spec) (demand : Demand) (is : IsDemand sp
     spoken_in_scope = at_most_test _ spec.halts (let most = at_most (down_count spec v) spec.halts scope in let fewer = fewer_down in omega (arith, most, fewer))
 
   -- A demand applies to some environment in scope if and only if the environment of the demand is in scope and the
-  -- demand applies to it.
+  -- demand applies to that environment.
   pub spoken_somewhere : passes_somewhere spec (applies_in demand) ≡ (in_scope spec spoken && applies_in demand spoken)
   spoken_somewhere = same_test _ _
       (λ passes. let found = passes_found spec made (applies_in demand) passes in

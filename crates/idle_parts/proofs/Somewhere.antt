@@ -42,7 +42,8 @@ module _ (spec : Parts) (made : IsSpec spec) (test : Env → Bool) where
       (λ passes. true_false (passes_somewhere spec test) (passes_in v belongs scope passes) nowhere)
       (λ fails. fails)
 
-  -- The search for the first environment in scope in which a test passes finds one if and only if there is one.
+  -- The search for the first environment in scope in which a test passes finds an environment if and only if the test
+  -- passes in some environment in scope.
   pub least_passes : (o : Option Env) → IsLeastEnv spec test o → is_some o ≡ passes_somewhere spec test
   least_passes None none = by_bool (passes_somewhere spec test)
       (λ passes. let found = passes_found passes in true_false (test found.v) found.passes (none found.v found.belongs found.scope))

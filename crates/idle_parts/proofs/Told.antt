@@ -1,4 +1,4 @@
--- The parts that are shown as idle are exactly the parts that have no use.
+-- The rules, configurations and demands that are shown as idle are exactly those that have no use.
 use Rattle.std.proofs.Common.{◌≡◌, ap, length, refl, Bool, true, false}
 use mathlib.Core.Logic.{inl, inr}
 use Rattle.std.specs.Prelude.{◌==◌, not}

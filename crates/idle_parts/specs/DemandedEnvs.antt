@@ -11,8 +11,8 @@ abbrev pub demanded_value : List Want → ℕ → ℕ
 demanded_value [] x = 0
 demanded_value (want ∷ wants) x = if want.factor.0 == x then want.value else demanded_value wants x
 
--- The environment in which each factor has the value that a demand requires, and each processor is up unless the demand
--- requires it to be down.
+-- The environment in which each factor has the value that a demand requires, or its first value if the demand
+-- requires none. Each processor is up unless the demand requires it to be down.
 abbrev pub demanded_env : Parts → Demand → Env
 demanded_env spec demand = record {
   up = bits_below (λ p. not (has_bit demand.down p)) (length spec.procs);

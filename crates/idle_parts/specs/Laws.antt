@@ -1,4 +1,4 @@
--- The meaning of idle parts of a specification.
+-- The laws that state which rules, configurations and demands are shown as idle.
 use Rattle.std.specs.Prelude.{◌≡◌, ◌≢◌, ◌⊎◌, ℕ, ◌<◌, true, false, length, slice_get, Some}
 use Rattle.scram_types.specs.Specification.{IsSpec, Parts}
 use Rattle.scram_types.specs.declared.rows.Env.{Env}

@@ -40,7 +40,7 @@ idle_bound_text spec bound = line_if (is_bound_idle spec bound) kind.Bound (pair
 abbrev pub idle_bound_text_at : Parts → ℕ → List ℕ
 idle_bound_text_at spec k = option_map_or (idle_bound_text spec) (slice_get spec.bounds k) []
 
--- The line of a mode of application number `a` if it is idle, or the empty text otherwise.
+-- The line of a mode of application number `a` if the mode is idle, or the empty text otherwise.
 abbrev pub mode_line : Parts → ℕ → ModeSpec → List ℕ
 mode_line spec a listed =
     line_if (is_mode_idle spec a listed.mode.0) kind.Mode (app_name spec a ++ codes " " ++ mode_text (kind_of_app spec a) listed.mode.0)
@@ -70,8 +70,8 @@ idle_demand_text spec demand = line_if (is_demand_idle spec demand) kind.Demand 
 abbrev pub idle_demand_text_at : Parts → ℕ → List ℕ
 idle_demand_text_at spec k = option_map_or (idle_demand_text spec) (slice_get spec.demands k) []
 
--- The line of part number `n` of a kind, if the part is idle. For the kind `Mode`, these are the lines of the idle
--- modes of application number `n`.
+-- The line of part number `n` of a kind if the part is idle, or the empty text otherwise. For the kind `Mode`, these
+-- are the lines of the idle modes of application number `n`.
 abbrev pub idle_part_text : Parts → PartKind → ℕ → List ℕ
 idle_part_text spec kind.Rule n = idle_rule_text spec n
 idle_part_text spec kind.Conf n = idle_conf_text spec n

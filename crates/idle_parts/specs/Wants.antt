@@ -29,8 +29,8 @@ is_placed_monitor spec a = kind_of_app spec a == POWER_MONITOR && is_app_placed 
 abbrev pub is_supply_read : Parts → ℕ → Bool
 is_supply_read spec x = nat_lt x POWER_FACTORS && any_below (is_placed_monitor spec) (length spec.apps)
 
--- Whether no rule requires a value of factor `x`, and the factor is not a power supply that a placed application reads.
--- Demands do not count.
+-- Whether no rule requires a value of factor `x`, and the factor is not a power supply that a placed application
+-- reads. Values that demands require are ignored.
 abbrev pub is_factor_idle : Parts → ℕ → Bool
 is_factor_idle spec x = not (is_factor_wanted spec x) && not (is_supply_read spec x)
 

@@ -72,7 +72,7 @@ fn has_environment(spec: &Spec, share: &Share, k: u8, i: u8) -> bool
     requires { IsShare spec.now (is_ruled_by spec.now (conf_id i) k) share.now }
     ensures { result ≡ is_first_from spec.now k i }
 {
-    // Using a field of a specification shows that it keeps its invariant.
+    // From the use of a field, the prover knows that the specification satisfies its invariant.
     let _ = &spec.rules;
     share.first.is_some()
 }

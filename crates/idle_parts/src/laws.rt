@@ -1,4 +1,5 @@
-//! The meaning of idle parts, stated as laws. The contract of each function is a law.
+//! The laws that state which rules, configurations and demands are shown as idle. The contract of each function is a
+//! law.
 
 ghost use Rattle.idle_parts.specs.Laws.{IdleConfsAreExact, IdleDemandsAreExact, IdleRulesAreExact};
 

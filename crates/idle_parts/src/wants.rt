@@ -19,7 +19,7 @@ use scram_types::{AppId, Choice, Demand, Env, FactorId, Spec, Want};
 pub const POWER_FACTORS: u8 = 2;
 
 // Returns `true` if no rule requires a value of a factor, and the factor is not a power supply that a placed
-// application reads.
+// application reads. Values that demands require are ignored.
 pub(crate) fn is_factor_idle(spec: &Spec, factor: FactorId) -> bool
     ensures { result ≡ is_factor_idle spec.now factor.0 }
 {
@@ -80,7 +80,7 @@ pub(crate) fn is_demand_idle(spec: &Spec, demand: &Demand) -> bool
     requires { IsDemand spec.now.procs spec.now.apps spec.now.confs spec.now.factors demand.now }
     ensures { result ≡ is_demand_idle spec.now demand.now }
 {
-    // Using a field of a specification shows that it keeps its invariant.
+    // From the use of a field, the prover knows that the specification satisfies its invariant.
     let _ = &spec.procs;
     let env = make_spoken(spec, demand);
     !speaks_in_scope(spec, demand, &env)
@@ -93,8 +93,8 @@ fn speaks_in_scope(spec: &Spec, demand: &Demand, env: &Env) -> bool
     in_scope(spec, env) && applies_in(demand, env)
 }
 
-// Returns the environment in which each factor has the value that a demand requires, and each processor is up unless
-// the demand requires it to be down.
+// Returns the environment in which each factor has the value that a demand requires, or its first value if the demand
+// requires none. Each processor is up unless the demand requires it to be down.
 fn make_spoken(spec: &Spec, demand: &Demand) -> Env
     ensures { result ≡ demanded_env spec.now demand.now }
 {

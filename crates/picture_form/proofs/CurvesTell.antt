@@ -1,4 +1,5 @@
--- If two pictures have the same curves, their flights have the same extremes and heights.
+-- If two pictures have the same curves, their flights have the same extremes, and each row is drawn at the same
+-- height.
 use Rattle.std.proofs.Common.{◌≡◌, ℕ, ℤ, pos, negsuc, zero, suc, ◌+◌, ◌-◌, ◌*◌, ◌/◌, ◌<◌, ◌≤◌, ◌^◌, Bool, true, false, cond, List, [], ◌∷◌, ◌++◌, Option, Some, None, drop as past, length, decimal, refl, sym, ap, arith, append_assoc, ◌∙◌}
 use mathlib.Core.Logic.{inl, inr}
 use Rattle.std.specs.Prelude.{◌==◌, codes, int_lt, nat_lt, nat_le, slice_get, if◌then◌else◌}
@@ -30,7 +31,7 @@ use Rattle.picture_form.specs.declared.sheets.Sheet.{Sheet}
 use Rattle.picture_form.proofs.Cuts.{field, fields}
 use Rattle.picture_form.proofs.RectsBack.{decimal_digits, placed_grouped}
 
--- Lemmas that the distance of a point from the top of its curve is at most 480.
+-- Lemmas that the distance of a point from the top of its curve is at most 480 tenths of a pixel.
 
 drop_by : (t : Bool) (n : ℕ) → cond t 240 (480 - n) ≤ 480
 drop_by true n = omega arith
@@ -39,7 +40,7 @@ drop_by false n = omega arith
 drop_small : (ends : Extremes) (number : ℤ) → drop_of ends number ≤ 480
 drop_small ends number = drop_by (distance ends.least ends.greatest == 0) (distance ends.least number * 480 / distance ends.least ends.greatest)
 
--- The letter at the start of a point: `L` if the curve joins it to the preceding point, or `M` otherwise.
+-- The letter at the start of a point: `L` if the curve joins the point to the preceding point, or `M` otherwise.
 abbrev mark : Bool → ℕ
 mark joined = if joined then 76 else 77
 
@@ -123,7 +124,7 @@ extremes_small quantity (row ∷ rows) known ends e =
     let same : widened (quantity_of quantity row.world) (extremes_of quantity rows) ≡ ends = same_some _ ends e in
     rw same at (widened_small (quantity_of quantity row.world) (extremes_of quantity rows) (known 0 row refl) (extremes_small quantity rows (λ i x there. known (suc i) x there)))
 
--- Whether a byte is less than that of `<`.
+-- Whether a byte is less than the byte of `<`.
 abbrev is_low : ℕ → Bool
 is_low b = nat_lt b 60
 

@@ -7,8 +7,8 @@ use Rattle.std.proofs.lemmas.List.{append_cancel_left}
 use Rattle.std.proofs.lemmas.List.Folds.{list_all-append}
 use Rattle.trace_text.proofs.WordBytes.{all_over, over}
 
--- If two equal texts begin with fields whose bytes satisfy `P`, and the byte after each field does not satisfy `P`,
--- the fields are equal, and the texts after them are equal.
+-- Two equal texts begin with fields whose bytes satisfy `P`. If the byte after each field does not satisfy `P`, the
+-- fields are equal, and the texts after the fields are equal.
 pub fields : (P : ℕ → Bool) (d f : ℕ) (a b r s : List ℕ) → P d ≡ false → P f ≡ false → list_all P a ≡ true → list_all P b ≡ true → a ++ d ∷ r ≡ b ++ f ∷ s → (a ≡ b) × (d ∷ r ≡ f ∷ s)
 fields P d f [] [] r s free other e g h = (refl, h)
 fields P d f [] (c ∷ b) r s free other e g h =
@@ -22,13 +22,13 @@ fields P d f (c ∷ a) (b ∷ bs) r s free other e g h =
     let tails : a ≡ bs = more.0 in
     (let x : c ∷ a ≡ b ∷ bs = cc in x, more.1)
 
--- If two equal texts begin with fields whose bytes satisfy `P`, and the same byte, which does not satisfy `P`,
--- follows both fields, the fields are equal, and the texts after that byte are equal.
+-- Two equal texts begin with fields whose bytes satisfy `P`. If the same byte follows both fields and does not
+-- satisfy `P`, the fields are equal, and the texts after that byte are equal.
 pub field : (P : ℕ → Bool) (d : ℕ) (a b r s : List ℕ) → P d ≡ false → list_all P a ≡ true → list_all P b ≡ true → a ++ d ∷ r ≡ b ++ d ∷ s → (a ≡ b) × (r ≡ s)
 field P d a b r s free e g h = let both = fields P d d a b r s free free e g h in (both.0, append_cancel_left (d ∷ []) r s both.1)
 
--- The number of occurrences of byte `d` that are still to come in a text after byte `b`, given their number before
--- `b`. It is `None` if the text goes on past the last occurrence.
+-- The number of occurrences of byte `d` that remain after byte `b`, given the number that remained before `b`. It is
+-- `None` if none remained before `b`, which means that `b` is past the end of the part.
 abbrev pub to_come : ℕ → Option ℕ → ℕ → Option ℕ
 to_come d None b = None
 to_come d (Some zero) b = None
@@ -65,7 +65,7 @@ cut d n (b ∷ t) (c ∷ u) r s e f h =
     let tails : t ≡ u = more.0 in
     (let x : b ∷ t ≡ c ∷ u = cc in x, more.1)
 
--- A text without byte `d` does not change the number of occurrences of `d` that are still to come.
+-- A text without byte `d` does not change the number of occurrences of `d` that remain.
 pub passed : (d least n : ℕ) (text rest : List ℕ) → d < least → all_over least text ≡ true → left_after d (Some (suc n)) (text ++ rest) ≡ left_after d (Some (suc n)) rest
 passed d least n [] rest h e = refl
 passed d least n (b ∷ text) rest h e =
@@ -78,8 +78,8 @@ passed d least n (b ∷ text) rest h e =
 pub both_over : (least : ℕ) (a b : List ℕ) → all_over least a ≡ true → all_over least b ≡ true → all_over least (a ++ b) ≡ true
 both_over least a b e f = list_all-append (over least) a b ∙ and_from _ _ e f
 
--- A position in a text whose lines begin with an angle bracket, or `Broken` if a line begins with another byte or the
--- bracket is followed by a byte that may not follow it.
+-- A position in a text whose lines begin with an angle bracket. It is `Broken` if a line begins with another byte, or
+-- if a byte follows the bracket that may not follow it.
 pub data Place : Type 0 where
   Start : Place
   Opened : Place
@@ -128,7 +128,7 @@ no_line ok d Opened c u r s free at e h = let x = at in cc
 no_line ok d Inside c u r s free at e h = let x = at in cc
 no_line ok d Broken c u r s free at e h = let x = at in cc
 
--- If two equal texts begin with whole lines, followed by an angle bracket and a byte for which `ok` is false, the
+-- Two equal texts begin with whole lines, followed by an angle bracket and a byte for which `ok` is false. Then the
 -- lines are equal, and the texts from that byte on are equal.
 pub skip : (ok : ℕ → Bool) (d f : ℕ) (at : Place) (t u r s : List ℕ) → ok d ≡ false → ok f ≡ false → walk ok at t ≡ Start → walk ok at u ≡ Start
     → t ++ 60 ∷ d ∷ r ≡ u ++ 60 ∷ f ∷ s → (t ≡ u) × (d ∷ r ≡ f ∷ s)

@@ -1,4 +1,4 @@
--- If two lanes have the same boxes, their rows show the same.
+-- If a lane has the same boxes in two flights, the rows of the flights show the same in the lane.
 use Rattle.std.proofs.Common.{◌≡◌, ℕ, zero, suc, ◌+◌, ◌<◌, ◌≤◌, ◌^◌, Bool, true, false, cond, List, [], ◌∷◌, ◌++◌, Option, Some, None, drop, length, refl, sym, ap, arith, append-nil, append_assoc, ◌∙◌}
 use Rattle.std.specs.Prelude.{◌&&◌, option_and_then, slice_get, if◌then◌else◌}
 use Rattle.std.specs.Option.{option_map_or}
@@ -83,8 +83,8 @@ pub begun_is : (spec : Parts) (sheet : Sheet) (strip : Strip) (k : ℕ) (before 
     ≡ (if is_drawn strip.lane before row then rect_text spec sheet row (span_of strip.lane strip.y k (alike_rows strip.lane row rows)) else [])
 begun_is spec sheet strip k before row rows inside = begun_by strip.lane (is_new strip.lane before row) spec sheet row strip.y k (alike_rows strip.lane row rows) inside
 
--- The number of `rows` that the box of the preceding row `before` still covers, or 0 if there is no preceding row or
--- it has no box.
+-- The number of `rows` that the box of the preceding row `before` still covers, or 0 if `before` is `None` or has no
+-- box.
 
 abbrev pub carry : Lane → Option Row → List Row → ℕ
 carry lane None rows = 0
@@ -124,7 +124,8 @@ carry_nil lane (Some b) = nil_by (is_seen lane b)
     nil_by true = refl
     nil_by false = refl
 
--- The row is shown by the box of the preceding row, since it has a box and begins no span.
+-- The box of the preceding row also shows `row`, which shows the same in the lane as the preceding row. From `row`
+-- on, the box covers one row more than after `row`.
 record GoesOn (lane : Lane) (before : Option Row) (row : Row) (rows : List Row) : Type 0 where
   pub earlier : Row
   pub is : before ≡ Some earlier
@@ -157,8 +158,8 @@ abbrev pub NoneSeen : Lane → List Row → Type 0
 NoneSeen lane [] = Unit {0}
 NoneSeen lane (row ∷ rows) = (is_seen lane row ≡ false) × NoneSeen lane rows
 
--- Each row is shown as the row with the same index in the other list, and the rows past the end of the other list
--- have no boxes.
+-- Each row shows the same in the lane as the row with the same index in the other list. The rows past the end of the
+-- other list have no boxes.
 abbrev pub SameRows : Lane → List Row → List Row → Type 0
 SameRows lane [] others = NoneSeen lane others
 SameRows lane (row ∷ rows) [] = NoneSeen lane (row ∷ rows)
@@ -193,7 +194,7 @@ module _ (spec : Parts) (strip : Strip) (sound : IsSpec spec) (inside : IsShownI
   tail_known : (row : Row) (rows : List Row) → Each (IsRowDrawn spec) (row ∷ rows) → Each (IsRowDrawn spec) rows
   tail_known row rows known i x there = known (suc i) x there
 
-  -- The box of a row from row `k` on is not the first box of the spans from a later row on.
+  -- The box of a span that begins in row `k` is not the first box of the spans from a later row `j` on.
   later : (other_sheet sheet : Sheet) (row : Row) (k n : ℕ) (r : List ℕ) (rows : List Row) (j : ℕ) (before : Option Row) → IsRowDrawn spec row → is_seen strip.lane row ≡ true → k + n < 2 ^ 32
       → Each (IsRowDrawn spec) rows → j + length rows < 2 ^ 32 → k < j → rect_text spec other_sheet row (span_of strip.lane strip.y k n) ++ r ≡ spans_from spec sheet strip j before rows → ⊥
   later other_sheet sheet row k n r [] j before known seen few drawn fits less h = let x = h in cc
@@ -234,8 +235,7 @@ module _ (spec : Parts) (strip : Strip) (sound : IsSpec spec) (inside : IsShownI
       let same : SameBefore strip.lane (Some earlier) (Some other_earlier) = rw (e, f) at first in
       sym (alike_swaps spec strip.lane earlier row other inside a) ∙ alike_swaps spec strip.lane earlier other_earlier other inside same ∙ b
 
-  -- Two rows after which no box begins are shown alike, and the boxes that show them cover the same number of
-  -- following rows.
+  -- Two rows show the same in the lane, and the boxes that show them cover the same number of following rows.
   record BothGoOn (row other : Row) (rows others : List Row) : Type 0 where
     pub alike : are_alike strip.lane row other ≡ true
     pub carried : carry strip.lane (Some row) rows ≡ carry strip.lane (Some other) others
@@ -288,7 +288,8 @@ module _ (spec : Parts) (strip : Strip) (sound : IsSpec spec) (inside : IsShownI
             on.alike on.carried (sym (without sheet k before row rows a) ∙ h ∙ without other_sheet k other_before other others b),
       )))
 
-  -- If the lanes of two flights have the same text, each row shows the same in both.
+  -- If a lane has the same text in two flights, each row shows the same in both. The rows past the end of the shorter
+  -- flight have no boxes.
   pub lane_tells : (sheet other_sheet : Sheet) (rows others : List Row) → Each (IsRowDrawn spec) rows → Each (IsRowDrawn spec) others → length rows < 2 ^ 32 → length others < 2 ^ 32
       → spans_text spec sheet rows strip ≡ spans_text spec other_sheet others strip → SameRows strip.lane rows others
   lane_tells sheet other_sheet rows others known drawn few fits h =

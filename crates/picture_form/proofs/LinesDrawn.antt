@@ -1,4 +1,4 @@
--- The contents of a line of a trace can be drawn.
+-- If a line of a trace can be read, its contents can be drawn.
 use Rattle.std.proofs.Common.{ℕ, ℤ, suc, zero, ◌≡◌, ◌<◌, ◌≤◌, ◌+◌, ◌-◌, ◌^◌, Bool, true, false, cond, List, [], ◌∷◌, ◌++◌, Option, Some, None, Ok, Err, length, replicate, arith, refl, ap}
 use Rattle.std.specs.Prelude.{◌==◌, ◌&&◌, IsSome, bytes_eq, codes, nat_le, nat_lt, option_map, option_and_then, slice_get, slice_index, slice_index_or, slice_set}
 use Rattle.std.specs.Fmt.{signed_decimal}
@@ -46,8 +46,8 @@ use Rattle.picture_form.specs.Laws.{IsReportDrawn, IsRowDrawn}
 
 -- Lemmas on the elements of lists.
 
--- If element `a` of a list is replaced by `x`, a fact holds for element `i` if it held before and, for `i` equal to
--- `a`, holds for `x`.
+-- If element `a` of a list is replaced by `x`, `Fact` still holds for element `i`. It must hold for element `i`
+-- before the replacement, and for `x` if `i` equals `a`.
 set_item : {A : Type 0} (Fact : A → Type 0) (none x : A) (xs : List A) (a i : ℕ) → (i ≡ a → Fact x) → Fact (slice_index_or xs i none)
     → Fact (slice_index_or (slice_set xs a x) i none)
 set_item Fact none x [] a i here there = there
@@ -65,7 +65,7 @@ signed_small text z h =
     let p = some_says (nat_lt (mag y) (2 ^ 63) && bytes_eq (signed_decimal y) text) y z h in
     rw (← p.1) (ltb-true _ _ (and_parts _ _ p.0).0)
 
--- The altitude and the heading in the line of a row are signed 64-bit numbers.
+-- The altitude and the heading are signed 64-bit numbers.
 record IsWorldRead (world : World) : Type 0 where
   altitude : mag world.alt < 2 ^ 63
   heading : mag world.heading < 2 ^ 63
@@ -122,8 +122,8 @@ offs_everywhere zero a = refl
 offs_everywhere (suc n) zero = refl
 offs_everywhere (suc n) (suc a) = offs_everywhere n a
 
--- The row whose first line was read can be drawn, and `next`, the number of the frame that was due, is below the
--- maximum number of frames.
+-- The row whose first line was read can be drawn. `next` is the number of the frame that was expected, and is less
+-- than `MAX_FRAMES`.
 pub record IsRowRead (spec : Parts) (next : ℕ) (row : Row) : Type 0 where
   pub drawn : IsRowDrawn spec row
   pub due : next < MAX_FRAMES
@@ -174,7 +174,7 @@ line_read spec next line row sound h =
     let w = or_rule_ok NO_FORM (words_in line) (row_of_words spec next) row h in
     words_read (is_stable_form spec w.0) (is_moving_form spec w.0) spec next w.0 row sound w.2
 
--- Lemmas that an application can have the act that its line gives.
+-- Lemmas that an application can have the act that its line contains.
 
 proc_there : (spec : Parts) (text : List ℕ) (p : ProcId) → proc_named spec text ≡ Some p → p.0 < length spec.procs
 proc_there spec text p h =
@@ -199,7 +199,7 @@ listed_found : (spec : Parts) (a n : ℕ) (app : AppSpec) (text : List ℕ) (m :
     → mode_from app.kind.0 text app.modes ≡ Some m
 listed_found spec a n app text m same there h = let e : listed_mode spec a text ≡ Some m = rw same at h in rw there at e
 
--- Application `a` can have the act that its line gives.
+-- Application `a` can have the act in `told`, the contents of its line.
 abbrev pub IsShownDone : Parts → ℕ → Done → Type 0
 IsShownDone spec a told = (app : AppSpec) → slice_get spec.apps a ≡ Some app → IsActShown spec app told.act
 
@@ -235,7 +235,7 @@ phase_shown spec a ws phase sides told h app there =
     let same : done (phase_act phase k.0 n.0 p.0) z.0 ≡ told = let e = r.1 in cc in
     rw (← same) (step_shown spec app phase k.0 n.0 p.0 (ltb-true _ _ inside.0) (leb-true _ _ inside.1) (proc_there spec (word_at ws 4) p.0 p.1))
 
--- Every application can have this act, which names no processor.
+-- Every application can have the act `did`.
 abbrev IsBare : Act → Type 0
 IsBare did = (spec : Parts) (app : AppSpec) → IsActShown spec app did
 

@@ -26,8 +26,8 @@ use Rattle.picture_form.proofs.CurvesTell.{SameCurves, quantity_same}
 use Rattle.picture_form.proofs.ReportsTell.{boxes_begin, boxes_of, boxes_same, boxes_whole, reports_tell}
 use Rattle.picture_form.proofs.Sections.{IsSmall, grid_walk, lane_walk, open_ends, reports_walk, stable_spans_walk}
 
--- Concatenating the parts of a text from the right instead of from the left gives the same text. `n` is the text of
--- the first two lanes' names without its first two bytes.
+-- Concatenating the parts of a text from the right instead of from the left results in the same text. `n` is the text
+-- of the first two lanes' names without its first two bytes.
 ordered : (n u m z : List ℕ) → ((((60 ∷ 116 ∷ n) ++ u) ++ m) ++ z) ≡ 60 ∷ 116 ∷ (n ++ ((u ++ m) ++ z))
 ordered n u m z =
     append_assoc ((60 ∷ 116 ∷ n) ++ u) m z ∙ append_assoc (60 ∷ 116 ∷ n) u (m ++ z) ∙ ap (λ (rest : List ℕ). 60 ∷ 116 ∷ (n ++ rest)) (sym (append_assoc u m z))
@@ -136,7 +136,8 @@ boxes_lines : (spec : Parts) (rows : List Row) (reports : List Report) (n : ℕ)
 boxes_lines spec rows reports n sound drawn less =
     lane_walk spec (sheet_of spec rows) rows (strip_of (sheet_of spec rows) n) sound (lane_inside spec rows n less) (lane_low spec rows n sound less) drawn.rows_drawn drawn.few
 
--- The parts of the pictures of two flights are the same.
+-- The pictures of two flights have the same spans of stable configurations and reconfigurations, the same boxes in
+-- each other lane, and the same text below the lanes.
 record SameParts (spec : Parts) (rows others : List Row) (reports reported : List Report) : Type 0 where
   pub top : spans_text spec (sheet_of spec rows) rows conf_strip ++ reports_text spec (sheet_of spec rows) reports
       ≡ spans_text spec (sheet_of spec others) others conf_strip ++ reports_text spec (sheet_of spec others) reported
@@ -178,8 +179,8 @@ reports_same spec rows others reports reported sound mine theirs e =
     (stable_spans_walk a_path spec sheet rows refl sound mine.few) (stable_spans_walk a_path spec other_sheet others refl sound theirs.few)
     (boxes_begin spec sheet (drawn_in sheet.rows reports)) (boxes_begin spec other_sheet (drawn_in other_sheet.rows reported)) whole)
 
--- If two flights have the same number of rows and the same text below the lanes, they have this text on the same
--- sheet.
+-- If two flights have the same number of rows and the same text below the lanes, this text is also the same if both
+-- are drawn on the sheet of the first flight.
 foot_on : (spec : Parts) (rows others : List Row) → length rows ≡ length others → drop 2 (foot_text (sheet_of spec rows) rows) ≡ drop 2 (foot_text (sheet_of spec others) others)
     → foot_text (sheet_of spec rows) rows ≡ foot_text (sheet_of spec rows) others
 foot_on spec rows others same e =

@@ -24,14 +24,14 @@ decimal_digits n small = digits_all (decimal n) (decimal_is_IsNumeral n small).0
 pub decimal_plain : (n : ℕ) → n < 2 ^ 64 → all_over 32 (decimal n) ≡ true
 decimal_plain n small = all_over_less 32 48 (decimal n) (omega arith) (decimal_over n small)
 
--- If two texts begin with numbers and the same byte, which is not a digit, follows both numbers, the numbers and the
--- rests of the texts are equal.
+-- Two equal texts begin with numbers. If the same byte follows both numbers and is not a digit, the numbers are
+-- equal, and the texts after that byte are equal.
 pub same_number : (d k j : ℕ) (r s : List ℕ) → is_ascii_digit d ≡ false → k < 2 ^ 64 → j < 2 ^ 64 → decimal k ++ d ∷ r ≡ decimal j ++ d ∷ s → (k ≡ j) × (r ≡ s)
 same_number d k j r s free p q h =
     let both = field is_ascii_digit d (decimal k) (decimal j) r s free (decimal_digits k p) (decimal_digits j q) h in
     (decimal_injective k j p q both.0, both.1)
 
--- The text of the frames of a span after its first space, given `n`, which is one less than the number of rows.
+-- The text of the frames of a span without its leading space. The span begins in frame `k` and has `n + 1` rows.
 abbrev pub frames_tail : ℕ → ℕ → List ℕ
 frames_tail k zero = codes "frame " ++ decimal k
 frames_tail k (suc n) = codes "frames " ++ (decimal k ++ (codes " to " ++ decimal (k + suc n)))

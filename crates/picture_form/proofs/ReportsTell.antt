@@ -14,7 +14,7 @@ use Rattle.picture_form.proofs.Cuts.{Start, a_path, cut, skip, walk}
 use Rattle.picture_form.proofs.LanesTell.{dropped}
 use Rattle.picture_form.proofs.Sections.{bound_ends, own_ends, own_rect, report_box, report_grouped}
 
--- The text of the boxes of the reconfigurations that are drawn.
+-- The text of the boxes of all reconfigurations in a list.
 abbrev pub boxes_of : Parts → Sheet → List Report → List ℕ
 boxes_of spec sheet [] = []
 boxes_of spec sheet (report ∷ reports) = report_boxes spec sheet report ++ boxes_of spec sheet reports
@@ -87,7 +87,8 @@ boxes_begin spec sheet (report ∷ reports) =
       is = ap (λ (text : List ℕ). (text ++ boxes_of spec sheet reports) ++ 60 ∷ 116 ∷ []) (whole_is spec sheet report) ∙ begins.is;
     }
 
--- If two texts of boxes after lines of stable configurations are the same, the boxes are the same.
+-- If two equal texts consist of lines of stable configurations and of boxes of reconfigurations after them, the boxes
+-- are the same.
 pub boxes_same : (lines boxes others more : List ℕ) → walk a_path Start lines ≡ Start → walk a_path Start others ≡ Start → Begins boxes → Begins more → lines ++ boxes ≡ others ++ more → boxes ≡ more
 boxes_same lines boxes others more e f begins other_begins h =
     let whole = sym (append_assoc lines boxes (60 ∷ 116 ∷ [])) ∙ ap (λ (text : List ℕ). text ++ 60 ∷ 116 ∷ []) h ∙ append_assoc others more (60 ∷ 116 ∷ []) in

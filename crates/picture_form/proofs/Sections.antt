@@ -164,7 +164,7 @@ lane_walk spec sheet rows strip sound inside low known few =
 
 -- Lemmas that the boxes of reconfigurations consist of whole lines.
 
--- If a bound is given, it has at most 1000 frames.
+-- If a bound is given, it is at most 1000 frames.
 abbrev IsGiven : Option ℕ → Type 0
 IsGiven given = IfSome given (λ (frames : ℕ). frames ≤ 1000)
 
@@ -256,7 +256,7 @@ bound_walk sheet begin (Some bound) few early = box_line (drop 2 (bound_rect she
 abbrev pub report_box : Sheet → Report → List ℕ
 report_box sheet report = box_text (x_of sheet report.begin) 48 (rows_width sheet report.begin report.end)
 
--- The line of a reconfiguration without its bound.
+-- The box of a reconfiguration with its title, without the outline of its bound.
 abbrev pub own_rect : Parts → Sheet → Report → List ℕ
 own_rect spec sheet report =
     codes "<rect class=\"reconfiguration\"" ++ (report_box sheet report ++ (codes "><title>" ++ (report_title spec report ++ codes "</title></rect>\n")))

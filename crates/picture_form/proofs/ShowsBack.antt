@@ -1,4 +1,4 @@
--- What a row shows in a lane can be recovered from its title.
+-- What a row shows in a lane can be recovered from the title of the row's box.
 use Rattle.std.proofs.Common.{◌≡◌, ℕ, ◌+◌, ◌<◌, ◌^◌, Bool, true, List, [], ◌∷◌, ◌++◌, Option, Some, None, IsSome, length, decimal, refl, sym, ap, arith, append_assoc, ◌∙◌}
 use Rattle.std.specs.Prelude.{◌==◌, codes, slice_get, slice_index}
 use Rattle.std.specs.Option.{option_map_or}
@@ -164,8 +164,8 @@ word_found word.Lost = refl
 words_differ : (what other : ActWord) → word_text what ≡ word_text other → word_number what ≡ word_number other
 words_differ what other e = same_some (word_number what) (word_number other) (sym (word_found what) ∙ ap (number_in word_names) e ∙ word_found other)
 
--- Two boxes show the same, begin in the same row and have the same number of rows. `n` and `m` are one less than
--- their numbers of rows.
+-- Two boxes show the same, begin in the same row and have the same number of rows. The boxes begin in rows `k` and
+-- `j`, and have `n + 1` and `m + 1` rows.
 pub record SameEnds (k n j m : ℕ) (alike : Bool) : Type 0 where
   pub same : alike ≡ true
   pub first : k ≡ j
@@ -216,7 +216,8 @@ doing_same act other spec a app k n j m r s sound there shown seen few fits e h 
 same_bits : (p set other : ℕ) → has_bit set p ≡ true → has_bit other p ≡ true → same_bit p set other ≡ true
 same_bits p set other e f = rw (e, f) refl
 
--- The boxes of rows that are shown alike have the same class, words and rows.
+-- If two boxes have the same class, and the texts from their words on are equal, the boxes show the same, begin in
+-- the same row and have the same number of rows.
 pub shown_same : (lane : Lane) (spec : Parts) (row other : Row) (k n j m : ℕ) (r s : List ℕ) → IsSpec spec → IsShownIn spec lane → IsRowDrawn spec row → IsRowDrawn spec other
     → is_seen lane row ≡ true → is_seen lane other ≡ true → k + n < 2 ^ 64 → j + m < 2 ^ 64 → class_text lane row ≡ class_text lane other
     → words_text spec lane row ++ 32 ∷ (frames_tail k n ++ 60 ∷ r) ≡ words_text spec lane other ++ 32 ∷ (frames_tail j m ++ 60 ∷ s) → SameEnds k n j m (are_alike lane row other)

@@ -23,7 +23,7 @@ use Rattle.picture_form.proofs.Cuts.{cut, left_after}
 use Rattle.picture_form.proofs.RectsBack.{box_plain, box_quotes, frames_after, frames_plain, frames_tail, label_plain, rect_ends, rect_grouped, rect_of, rect_parts}
 use Rattle.picture_form.proofs.ShowsBack.{IsShownIn, SameEnds, class_over, is_seen, label_words_plain, lane_name_over, plain, shown_same, words_plain}
 
--- Lemmas that positions and widths in a picture are far below `2 ^ 64`.
+-- Lemmas that positions and widths in a picture are below `2 ^ 64`.
 
 scale_by : (a b c : Bool) → cond a 1 (cond b 2 (cond c 4 8)) ≤ 8
 scale_by true b c = omega arith
@@ -71,7 +71,8 @@ pub record SameBoxes (k n j m : ℕ) (alike : Bool) (rest other_rest : List ℕ)
   pub ends : SameEnds k n j m alike
   pub behind : rest ≡ other_rest
 
--- If two texts begin with boxes of a lane and are the same, the boxes show the same rows alike.
+-- If two equal texts begin with boxes of a lane, the boxes show the same, begin in the same row and have the same
+-- number of rows. The texts after the boxes are equal.
 pub rects_same : (spec : Parts) (lane : Lane) (y : ℕ) (sheet other_sheet : Sheet) (row other : Row) (k n j m : ℕ) (r s : List ℕ) → IsSpec spec → IsShownIn spec lane → IsRowDrawn spec row
     → IsRowDrawn spec other → is_seen lane row ≡ true → is_seen lane other ≡ true → y ≤ 6000 → k + n < 2 ^ 32 → j + m < 2 ^ 32
     → rect_text spec sheet row (span_of lane y k n) ++ r ≡ rect_text spec other_sheet other (span_of lane y j m) ++ s → SameBoxes k n j m (are_alike lane row other) r s
@@ -93,7 +94,7 @@ rects_same spec lane y sheet other_sheet row other k n j m r s sound inside know
       behind = lines.1;
     }
 
--- Lemmas on rows that are shown alike.
+-- Lemmas on rows that look alike in a lane.
 
 proc_is : (p q : Option ProcId) → same_proc p q ≡ true → p ≡ q
 proc_is None None e = refl
@@ -120,7 +121,7 @@ doing_swaps act other third e =
     ∙ ap (λ (n : ℕ). (word_number (act_word other) == word_number (act_word third)) && (n == mode_of_act third) && same_proc (proc_of_act act) (proc_of_act third)) modes
     ∙ ap (λ (p : Option ProcId). (word_number (act_word other) == word_number (act_word third)) && (mode_of_act other == mode_of_act third) && same_proc p (proc_of_act third)) procs
 
--- If two rows are shown alike, a third row is shown like both of them or like neither.
+-- If two rows look alike in a lane, a third row looks like both of them or like neither.
 pub alike_swaps : (spec : Parts) (lane : Lane) (row other third : Row) → IsShownIn spec lane → are_alike lane row other ≡ true → are_alike lane row third ≡ are_alike lane other third
 alike_swaps spec Configuration row other third inside e = absurd inside
 alike_swaps spec (InFactor i) row other third inside e =

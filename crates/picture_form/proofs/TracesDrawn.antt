@@ -27,10 +27,10 @@ use Rattle.trace_text.proofs.Inversion.{if_ok}
 use Rattle.picture_form.proofs.LinesDrawn.{app_drawn, app_shown, line_read, report_drawn}
 use Rattle.picture_form.specs.Laws.{IsReportDrawn, IsRowDrawn, TracesAreDrawn}
 
--- Lemmas that the contents of the lines that were read can be drawn after each line of a trace.
+-- Lemmas that, after each line of a trace, the contents of the lines that were read so far can be drawn.
 
--- A row of which some applications were read can be drawn, and the rows before it are fewer than the maximum number
--- of frames.
+-- If a row was begun but not all of its applications were read, the row can be drawn, and fewer than `MAX_FRAMES`
+-- rows precede it.
 abbrev OpenDrawn : Parts → List Row → Expected → Type 0
 OpenDrawn spec rows Rows = ⊤
 OpenDrawn spec rows (Apps a row) = IsRowDrawn spec row × (length rows < MAX_FRAMES)

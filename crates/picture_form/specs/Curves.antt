@@ -1,4 +1,4 @@
--- The curves of quantities.
+-- The curves of the aircraft's quantities over the rows of a flight.
 use Rattle.std.specs.Prelude.{ℕ, ℤ, ◌+◌, ◌-◌, ◌*◌, ◌/◌, ◌==◌, Bool, true, false, List, [], ◌++◌, length, slice_get, nat_lt, Option, Some, None, codes, decimal, if◌then◌else◌}
 use Rattle.std.specs.Fmt.{signed_decimal}
 use Rattle.std.specs.Int.{int_gap}
@@ -19,15 +19,15 @@ use Rattle.picture_form.specs.declared.sheets.Sheet.{Sheet}
 abbrev pub distance : ℤ → ℤ → ℕ
 distance a b = int_gap a b + int_gap b a
 
--- The distance of a number from the top of its curve, in tenths of a pixel. The distance is 480 for the minimum, 0 for
--- the maximum, and 240 if the extremes are equal.
+-- The distance of a value of a quantity from the top of the quantity's curve, in tenths of a pixel. The distance is
+-- 480 for the minimum, 0 for the maximum, and 240 if the extremes are equal.
 abbrev pub drop_of : Extremes → ℤ → ℕ
 drop_of extremes number =
     if distance extremes.least extremes.greatest == 0 then 240
     else 480 - distance extremes.least number * 480 / distance extremes.least extremes.greatest
 
--- Whether a quantity with these values in two consecutive rows crosses north between them, which interrupts its
--- curve. Only the heading can cross north.
+-- Whether a quantity crosses north between two consecutive rows, given its values in them. This interrupts the
+-- quantity's curve. Only the heading can cross north.
 abbrev pub crosses_north : Quantity → ℤ → ℤ → Bool
 crosses_north Altitude before number = false
 crosses_north Climb before number = false
@@ -59,8 +59,8 @@ curve_begin sheet y =
     codes "<path class=\"line\" transform=\"translate(" ++ decimal (x_of sheet 0 + scale_of sheet.rows / 2) ++ codes " " ++ decimal y
     ++ codes ") scale(" ++ decimal (scale_of sheet.rows) ++ codes " .1)\" d=\""
 
--- The end of the path element of a curve whose top is at `y`, followed by text elements for the quantity's extremes,
--- which are to the right of the curve.
+-- The end of the path element of a curve whose top is at `y`, followed by text elements for the quantity's maximum
+-- and minimum. These elements are to the right of the curve.
 abbrev pub curve_end : Sheet → ℕ → Extremes → List ℕ
 curve_end sheet y extremes =
     codes "\"/>\n" ++ placed_text (codes "note") (x_of sheet sheet.rows + 8) (y + 8) (signed_decimal extremes.greatest)

@@ -1,4 +1,5 @@
--- The law that two flights with the same picture show the same, and the flights and traces for which it holds.
+-- The law that two flights that can be drawn and have the same picture show the same, and the laws that every flight
+-- and every trace can be drawn.
 use Rattle.std.specs.Prelude.{◌≡◌, ◌<◌, ◌^◌, ℕ, true, List, Option, filter, length, map, nat_lt, option_map, slice_get, slice_index, Some}
 use lib.Signed.{mag}
 use Rattle.scram_types.specs.Specification.{Each, IsSpec, Parts}
@@ -46,7 +47,8 @@ drawn_in frames reports = filter (λ (report : Report). nat_lt report.begin fram
 abbrev pub drawn_titles : Parts → ℕ → List Report → List (List ℕ)
 drawn_titles spec frames reports = map (report_title spec) (drawn_in frames reports)
 
--- The distance of row `k` from the top of its curve, in tenths of a pixel, or `None` if there is no such row.
+-- The distance of the point of row `k` from the top of a quantity's curve, in tenths of a pixel, or `None` if there
+-- is no such row.
 abbrev pub drop_at : Quantity → Extremes → List Row → ℕ → Option ℕ
 drop_at quantity extremes rows k = option_map (λ (row : Row). drop_of extremes (quantity_of quantity row.world)) (slice_get rows k)
 

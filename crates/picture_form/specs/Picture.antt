@@ -44,7 +44,7 @@ ticks_text sheet = texts_below (tick_text sheet) (ticks_of sheet)
 abbrev pub grid_text : Sheet → List Report → List ℕ
 grid_text sheet reports = ticks_text sheet ++ texts_below (begin_text sheet reports) (length reports)
 
--- The lane of configurations, with its top.
+-- The lane of configurations, with the y-coordinate of its top.
 abbrev pub conf_strip : Strip
 conf_strip = record { lane = Configuration; y = 20 }
 
@@ -112,7 +112,7 @@ lanes_and_foot spec sheet rows = lanes_text spec sheet rows ++ foot_text sheet r
 abbrev pub front_text : Parts → Sheet → List Row → List Report → List ℕ
 front_text spec sheet rows reports = top_text spec sheet rows reports ++ lanes_and_foot spec sheet rows
 
--- The document of a picture after its opening tag and its styles.
+-- The part of the document after the opening tag and the styles.
 abbrev pub body_text : Parts → Sheet → List Row → List Report → List ℕ
 body_text spec sheet rows reports = grid_text sheet reports ++ front_text spec sheet rows reports
 

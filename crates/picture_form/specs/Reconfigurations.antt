@@ -1,4 +1,4 @@
--- Reconfigurations and their bounds.
+-- The boxes of reconfigurations and of their bounds.
 use Rattle.std.specs.Prelude.{ℕ, ◌+◌, ◌-◌, min, List, [], ◌++◌, slice_get, nat_lt, Option, Some, None, codes, decimal, if◌then◌else◌}
 use Rattle.std.specs.Option.{option_map_or}
 use Rattle.scram_types.specs.Lookups.{conf_name}
@@ -40,11 +40,13 @@ route_text spec from to = codes "reconfiguration " ++ conf_name spec from.0 ++ c
 unfoldable pub report_title : Parts → Report → List ℕ
 report_title spec report = route_text spec report.from report.to ++ times_text spec report
 
--- The width of the rows from `begin` to `last`, inclusive, or to the last row of the flight if this is earlier.
+-- The width of the rows from `begin` to `last`, inclusive, or to the last row of the flight if that row is earlier.
+-- The width is 0 if `last` is less than `begin`.
 abbrev pub rows_width : Sheet → ℕ → ℕ → ℕ
 rows_width sheet begin last = width_of sheet (min last (sheet.rows - 1) + 1 - begin)
 
--- The outline of the rows that a bound allows, or the empty text if there is no bound.
+-- The outline of the rows that a bound allows for a reconfiguration that begins in row `begin`, or the empty text if
+-- there is no bound.
 abbrev pub bound_rect : Sheet → ℕ → Option ℕ → List ℕ
 bound_rect sheet begin None = []
 bound_rect sheet begin (Some bound) =

@@ -49,7 +49,8 @@ mode_and_proc spec kind (act.Initialising k n proc) = codes " " ++ proc_name spe
 mode_and_proc spec kind act.Off = []
 mode_and_proc spec kind act.Lost = []
 
--- The title of a row in a lane, without the lane's name.
+-- The words that describe a row in the title of its box: `stable`, the name of a factor's value, `up`, or the act
+-- with its mode and processor.
 abbrev pub words_text : Parts → Lane → Row → List ℕ
 words_text spec lane.Configuration row = codes "stable"
 words_text spec (lane.Factor i) row = value_in spec i row
@@ -100,8 +101,8 @@ lane_span_text spec sheet row span (lane.Factor i) = rect_text spec sheet row sp
 lane_span_text spec sheet row span (lane.Processor p) = if has_bit row.env.up p then rect_text spec sheet row span else []
 lane_span_text spec sheet row span (lane.Application a) = rect_text spec sheet row span
 
--- The drawing of a span that begins in row `k`, given its number of rows, or the empty text for `None`, which means
--- that no span begins there.
+-- The drawing of the span that begins in row `k`, given the span's number of rows. It is empty if this number is
+-- `None`, which means that no span begins in row `k`.
 abbrev pub begun_text : Parts → Sheet → Row → Strip → ℕ → Option ℕ → List ℕ
 begun_text spec sheet row strip k None = []
 begun_text spec sheet row strip k (Some n) = lane_span_text spec sheet row (record { lane = strip.lane; y = strip.y; first = k; rows = n }) strip.lane

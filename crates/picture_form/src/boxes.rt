@@ -30,7 +30,7 @@ fn add_place(line: &mut Line, x: u64, y: u64)
     line.text(b"\"");
 }
 
-/// Appends the attributes of the position and the size of a box.
+/// Appends the attributes of the position and the size of a box, whose height is 16 pixels.
 #[tactic(auto, unfolding(crate::specs::Boxes::box_text))]
 pub fn add_box(line: &mut Line, x: u64, y: u64, width: u64)
     requires { length line.old + 92 ≤ MAX_LINE_BYTES }
@@ -43,7 +43,8 @@ pub fn add_box(line: &mut Line, x: u64, y: u64, width: u64)
     line.text(b"\" height=\"16\"");
 }
 
-/// Appends the name of a lane, of at most 16 bytes, set to the left of the lane's rows.
+/// Appends the text element with the name of a lane, to the left of the lane's rows. The name has at most 16 bytes,
+/// and `y` is the y-coordinate of the text.
 pub fn add_name(line: &mut Line, y: u64, name: &[u8])
     requires room { length line.old + 79 ≤ MAX_LINE_BYTES }
     requires name { length name.now ≤ 16 }
@@ -89,7 +90,8 @@ pub fn add_label(line: &mut Line, x: u64, y: u64, width: u64, label: &[u8])
     }
 }
 
-/// Appends the numbers of the first and the last frame of a span of `rows` rows that begins in row `k`.
+/// Appends the numbers of the first and the last frame of a span of `rows` rows that begins in row `k`. It appends
+/// one number if `rows` is 1, and nothing if `rows` is 0.
 pub fn add_frames(line: &mut Line, k: u32, rows: u32)
     requires { length line.old + 52 ≤ MAX_LINE_BYTES }
     ensures text { line.new ≡ line.old ++ frames_text k rows }

@@ -1,4 +1,4 @@
-//! The curves of quantities, made without allocating.
+//! The curves of the aircraft's quantities over the rows of a flight, made without allocating.
 
 ghost use Rattle.std.specs.Prelude.{◌≡◌, ◌<◌, ◌≤◌, ◌+◌, ◌++◌, ◌^◌, length, option_map};
 ghost use Rattle.std.specs.Fmt.{signed_decimal};
@@ -26,7 +26,7 @@ fn distance(a: &i64, b: &i64) -> u64
     a.abs_diff(*b)
 }
 
-// Returns the distance of a number from the top of its curve, in tenths of a pixel.
+// Returns the distance of a value of a quantity from the top of the quantity's curve, in tenths of a pixel.
 fn drop_of(extremes: &Extremes, number: &i64) -> u64
     ensures { result ≡ drop_of extremes.now number.now }
 {
@@ -110,7 +110,7 @@ pub fn make_curve_begin(sheet: Sheet, y: u64) -> Line
 }
 
 /// Returns the end of the path element of a curve whose top is at `y`, followed by text elements for the quantity's
-/// extremes, which are to the right of the curve.
+/// maximum and minimum. These elements are to the right of the curve.
 pub fn make_curve_end(sheet: Sheet, y: u64, extremes: &Extremes) -> Line
     requires { y ≤ 6100 }
     ensures { result ≡ curve_end sheet y extremes.now }

@@ -1,5 +1,5 @@
-//! The form `picture`, which prints a trace as a picture in SVG. Its output depends only on the bytes of the files that
-//! its words name.
+//! The form `picture`, which prints a trace as a picture in SVG. The output of the form depends only on the bytes of
+//! the files that the command's words name.
 #![tactic(auto)]
 
 mod boxes;

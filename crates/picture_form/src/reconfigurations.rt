@@ -1,4 +1,4 @@
-//! Reconfigurations and their bounds, made without allocating.
+//! The boxes of reconfigurations and of their bounds, made without allocating.
 
 ghost use Rattle.std.specs.Prelude.{◌≡◌, ◌<◌, ◌≤◌, ◌+◌, ◌++◌, length};
 ghost use Rattle.scram_types.specs.declared.limits.TheConstants.{MAX_LINE_BYTES};
@@ -94,7 +94,8 @@ fn add_bound_rect(line: &mut Line, sheet: Sheet, begin: u32, bound: Option<u32>)
     }
 }
 
-// Returns the width of the rows from `begin` to `last`, inclusive, or to the last row of the flight if this is earlier.
+// Returns the width of the rows from `begin` to `last`, inclusive, or to the last row of the flight if that row is
+// earlier. The width is 0 if `last` is less than `begin`.
 fn rows_width(sheet: Sheet, begin: u32, last: u64) -> u64
     requires { begin < sheet.rows }
     ensures { result ≡ rows_width sheet begin last }

@@ -16,7 +16,8 @@ pub struct Sheet {
     pub apps: u8,
 }
 
-/// Returns the sheet of a flight, which has the number of its rows and the numbers of its lanes.
+/// Returns the sheet of a flight: the number of its rows, and the numbers of the factors, processors and applications
+/// of its specification.
 pub fn sheet_of(spec: &Spec, rows: &[Row]) -> Sheet
     requires { length rows.now < 2 ^ 32 }
     ensures value { result ≡ sheet_of spec.now rows.now }

@@ -1,4 +1,4 @@
-//! Spans, which are consecutive rows of a lane that are drawn as one box, made without allocating.
+//! Spans, which are consecutive rows of a lane that are drawn as one box. Their drawings are made without allocating.
 
 ghost use Rattle.std.specs.Prelude.{◌≡◌, ◌<◌, ◌≤◌, ◌+◌, ◌++◌, ◌^◌, length, codes};
 ghost use Rattle.scram_types.specs.Lookups.{proc_name};
@@ -15,14 +15,15 @@ use scram_types::{Act, AppId, ConfId, FactorId, KindId, ProcId, Row, Spec};
 use trace_text::lines::Line;
 use trace_text::row_lines::name_of_mode;
 
-/// A lane with its top, in pixels.
+/// A lane, with the y-coordinate of its top in pixels.
 #[derive(Clone, Copy, Debug, PartialEq, Eq)]
 pub struct Strip {
     pub lane: Lane,
     pub y: u64,
 }
 
-/// Consecutive rows of a lane that are drawn as one box, with the index of the first row and the number of rows.
+/// Consecutive rows of a lane that are drawn as one box. `y` is the y-coordinate of the lane's top in pixels, `first`
+/// is the index of the first row, and `rows` is the number of rows.
 #[derive(Clone, Copy, Debug, PartialEq, Eq)]
 pub struct Span {
     pub lane: Lane,

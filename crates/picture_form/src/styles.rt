@@ -6,15 +6,15 @@ ghost use Rattle.picture_form.specs.Styles.{part_text};
 /// A part of the document that is the same in every picture.
 #[derive(Clone, Copy, Debug, PartialEq, Eq)]
 pub enum Part {
-    /// The styles, which give the colours of the classes.
+    /// The styles, which set the colours of the classes.
     Style,
-    /// The names of the first two lanes.
+    /// The names of the lanes of configurations and reconfigurations.
     Names,
     /// The legend, and the end of the document.
     Legend,
 }
 
-/// The colours of the classes, on a light and on a dark background.
+/// The style element, with the colours of the classes on a light and on a dark background.
 pub const STYLE: &str = concat!(
     "<style>svg{background:#fff;font:11px ui-monospace,monospace}text{fill:#1f2933}\n",
     ".name{text-anchor:end}.axis{text-anchor:middle}.axis,.note,.off+.value{fill:#5b6673}\n",
@@ -33,7 +33,7 @@ pub const STYLE: &str = concat!(
     ".line{stroke:#7fb3e6}}</style>\n",
 );
 
-/// The names of the first two lanes.
+/// The names of the lanes of configurations and reconfigurations.
 pub const NAMES: &str = concat!(
     "<text class=\"name\" x=\"128\" y=\"32\">configuration</text>\n",
     "<text class=\"name\" x=\"128\" y=\"60\">reconfiguration</text>\n",

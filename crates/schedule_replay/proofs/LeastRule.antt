@@ -29,7 +29,7 @@ both_told : {A B C : Type 0} (make : A → B → C) (o : Option A) (other : Opti
 both_told make None other = refl
 both_told make (Some a) other = one_told (make a) other
 
--- The words of a line encode an event if and only if they keep rule 4.
+-- The words of a line encode an event if and only if they satisfy rule 4.
 named : (spec : Parts) (words : List (List ℕ)) (verb : Verb) → is_some (event_told spec verb words) ≡ names_event spec words verb
 named spec words Start = one_told event.Start (proc_in spec words)
 named spec words Look = both_told event.Look (proc_in spec words) (proc_named spec (word_at words 2))

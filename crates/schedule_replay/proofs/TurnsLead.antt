@@ -1,4 +1,4 @@
--- The turn of a processor takes it from the begin of a frame to its end.
+-- The turn of a processor takes the processor from the begin of a frame to the end of the frame.
 use Rattle.std.proofs.lemmas.Bool.{lt-ltb}
 use Rattle.std.proofs.Common.{◌≡◌, ◌≢◌, ◌∙◌, ℕ, zero, suc, ◌+◌, ◌-◌, ◌<◌, ◌≤◌, Bool, true, false, refl, ap, subst, arith, List, [], ◌∷◌, ◌++◌}
 use Rattle.std.specs.Prelude.{Option, Some, None, nat_eq, nat_lt, if◌then◌else◌}
@@ -19,7 +19,7 @@ use Rattle.schedule_replay.specs.Turns.{ending, steps_by}
 other_false : (a b : ℕ) → a ≢ b → nat_eq a b ≡ false
 other_false a b h = grind (arith, nat_tests, h)
 
--- An event of processor `p` moves neither the kernel nor any other processor.
+-- The event `e` is an event of processor `p`. It moves neither the kernel nor any other processor.
 record IsOf (p : ℕ) (e : Event) : Type 0 where
   actor : (q : ℕ) → is_actor e q ≡ nat_eq q p
   asks : (m : Flight) (at : Places) (words : Word → ℕ) → next_of_actor m at words e ≡ next_of m at words p
@@ -64,8 +64,9 @@ pub record Leads (m : Flight) (s : Machine) (es : List Event) (p : ℕ) (place :
   pub schedule : IsSchedule m s es state
   pub came : Came m p s state place
 
--- The place of a processor after its last step of frame `f`, given the step of its halt in the frame, or `None`. It
--- is the begin of the next frame, or with a halt the place of a processor that has halted in `f`.
+-- The place of a processor after its last step of frame `f`, given the step of its halt in the frame, or `None` if it
+-- does not halt there. The place is the begin of the next frame, or, with a halt, that of a processor that has halted
+-- in `f`.
 abbrev pub ended_at : ℕ → Option ℕ → Place
 ended_at f None = At (suc f) 0
 ended_at f (Some s) = Halted f

@@ -1,4 +1,4 @@
--- The round-robin schedule takes the flight from the opening to its end.
+-- The round-robin schedule takes the flight from the opening state to the end of the flight.
 use Rattle.std.proofs.lemmas.Bool.{eq-eqb, le-ltb, lt-ltb}
 use Rattle.std.proofs.Common.{◌≡◌, ◌∙◌, ℕ, zero, suc, ◌+◌, ◌-◌, ◌*◌, ◌/◌, ◌%◌, ◌<◌, ◌≤◌, Bool, true, false, ◌||◌, refl, ap, sym, subst, inl, inr, arith, List, [], ◌∷◌, ◌++◌}
 use Rattle.std.specs.Prelude.{Option, Some, None, nat_eq, nat_lt, nat_le, ◌&&◌, if◌then◌else◌}
@@ -35,7 +35,7 @@ not_at_once : (o : Option ℕ) (f : ℕ) → back_by o f f ≡ false
 not_at_once None f = refl
 not_at_once (Some r) f = grind (arith, nat_tests)
 
--- At the place, the turn of a processor in frame `f` is still to come.
+-- A processor at this place has not yet had its turn in frame `f`.
 abbrev Waits : ℕ → Place → Type 0
 Waits f (At g n) = (g ≡ f) × (n ≡ 0)
 Waits f (Halted h) = h < f
@@ -53,7 +53,7 @@ ended_went m p f None = (refl, refl)
 ended_went m p f (Some s) = (omega arith, not_at_once (m.restart p) f)
 
 module _ (m : Flight) (y : Flies m) where
-  -- The first step of the turn of processor `p` in frame `f` is next.
+  -- The next event of processor `p` is the start of its turn in frame `f`.
   record Starts (s : Machine) (p f : ℕ) : Type 0 where
     next : next_of m s.at s.words p ≡ Some (Start (proc_id p))
     goes : moved m (Start (proc_id p)) p (s.at.proc p) ≡ At f 1
@@ -94,8 +94,7 @@ module _ (m : Flight) (y : Flies m) where
             goes = ap (moved m (Start (proc_id p)) p) here ∙ (rw b.is (ap (λ (k : ℕ). At k 1) same));
           }
 
-  -- If a processor is down in frame `f`, then its place before its turn in the frame is also its place after the
-  -- turn.
+  -- The place that a processor has before its turn in a frame in which it is down is also a place after the turn.
   down_went : (s : Machine) (p f : ℕ) (place : Place) → s.at.frame ≡ f → m.up p f ≡ false → IsPlaced m s.at.frame s.at.step p place → Waits f place → Went m p f place
   down_went s p f (At g n) frame down is w = absurd (let same : m.up p f ≡ true = subst (λ (k : ℕ). m.up p k ≡ true) w.0 is.up in let bad : true ≡ false = sym same ∙ down in cc)
   down_went s p f (Halted h) frame down is w = (omega (arith, w), not_back (back_by (m.restart p) h f) refl)
@@ -129,7 +128,7 @@ module _ (m : Flight) (y : Flies m) where
     went = down_went s p f (s.at.proc p) frame down (kept.placed p low) w;
   }
 
-  -- The kernel is at the begin of frame `f`, and the turn of each processor in the frame is still to come.
+  -- The kernel is at the begin of frame `f`, and no processor has yet had its turn in the frame.
   record Begun (s : Machine) (f : ℕ) : Type 0 where
     kept : Kept m s.at s.words
     frame : s.at.frame ≡ f

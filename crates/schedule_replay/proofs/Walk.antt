@@ -1,4 +1,4 @@
--- Lemmas on how the reading of a schedule goes on or ends after its next line.
+-- Lemmas on how the reading of a schedule continues or ends after a further line.
 use Rattle.std.proofs.Common.{ℕ, ◌≡◌, ◌<◌, ◌≤◌, ◌+◌, ◌∙◌, List, [], ◌∷◌, ◌++◌, Result, Ok, Err, length, arith, refl, sym, ap}
 use Rattle.std.proofs.lemmas.Bool.{le-ltb}
 use Rattle.scram_types.specs.Specification.{Parts}
@@ -9,7 +9,7 @@ use Rattle.schedule_replay.specs.declared.limits.TheConstants.{MAX_SCHEDULE_BYTE
 use Rattle.schedule_replay.specs.declared.schedule_reading.ScheduleFault.{ScheduleFault}
 use Rattle.schedule_replay.specs.Reading.{events_from, event_read, schedule_fault, read_on, schedule_of}
 
--- A line that is not the last is read, and the reading continues with the next one.
+-- A line that is not the last is read, and the reading continues with the line after it.
 pub line_then : (spec : Parts) (k : ℕ) (so_far : List Event) (line : List ℕ) (lines : List (List ℕ)) → 0 < length lines →
     events_from spec k so_far (line ∷ lines) ≡ read_on k (event_read spec line) (λ (event : Event). events_from spec (k + 1) (so_far ++ event ∷ []) lines)
 line_then spec k so_far line [] h = absurd (omega arith)
@@ -24,7 +24,7 @@ step : (spec : Parts) (k : ℕ) (so_far : List Event) (text rest behind : List �
 step spec k so_far text rest behind read split here =
     sym (line_then spec k so_far text (pieces_of 10 behind) (some_piece 10 behind)) ∙ ap (events_from spec k so_far) (sym split) ∙ here
 
--- If a line is read as an event, then the reading continues after it.
+-- If a line is read as an event, then the reading continues after the line with the same result.
 pub taken : (spec : Parts) (k : ℕ) (so_far : List Event) (text rest behind : List ℕ) (event : Event) (read : Result (List Event) ScheduleFault) → pieces_of 10 rest ≡ text ∷ pieces_of 10 behind
     → event_read spec text ≡ Ok event → events_from spec k so_far (pieces_of 10 rest) ≡ read
     → events_from spec (k + 1) (so_far ++ event ∷ []) (pieces_of 10 behind) ≡ read

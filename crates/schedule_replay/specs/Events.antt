@@ -6,8 +6,8 @@ use Rattle.bank_words.specs.declared.events.Event.{Event}
 use Rattle.bank_words.specs.declared.events.Event.TheVariants.{Start, Look, Store, Flip, Done, Halt, KNote, KStore, Release}
 use Rattle.fault_script.specs.Times.{words as width_of}
 
--- The event is one of the specification: its processors exist, and the number of a store is the index of a word of an
--- image, or of a word of the kernel for `KStore`.
+-- The specification has the event: its processors exist, a `Store` has the index of a word of an image, and a
+-- `KStore` has the index of one of the kernel's 20 words.
 abbrev pub HasEvent : Parts → Event → Type 0
 HasEvent spec (Start p) = p.0 < length spec.procs
 HasEvent spec (Look p q) = (p.0 < length spec.procs) × (q.0 < length spec.procs)

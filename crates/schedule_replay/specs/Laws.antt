@@ -1,4 +1,4 @@
--- The law that a list of events that is flown as a schedule has only one answer.
+-- The law that a list of events that is flown as a schedule has only one answer apart from out of memory.
 use Rattle.std.specs.Prelude.{◌≡◌, ◌≢◌, List, Result, Err}
 use Rattle.bank_words.specs.declared.events.Event.{Event}
 use Rattle.scram_types.specs.Scripts.{ScriptParts}

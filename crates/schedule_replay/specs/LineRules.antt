@@ -22,8 +22,9 @@ has_words words verb = list_all is_filled words && (length words == word_count v
 abbrev pub event_form : List ℕ → Option Verb
 event_form line = option_and_then (λ (verb : Verb). if has_words (words_of line) verb then Some verb else None) (verb_of line)
 
--- Whether the words of a line for an event of the kind keep rule 4. Each processor that they name must be known, and
--- the number of a store must be the index of a word of an image, or of a word of the kernel for `KernelStore`.
+-- Whether the words of a line for an event of the kind satisfy rule 4. Each processor that they name must be known.
+-- The number in a `Store` must be the index of a word of an image, and the number in a `KernelStore` the index of one
+-- of the kernel's 20 words.
 abbrev pub names_event : Parts → List (List ℕ) → Verb → Bool
 names_event spec words Start = is_some (proc_named spec (word_at words 1))
 names_event spec words Look = is_some (proc_named spec (word_at words 1)) && is_some (proc_named spec (word_at words 2))

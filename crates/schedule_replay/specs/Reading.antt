@@ -21,7 +21,7 @@ use Rattle.schedule_replay.specs.declared.verbs.Verb.{Verb}
 use Rattle.schedule_replay.specs.declared.verbs.Verb.TheVariants.{Start, Look, Store, Flip, Done, Halt, Note, KernelStore, Release}
 use Rattle.schedule_replay.specs.Verbs.{verb_named, word_count}
 
--- Whether a line, given without its line feed, keeps rule 1: it is not too long, and its bytes are printable.
+-- Whether a line, given without its line feed, satisfies rule 1: it is not too long, and its bytes are printable.
 abbrev pub is_legible : List ℕ → Bool
 is_legible line = nat_le (length line) MAX_EVENT_BYTES && list_all is_printable line
 
@@ -58,7 +58,7 @@ event_told spec Note words = option_map event.KNote (proc_in spec words)
 event_told spec KernelStore words = option_map event.KStore (spelled_number 20 (word_at words 1))
 event_told spec Release words = Some event.Release
 
--- The event that a line encodes, or the first of the rules 2 to 4 that the line breaks. The line keeps rule 1.
+-- The event that a line encodes, or the first of rules 2 to 4 that the line breaks. The line must satisfy rule 1.
 abbrev pub line_event : Parts → List ℕ → Result Event ℕ
 line_event spec line =
     or_rule UNKNOWN_WORD (verb_of line) (λ (verb : Verb).
@@ -73,15 +73,15 @@ event_read spec line = if is_legible line then line_event spec line else Err BRO
 abbrev pub schedule_fault : ℕ → ℕ → ScheduleFault
 schedule_fault line rule = record { line = line; rule = rule }
 
--- The result of a reading that has reached line `k`, given the event that the line encodes or the rule that it
--- breaks. For an event it is the value of `next` for the event, and for a rule the fault of line `k`.
+-- The result of reading from line `k` on, given the result of reading line `k`. If that line encodes an event, it is
+-- the result of `next` for the event. If the line breaks a rule, it is the fault of line `k`.
 abbrev pub read_on : ℕ → Result Event ℕ → (Event → Result (List Event) ScheduleFault) → Result (List Event) ScheduleFault
 read_on k (Ok event) next = next event
 read_on k (Err rule) next = Err (schedule_fault k rule)
 
--- The events `so_far` of the preceding lines followed by the events of the given lines, or the fault of the first of
--- these that breaks a rule. The first given line has number `k`. The last is the text after the last line feed, which
--- must be empty.
+-- The events `so_far` of the preceding lines followed by the events of the given lines, or the fault of the first
+-- given line that breaks a rule. The first given line has number `k`. The last given line is the text after the last
+-- line feed, which must be empty.
 abbrev pub events_from : Parts → ℕ → List Event → List (List ℕ) → Result (List Event) ScheduleFault
 events_from spec k so_far [] = Ok so_far
 events_from spec k so_far (last ∷ []) = if is_filled last then Err (schedule_fault k BROKEN_LINE) else Ok so_far

@@ -5,7 +5,7 @@ use Rattle.scram_types.specs.Specification.{Parts}
 use Rattle.schedule_replay.specs.declared.schedule_reading.ScheduleFault.{ScheduleFault}
 use Rattle.schedule_replay.specs.Events.{event_text}
 
--- The text of an event in a line of a schedule, or `-` if there is none.
+-- The text of an event in a line of a schedule, or `-` if there is no event.
 abbrev pub event_or_dash : Parts → Option Event → List ℕ
 event_or_dash spec (Some event) = event_text spec event
 event_or_dash spec None = codes "-"

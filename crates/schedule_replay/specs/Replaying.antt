@@ -34,8 +34,8 @@ pub record IsWholeSchedule (m : Flight) (list : List Event) : Type 0 where
   pub replay : IsReplay m list at words
   pub over : IsOver m at
 
--- The events before index `index` are a schedule. The event `given` at that index is not its actor's next event after
--- them, which is `next`.
+-- The events before index `index` are a schedule, and the event at that index is `given`. After the schedule, the
+-- next event of the actor of `given` is `next`, or `None` if the actor has none. `next` is not `given`.
 pub record IsIllegal (m : Flight) (list : List Event) (index : ℕ) (given : Event) (next : Option Event) : Type 0 where
   pub at : Places
   pub words : Word → ℕ
@@ -54,9 +54,9 @@ pub record IsShort (m : Flight) (list : List Event) (events : ℕ) (next : Event
   pub count : events ≡ length list
   pub next_is : first_next m at words ≡ Some next
 
--- An answer to a list of events. It is the one-thread trace if the list is a whole schedule. Otherwise it is the first
--- event that is not the next of its actor, or the event that would come next if the list ends too early. Out of memory
--- is always an answer.
+-- The result is an answer to a list of events. If the list is a whole schedule, the answer is the one-thread trace.
+-- Otherwise, it is the first event that is not the next of its actor, or the event that would come next if the list
+-- ends too early. Out of memory is always an answer.
 abbrev pub AnswersReplay : Parts → ScriptParts → List Event → Result Flown ReplayError → Type 0
 AnswersReplay spec script list (Ok flown) = IsWholeSchedule (flight_of spec script) list × (flown.rows ≡ rows_of spec script)
     × (flown.reports ≡ reports_of spec script)

@@ -1,5 +1,5 @@
--- The round-robin schedule. In each frame, each processor in order makes all its steps, and then the kernel makes its
--- own.
+-- The round-robin schedule. In each frame, each processor in order makes all its steps, and then the kernel makes all
+-- its steps.
 use Rattle.std.specs.Prelude.{◌≡◌, ℕ, zero, suc, List, [], ◌∷◌, ◌++◌, Option, Some, None, nat_lt, if◌then◌else◌}
 use Rattle.scram_types.specs.Lookups.{proc_id}
 use Rattle.scram_types.specs.Scripts.{ScriptParts}
@@ -13,9 +13,9 @@ use Rattle.fail_stop.specs.Schedules.{IsSchedule, Machine, opening}
 use Rattle.fail_stop.specs.ScriptFlights.{flight_of}
 use Rattle.fault_script.specs.Fits.{Fits}
 
--- The steps of processor `p` in a frame after its stores, given the step of its halt in the frame, or `None`. Without
--- a halt they are the flip and the end of the frame. With a halt they are the halt, preceded by the flip if the step
--- is greater than the width of an image.
+-- The steps of processor `p` in a frame after its stores, given the step of its halt in the frame, or `None` if it
+-- does not halt there. Without a halt they are the flip and the end of the frame. With a halt they are the halt,
+-- preceded by the flip if the step is greater than the width of an image.
 abbrev pub ending : Flight → ℕ → Option ℕ → List Event
 ending m p None = Flip (proc_id p) ∷ Done (proc_id p) ∷ []
 ending m p (Some step) = if nat_lt m.width step then Flip (proc_id p) ∷ Halt (proc_id p) ∷ [] else Halt (proc_id p) ∷ []
@@ -41,8 +41,8 @@ turns_of_procs m f (suc n) = turns_of_procs m f n ++ turn_of_proc m n f
 abbrev pub releasing : Flight → ℕ → List Event
 releasing m f = if nat_lt (suc f) m.frames then listed_below KStore 20 ++ Release ∷ [] else []
 
--- All steps of the kernel in frame `f`: a note of each processor and, unless the frame is the last, its stores and the
--- release.
+-- All steps of the kernel in frame `f`: a note of each processor and, unless the frame is the last, the kernel's
+-- stores and the release.
 abbrev pub turn_of_kernel : Flight → ℕ → List Event
 turn_of_kernel m f = listed_below (λ (p : ℕ). KNote (proc_id p)) m.procs ++ releasing m f
 
@@ -59,7 +59,7 @@ in_turns spec script = frames_in_turns (flight_of spec script) script.frames
 abbrev pub Adds : List Event → List Event → List Event → Type 0
 Adds old new events = new ≡ old ++ events
 
--- The events are a schedule from the opening, at whose end the flight is over.
+-- The events are a schedule from the opening state, at whose end the flight is over.
 pub record LeadsToTheEnd (m : Flight) (events : List Event) : Type 0 where
   pub state : Machine
   pub schedule : IsSchedule m (opening m) events state

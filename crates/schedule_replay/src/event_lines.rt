@@ -18,7 +18,7 @@ use trace_text::numbers::read_number;
 use trace_text::progress::is_printable_text;
 use trace_text::words::{Words, first_word};
 
-/// Appends the text of an event to a line that has room for it.
+/// Appends the text of an event, which has at most 64 bytes.
 pub fn add_event(line: &mut Line, spec: &Spec, event: Event)
     requires { length line.old + 64 ≤ MAX_LINE_BYTES }
     ensures text { line.new ≡ line.old ++ event_text spec.now event }

@@ -34,7 +34,7 @@ pub fn history_is_known(core: &Core, spec: &Spec)
     requires { core.now.spec ≡ spec.now }
     ensures { HasEvents spec.now core.now.history }
 {
-    // Using a field of a specification shows that it keeps its invariant.
+    // From the use of a field, the prover knows that the specification satisfies its invariant.
     let _ = &spec.procs;
     let _ = core.history();
 }

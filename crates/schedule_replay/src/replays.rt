@@ -30,8 +30,8 @@ pub enum ReplayError {
         given: Event,
         next: Option<Event>,
     },
-    /// All events of the list were made, and the flight is not over. The next event is that of the first processor that
-    /// has one, or that of the kernel if no processor has one.
+    /// All `events` events of the list were made, and the flight is not over. `next` is the next event of the first
+    /// processor that has one, or that of the kernel if no processor has one.
     Short {
         events: u32,
         next: Event,
@@ -48,13 +48,13 @@ impl From<NoMemory> for ReplayError {
     }
 }
 
-/// Flies a list of events as a schedule, on one thread, and returns the rows and reports. If the list is a schedule at
-/// whose end the flight is over, they are those of the one-thread trace. It does not block.
+/// Flies a list of events as a schedule, on one thread, and returns the rows and reports of the flight. They are
+/// those of the one-thread trace. The function does not block.
 ///
 /// # Errors
 ///
-/// Returns an error with the first event that is not the next of its actor, or with the event that would come next if
-/// the list ends before the flight is over, and `NoMemory` if memory runs out.
+/// Returns an error with the first event that is not the next of its actor. If the list ends before the flight is
+/// over, returns an error with the event that would come next. Returns `NoMemory` if memory runs out.
 pub fn replay(
     alloc: Global,
     spec: &Spec,

@@ -22,7 +22,7 @@ pub fn write_schedule(alloc: Global, events: &[Event], spec: &Spec) -> Result<Ve
     ensures text { IfOk result (λ text. text.items ≡ schedule_text spec.now events.now) }
     ensures back { IfOk result (λ text. length text.items ≤ MAX_SCHEDULE_BYTES → schedule_of spec.now text.items ≡ Ok events.now) }
 {
-    // Using a field of a specification shows that it keeps its invariant.
+    // From the use of a field, the prover knows that the specification satisfies its invariant.
     let _ = &spec.procs;
     write_lines(alloc, events, spec)
 }

@@ -18,7 +18,7 @@ use scram_types::{HaltAt, NoMemory, ProcId, Script, Spec};
 use std::alloc::Global;
 
 /// Returns the round-robin schedule. In each frame, each processor in order makes all its steps, and then the kernel
-/// makes its own. A processor that is down makes no step. A processor that restarts does so in its turn.
+/// makes all its steps. A processor that is down makes no step. A processor that restarts does so in its turn.
 ///
 /// # Errors
 ///
@@ -27,7 +27,7 @@ pub fn in_turns(alloc: Global, spec: &Spec, script: &Script) -> Result<Vec<Event
     ensures turns { IfOk result (λ list. list.items ≡ in_turns spec.now script.now) }
     ensures known { IfOk result (λ list. HasEvents spec.now list.items) }
 {
-    // Using a field of a specification shows that it keeps its invariant.
+    // From the use of a field, the prover knows that the specification satisfies its invariant.
     let _ = &spec.procs;
     add_frames(alloc, spec, script)
 }

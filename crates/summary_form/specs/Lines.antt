@@ -32,13 +32,13 @@ count_unfinished reports = count_by (λ (report : Report). has_no_target report.
 abbrev pub flight_line : List Row → List Report → List ℕ
 flight_line rows reports = codes "flight" ++ counts_text rows reports ++ codes " unfinished " ++ decimal (count_unfinished reports) ++ codes "\n"
 
--- The line of a reconfiguration, given `earlier`, which is the preceding reconfiguration if there is one.
+-- The line of a reconfiguration, given the preceding reconfiguration `earlier`, or `None` if there is none.
 abbrev pub reconfiguration_line : Parts → List Row → Option Report → Report → List ℕ
 reconfiguration_line spec rows earlier report =
     codes "reconfiguration " ++ conf_name spec report.from.0 ++ target_text spec report report.to ++ codes " margin " ++ margin_of spec report
     ++ codes " cause " ++ cause_text spec rows earlier report.begin ++ codes "\n"
 
--- The line of the changes of the environment in row `k`.
+-- The line of the changes of the environment from the preceding row to row `k`, with `-` if nothing changed.
 abbrev pub change_line : Parts → List Row → ℕ → List ℕ
 change_line spec rows k =
     codes "  frame " ++ decimal k ++ codes " " ++ difference_or_dash spec (env_before spec rows k) (env_in rows k) ++ codes "\n"

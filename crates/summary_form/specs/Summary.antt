@@ -18,12 +18,13 @@ change_text spec rows k = if differ spec (env_before spec rows k) (env_in rows k
 abbrev pub first_row_after_decision : List Row → Report → ℕ
 first_row_after_decision rows report = decided_in rows report.begin + 1
 
--- The number of rows after the row of the decision, up to the last row of the reconfiguration or of the flight.
+-- The number of rows after the row in which a reconfiguration is decided, up to the end of the reconfiguration or of
+-- the flight, whichever is earlier.
 abbrev pub rows_after_decision : List Row → Report → ℕ
 rows_after_decision rows report = min (report.end + 1) (length rows) - first_row_after_decision rows report
 
--- The lines of the changes of the environment after the decision of a reconfiguration, up to the end of the
--- reconfiguration.
+-- The lines of the changes of the environment in the rows after the row in which a reconfiguration is decided, up to
+-- the end of the reconfiguration.
 abbrev pub changes_text : Parts → List Row → Report → List ℕ
 changes_text spec rows report = texts_below (λ (j : ℕ). change_text spec rows (first_row_after_decision rows report + j)) (rows_after_decision rows report)
 
@@ -32,7 +33,7 @@ abbrev pub report_before : List Report → ℕ → Option Report
 report_before reports zero = None
 report_before reports (suc n) = slice_get reports n
 
--- The line of a reconfiguration, followed by the lines of the changes of the environment during it.
+-- The line of a reconfiguration, followed by the lines of the changes of the environment after its decision.
 abbrev pub report_text : Parts → List Row → Option Report → Report → List ℕ
 report_text spec rows earlier report = reconfiguration_line spec rows earlier report ++ changes_text spec rows report
 

@@ -1,5 +1,5 @@
-//! The form `summary`, which prints the summary of a flight. Its output is the answer to the bytes of the files that
-//! its words name.
+//! The form `summary`, which prints the summary of a flight. The output of the form depends only on the bytes of the
+//! files that the command's words name.
 #![tactic(auto)]
 
 mod lines;

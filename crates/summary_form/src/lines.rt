@@ -54,7 +54,7 @@ fn has_no_target(to: Option<ConfId>) -> bool
     }
 }
 
-/// Returns the line of a reconfiguration, given `earlier`, which is the preceding reconfiguration if there is one.
+/// Returns the line of a reconfiguration, given the preceding reconfiguration `earlier`, or `None` if there is none.
 pub fn make_reconfiguration_line(
     spec: &Spec,
     rows: &[Row],
@@ -75,7 +75,7 @@ pub fn make_reconfiguration_line(
     line
 }
 
-/// Returns the line of the changes of the environment in row `k`.
+/// Returns the line of the changes of the environment from the preceding row to row `k`, with `-` if nothing changed.
 pub fn make_change_line(spec: &Spec, rows: &[Row], k: usize) -> Line
     requires { k < 2 ^ 32 }
     ensures { result ≡ change_line spec.now rows.now k }

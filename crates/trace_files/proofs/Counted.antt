@@ -1,4 +1,5 @@
--- A line of a trace adds at most one row and at most one report, so 32 bits count both.
+-- A line of a trace adds at most one row and at most one report. Therefore, the number of rows and the number of
+-- reports fit in 32 bits.
 use Rattle.std.proofs.Common.{◌≡◌, ℕ, suc, ◌+◌, ◌<◌, ◌≤◌, ◌∷◌, [], ◌++◌, List, length, Bool, true, false, Result, Ok, Err, arith, refl, sym, length-append}
 use Rattle.std.specs.Prelude.{◌==◌, ◌^◌, codes, nat_lt, ⊤, if◌then◌else◌}
 use Rattle.std.proofs.lemmas.Bool.{ltb-false}

@@ -1,4 +1,4 @@
--- Lemmas that give the answer of a form from the trace in a file.
+-- Lemmas on the answer of a form, given the trace in a file.
 use Rattle.std.proofs.Common.{◌≡◌, ℕ, List, ◌∷◌}
 use Rattle.std.specs.Prelude.{Result}
 use Rattle.scram_types.specs.declared.rows.Flown.{Flown}

@@ -1,4 +1,4 @@
--- Each answer with status 0 of a form that shows a view gives the assurance of the form.
+-- The assurance of a form that shows a view follows from each of its answers with status 0.
 use Rattle.std.proofs.Common.{◌≡◌, ℕ, List, [], sym}
 use Rattle.std.specs.Prelude.{◌≢◌}
 use Rattle.scram_types.specs.Specification.{Parts}

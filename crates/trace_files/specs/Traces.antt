@@ -10,7 +10,8 @@ use Rattle.form_base.specs.declared.status.TheConstants.{BROKEN_TRACE}
 use Rattle.form_base.specs.Answers.{Answer, AnswersDocument, AnswersFile}
 use Rattle.trace_files.specs.Lines.{broken_trace_line}
 
--- The bytes are the trace `flown` of missions of a specification, with fewer than `2 ^ 32` rows and reports.
+-- The bytes are the trace `flown` of missions of a specification, with fewer than `2 ^ 32` rows and fewer than `2 ^
+-- 32` reports.
 pub record SaysTrace (spec : Parts) (flown : Flown) (bytes : List ℕ) : Type 0 where
   pub is : trace_of spec bytes ≡ Ok flown
   pub rows : length flown.rows < 2 ^ 32

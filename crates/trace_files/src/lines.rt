@@ -6,8 +6,8 @@ ghost use Rattle.trace_files.specs.Lines.{broken_trace_line};
 use trace_text::TraceFault;
 use trace_text::lines::Line;
 
-/// Returns the line that refuses a trace, with the number of the rule that the trace breaks and the number of the
-/// line of the trace that breaks it.
+/// Returns the line that refuses a trace, with the number of the broken rule and the number of the line that breaks
+/// the rule.
 pub fn make_broken_trace_line(fault: TraceFault) -> Line
     ensures { result ≡ broken_trace_line fault }
 {

@@ -1,4 +1,4 @@
--- Each answer of `props` with status 0 gives the assurance of the form.
+-- The assurance of `props` follows from each of its answers with status 0.
 use Rattle.std.proofs.Common.{◌≡◌, ℕ, List, [], sym}
 use Rattle.std.specs.Prelude.{◌≢◌, Option, Some, None}
 use Rattle.scram_types.specs.declared.rows.Flown.{Flown}

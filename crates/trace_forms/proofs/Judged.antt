@@ -1,4 +1,4 @@
--- Lemmas that give the printed text from a judgement.
+-- Lemmas on the status and the text that are printed for a judgement.
 use Rattle.std.proofs.Common.{◌≡◌, ℕ, List, ap, subst, sym, ◌∙◌, inl, inr, arith}
 use Rattle.std.specs.Prelude.{◌⊎◌}
 use Rattle.scram_types.specs.declared.rows.Flown.{Flown}

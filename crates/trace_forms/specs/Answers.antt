@@ -18,7 +18,8 @@ abbrev pub Judges : Parts → Flown → Option Broken → Type 0
 Judges spec flown None = HoldsAll spec flown.rows flown.reports
 Judges spec flown (Some broken) = IsFirstBreak spec flown.rows flown.reports broken.property broken.frame
 
--- The status and the text with which `props` answers, given the first break if there is one.
+-- The status and the text with which `props` answers, given the first break of a property, or `None` if all
+-- properties hold.
 abbrev pub judged_answer : Flown → Option Broken → ℕ × List ℕ
 judged_answer flown (Some broken) = (BROKEN_PROPERTY, broken_line broken)
 judged_answer flown None = (ANSWERED, holds_line flown)

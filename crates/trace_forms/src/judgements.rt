@@ -30,7 +30,7 @@ struct Judgement {
 }
 
 /// Prints whether the six properties hold for the trace in a file. If they do not, prints the first property that the
-/// trace breaks.
+/// trace breaks, and the frame in which it breaks the property.
 pub fn props_form<F: Files, K: Sink>(
     alloc: Global,
     named: TraceFiles<'_>,
@@ -46,8 +46,8 @@ pub fn props_form<F: Files, K: Sink>(
     }
 }
 
-/// Reads the specification and the trace, and returns the judgement of the trace, or the refusal of the first file
-/// that cannot be read.
+/// Reads the specification and the trace, and returns the judgement of the trace. Returns the refusal of the first
+/// file that cannot be read, is too long or breaks a rule, and the out-of-memory refusal if memory runs out.
 fn read_judgement<F: Files>(
     alloc: Global,
     named: TraceFiles<'_>,

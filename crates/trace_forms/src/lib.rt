@@ -1,5 +1,5 @@
-//! The form `props`, which judges a finished trace. Its output is the answer to the bytes of the files that its words
-//! name.
+//! The form `props`, which judges a finished trace. The output of the form depends only on the bytes of the files
+//! that the command's words name.
 #![tactic(auto)]
 
 mod judgements;

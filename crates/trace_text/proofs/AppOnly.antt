@@ -49,7 +49,7 @@ sides_text text left right (a ∷ b ∷ []) is h =
     sym (join_with_byte-slice_split 47 text) ∙ ap (join_with_byte 47) is ∙ rw (one, two) refl
 sides_text text left right (a ∷ b ∷ c ∷ more) is h = absurd (let e = h in cc)
 
--- Application `a` exists, and the line is the text of its act and area without the line feed.
+-- Application `a` exists, and the line is the printed text of the act and the area in `told` without the line feed.
 pub record AppRead (spec : Parts) (a : ℕ) (line : List ℕ) (told : Done) : Type 0 where
   pub app : AppSpec
   pub there : slice_get spec.apps a ≡ Some app

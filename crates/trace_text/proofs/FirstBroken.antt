@@ -1,4 +1,4 @@
--- The first rule that is not kept, in the order of tests, is the broken rule of the smallest number.
+-- The first broken rule, in the order of the tests, is the broken rule of the smallest number.
 use Rattle.std.proofs.Common.{ℕ, suc, ◌≡◌, ◌<◌, ◌≤◌, Bool, true, false, cond, List, [], ◌∷◌, Option, Some, None, Result, Ok, Err, arith, refl, not}
 use Rattle.std.specs.Prelude.{◌==◌}
 use Rattle.std.proofs.lemmas.Bool.{eq-eqb, ne_eqb}
@@ -10,13 +10,13 @@ abbrev pub told_by : {A : Type 0} → Result A ℕ → Option ℕ
 told_by (Ok a) = None
 told_by (Err rule) = Some rule
 
--- The first rule that is not kept, or `None` if all are kept. The list shows for each rule whether it is kept, and
--- `rule` is the number of the first one.
+-- The number of the first broken rule, or `None` if no rule is broken. Each item of the list is `false` if its rule
+-- is broken. The rule of the first item has the number `rule`.
 abbrev pub least_from : ℕ → List Bool → Option ℕ
 least_from rule [] = None
 least_from rule (kept ∷ more) = cond kept (least_from (suc rule) more) (Some rule)
 
--- The rule of this number is not kept, given the number of the first rule of the list.
+-- The rule with the number `rule` is broken, given the number of the rule of the list's first item.
 abbrev pub breaks_from : ℕ → List Bool → ℕ → Bool
 breaks_from first [] rule = false
 breaks_from first (kept ∷ more) rule = cond (rule == first) (not kept) (breaks_from (suc first) more rule)
@@ -56,7 +56,7 @@ least_broken first [] least h = absurd (let e = h in cc)
 least_broken first (true ∷ ks) least h = later first ks least (least_broken (suc first) ks least h)
 least_broken first (false ∷ ks) least h = let e : first ≡ least = cc in rw (← e) (here first ks)
 
--- If a reading reports the first rule that is not kept, it reports the broken rule of the smallest number.
+-- If a reading reports the first broken rule, it reports the broken rule of the smallest number.
 pub reports_least : {A : Type 0} (first : ℕ) (kept : List Bool) (read : Result A ℕ) → told_by read ≡ least_from first kept → ReportsLeast (breaks_from first kept) read
 reports_least first kept (Ok a) h = λ rule. none_broken first kept rule (let e : None ≡ least_from first kept = h in cc)
 reports_least first kept (Err least) h = let p = least_broken first kept least (let e : Some least ≡ least_from first kept = h in cc) in (p.broken, p.others)

@@ -36,8 +36,8 @@ record Reads (spec : Parts) (s : ReadingState) (text : List ℕ) (flown : Flown)
 after_plain : (spec : Parts) (s t : ReadingState) (text : List ℕ) (most : ℕ) (back : LineBack spec s t text most) → after_line spec s back.line ≡ Ok t
 after_plain spec s t text most back = rw back.plain back.read
 
--- If a printed line takes state `s` to state `t`, and the rest is read from `t` on, both together are read from `s`
--- on.
+-- If a printed line takes state `s` to state `t`, and the text `rest` is read from `t` on, the line followed by
+-- `rest` is read from `s` on.
 before_lines : (spec : Parts) (s t : ReadingState) (text rest : List ℕ) (flown : Flown) (most more : ℕ) → LineBack spec s t text most → Reads spec t rest flown more →
     Reads spec s (text ++ rest) flown (most + more)
 before_lines spec s t text rest flown most more back reads =
@@ -53,7 +53,8 @@ before_lines spec s t text rest flown most more back reads =
       short = omega (arith, size, one, two);
     }
 
--- If a text is read, an equal text is read, and it is within any greater bound.
+-- If a text is read and has at most `most` bytes, an equal text is read and has at most `more` bytes. `more` must be
+-- at least `most`.
 same_lines : (spec : Parts) (s : ReadingState) (text other : List ℕ) (flown : Flown) (most more : ℕ) → text ≡ other → most ≤ more → Reads spec s text flown most → Reads spec s other flown more
 same_lines spec s text other flown most more same wide reads =
     let low = reads.short in
@@ -62,7 +63,7 @@ same_lines spec s text other flown most more same wide reads =
 over_read : (spec : Parts) (rows : List Row) (reports : List Report) → Reads spec (record { rows = rows; reports = reports; standing = Over }) [] (record { rows = rows; reports = reports }) 0
 over_read spec rows reports = record { read = λ k. refl; short = omega arith }
 
--- The lines of reconfigurations and the end line.
+-- Lemmas on the lines of reconfigurations and the end line.
 
 ending_read : (early : Bool) (spec : Parts) (rows : List Row) (seen reports : List Report) → IsSpec spec → length rows ≤ MAX_FRAMES → length seen + length reports ≤ MAX_FRAMES →
     ((i : ℕ) (report : Report) → slice_get reports i ≡ Some report → IsReportShown spec (length rows) report) →
@@ -88,12 +89,13 @@ ending_read early spec rows seen (report ∷ reports) sound few count shown =
     (before_lines spec (in_closing early rows seen) (in_closing false rows (seen ++ report ∷ [])) (report_line spec report) (reports_text spec reports ++ ending)
     (record { rows = rows; reports = seen ++ report ∷ reports }) 100 (100 * length reports + 60) (report_back early spec rows seen report sound few (shown 0 report refl)) read)
 
--- The lines of applications.
+-- Lemmas on the lines of applications.
 
 zero_area : List ℤ
 zero_area = replicate 8 (pos 0)
 
--- `part` is the row `row` of which the lines of the first `a` applications have been read.
+-- `part` is the row `row` after its first line and the lines of its first `a` applications have been read. Its other
+-- acts are `Off`, and its other areas are zeros.
 record IsPart (row part : Row) (a : ℕ) : Type 0 where
   frame : part.frame ≡ row.frame
   env : part.env ≡ row.env
@@ -229,7 +231,7 @@ all_apps spec rows reports f row (app ∷ apps) rest flown more is sound shown r
     (apps_read spec rows reports f row (row_begun row.frame row.mode row.env row.world) 0 app apps rest flown more sound shown (part_begun row) count
     (λ i x there. let e : 0 + i ≡ i = omega arith in rw (e, is) there) read)
 
--- The lines of rows.
+-- Lemmas on the lines of rows.
 
 row_read_back : (spec : Parts) (rows : List Row) (row : Row) (rest : List ℕ) (flown : Flown) (more : ℕ) → IsSpec spec → length rows < MAX_FRAMES → IsRowShown spec (length rows) row →
     Reads spec (in_rows (rows ++ row ∷ []) []) rest flown more → Reads spec (in_rows rows []) (row_text spec row ++ rest) flown (1520 + more)

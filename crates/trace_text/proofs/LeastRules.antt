@@ -1,4 +1,4 @@
--- Reading a line of any form reports the first rule that the line does not keep.
+-- Reading a line of any form reports the first rule that the line breaks.
 use Rattle.std.proofs.Common.{ℕ, ℤ, ◌≡◌, ◌+◌, ◌-◌, ◌^◌, ◌∙◌, Bool, true, false, cond, List, [], ◌∷◌, Option, Some, None, Result, Ok, Err, length, refl, sym, ap}
 use Rattle.std.specs.Prelude.{◌==◌, ◌&&◌, ◌||◌, ⊤, bytes_eq, codes, is_some, nat_le, nat_lt, option_and_then}
 use Rattle.scram_types.specs.declared.limits.TheConstants.{MAX_FRAMES, MAX_PHASE}
@@ -37,7 +37,7 @@ last_test : {A : Type 0} (b : Bool) (a : A) (rule : ℕ) → told_by (cond b (Ok
 last_test true a rule = refl
 last_test false a rule = refl
 
--- The lines of applications.
+-- Lemmas on the lines of applications.
 
 bare_case : (o : Option ℕ) (v : Option (List ℤ)) (n : ℕ) (told : Act) →
     told_by (or_rule UNKNOWN_NAME o (λ (app : ℕ). or_rule WRONG_NUMBER v (λ (area : List ℤ). cond (app == n) (Ok (done told area)) (Err NOT_NEXT))))
@@ -79,8 +79,8 @@ phase_case (Some a) (Some p) (Some i) None v n phase = refl
 phase_case (Some a) (Some p) (Some i) (Some j) None n phase = refl
 phase_case (Some a) (Some p) (Some i) (Some j) (Some v) n phase = phase_last (a == n) (nat_lt i j && nat_le j MAX_PHASE) (done (phase_act phase i j p) v)
 
--- The first of rules 3 to 9 that the words of a line do not keep, given the form of the line, or `None` if they keep
--- all of these rules.
+-- The first of rules 3 to 9 that the words of a line break, given the form of the line, or `None` if they break none
+-- of these rules.
 abbrev least_of : Parts → ReadingState → Words → Option Form → Option ℕ
 least_of spec s words form =
     least_from 3 (is_some form ∷ keeps form (knows_names spec words) ∷ keeps form (spells_numbers words) ∷ keeps form (is_due spec s words)
@@ -120,7 +120,7 @@ app_case spec s words false false = refl
 app_least : (spec : Parts) (s : ReadingState) (words : Words) → told_by (app_in spec (app_due s.standing) words) ≡ least_of spec s words (app_form words)
 app_least spec s words = app_case spec s words (is_placed_form words) (is_bare_form words)
 
--- The lines of rows.
+-- Lemmas on the lines of rows.
 
 row_case : (f : Option ℕ) (w : Option World) (b : ℕ → Bool) (u : Option ℕ) (mode : KMode) (values : List ℕ) →
     told_by (or_rule WRONG_NUMBER f (λ (frame : ℕ). or_rule WRONG_NUMBER w (λ (world : World).
@@ -135,8 +135,8 @@ row_case (Some f) (Some w) b u mode values = row_last (b f) u
     row_last true (Some up) = refl
     row_last false o = refl
 
--- Whether each of rules 6 to 9 is kept by the words of a row, given the index `up` of the word that lists the
--- processors.
+-- For each of rules 6 to 9, whether the words of a row satisfy the rule, given the index `up` of the word that lists
+-- the processors.
 abbrev row_rest : Parts → ReadingState → Words → ℕ → List Bool
 row_rest spec s words up =
     is_some_and (spelled_number MAX_FRAMES (word_at words 1)) (λ (frame : ℕ). frame == length s.rows) ∷ is_some (up_in spec.procs (word_at words up)) ∷ true ∷ true ∷ []
@@ -186,7 +186,7 @@ row_forms spec s words false false = refl
 row_least : (spec : Parts) (s : ReadingState) (words : Words) → told_by (row_of_words spec (length s.rows) words) ≡ least_of spec s words (row_form spec words)
 row_least spec s words = row_forms spec s words (is_stable_form spec words) (is_moving_form spec words)
 
--- The lines of reconfigurations.
+-- Lemmas on the lines of reconfigurations.
 
 measured_case : (b t : Option ℕ) (g : Option (Option ℕ)) (right : ℕ → ℕ → Option ℕ → Bool) (report : ℕ → Report) →
     told_by (or_rule WRONG_NUMBER b (λ (begin : ℕ). or_rule WRONG_NUMBER t (λ (took : ℕ). or_rule WRONG_NUMBER g (λ (bound : Option ℕ).
@@ -251,7 +251,7 @@ report_forms spec s words false to end = refl
 report_least : (spec : Parts) (s : ReadingState) (words : Words) → told_by (report_in spec (length s.rows) words) ≡ least_of spec s words (report_form words)
 report_least spec s words = report_forms spec s words (is_report_form words) (is_word words 3 (codes "-")) (is_word words 7 (codes "-"))
 
--- The end line.
+-- Lemmas on the end line.
 
 abbrev ended : Result ⊤ ℕ
 ended = Ok tt
@@ -274,7 +274,7 @@ end_forms spec s words false = refl
 end_least : (spec : Parts) (s : ReadingState) (words : Words) → told_by (end_in (length s.rows) (length s.reports) words) ≡ least_of spec s words (end_form words)
 end_least spec s words = end_forms spec s words (is_end_form words)
 
--- The words of a line.
+-- Lemmas on the words of a line.
 
 split_case : {A : Type 0} (spec : Parts) (s : ReadingState) (words : Words) (fit : Bool) (read : Words → Result A ℕ) (form : Words → Option Form) →
     told_by (read words) ≡ least_of spec s words (form words) →
@@ -312,7 +312,7 @@ end_formed spec line words first =
     let c : begins line (codes "reconfiguration") ≡ false = other_word (word_at (words_of line) 0) (codes "end") (codes "reconfiguration") first refl in
     rw (a, b, c) refl
 
--- The state after a line reports the same rule as the reading of the line.
+-- The result after a line reports the same rule as the reading of the line.
 
 row_told : (s : ReadingState) (read : Result Row ℕ) → told_by (with_row s read) ≡ told_by read
 row_told s (Ok row) = refl
@@ -355,8 +355,8 @@ end_line_least spec s line first =
     end_told s (end_read (length s.rows) (length s.reports) line)
     ∙ line_least spec s line (end_in (length s.rows) (length s.reports)) (end_least spec s (words_of line) ∙ ap (least_of spec s (words_of line)) (end_formed spec line (words_of line) first))
 
--- The first of rules 2 to 9 that a line does not keep, or `None` if it keeps all of these rules. `placed` is whether
--- it keeps rule 2.
+-- The first of rules 2 to 9 that a line breaks, or `None` if it breaks none of these rules. `placed` is whether the
+-- line satisfies rule 2.
 abbrev placed_least : Parts → ReadingState → List ℕ → Bool → Option ℕ
 placed_least spec s line placed = cond placed (least_of spec s (words_of line) (line_form spec line)) (Some OUT_OF_PLACE)
 
@@ -378,7 +378,7 @@ due_case : (spec : Parts) (s : ReadingState) (a : ℕ) (row : Row) (line : List 
 due_case spec s a row line true due first = app_line_least spec s a row line due first
 due_case spec s a row line false due first = refl
 
--- Whether each of rules 2 to 9 is kept by a line.
+-- For each of rules 2 to 9, whether a line satisfies the rule.
 abbrev kept_after : Parts → ReadingState → Expected → List ℕ → List Bool
 kept_after spec s standing line =
     is_in_place standing line ∷ has_form spec standing line ∷ keeps (asked_form spec standing line) (knows_names spec (words_of line))

@@ -1,4 +1,4 @@
--- Each printed line of an application is read.
+-- The printed line of each application is read back.
 use Rattle.std.proofs.Common.{ℕ, ℤ, suc, ◌≡◌, ◌<◌, ◌≤◌, ◌*◌, ◌^◌, ◌∙◌, true, false, List, [], ◌∷◌, ◌++◌, Some, Ok, length, map, decimal, arith, refl, sym, subst, length-append}
 use Rattle.std.specs.Prelude.{◌==◌, bytes_eq, codes, nat_le, slice_get}
 use Rattle.std.specs.Fmt.{signed_decimal}
@@ -54,7 +54,7 @@ from_words spec s t word words text most visible narrow few is read =
       short = subst (λ (t : List ℕ). length t ≤ most) is (omega (arith, size, sum, narrow));
     }
 
--- Printed numbers.
+-- Lemmas on printed numbers.
 
 pub number_back : (limit n : ℕ) → n < limit → n < 2 ^ 64 → spelled_number limit (decimal n) ≡ Some n
 number_back limit n small fits = number_some limit n (decimal n) small fits refl
@@ -71,7 +71,7 @@ shown_short z shown = length_signed_le 7 z (omega (arith, shown)) (omega (arith,
 pub frame_short : (n : ℕ) → n ≤ 20000 → length (decimal n) ≤ 5
 frame_short n small = length-decimal-le 5 n (omega arith) (omega (arith, small)) (omega (arith, small))
 
--- Printed areas.
+-- Lemmas on printed areas.
 
 with_eight : (P : List ℤ → Type 0) (area : List ℤ) → length area ≡ 8 → ((a b c d e f g h : ℤ) → P (a ∷ b ∷ c ∷ d ∷ e ∷ f ∷ g ∷ h ∷ [])) → P area
 with_eight P [] width then = absurd (omega (arith, width))
@@ -135,7 +135,7 @@ area_bare name tag area shown =
     ) refl)
     shown.words
 
--- The lines of applications.
+-- Lemmas on the lines of applications.
 
 abbrev pub in_apps : List Row → List Report → ℕ → Row → ReadingState
 in_apps rows reports a row = record { rows = rows; reports = reports; standing = Apps a row }

@@ -32,7 +32,7 @@ names_over : (names : List (List ℕ)) → are_names names ≡ true → list_all
 names_over [] e = refl
 names_over (name ∷ names) e = let p = and_parts _ _ e in and_from _ _ (name_over name p.0) (names_over names p.1)
 
--- Names that are joined by commas.
+-- Lemmas on names that are joined by commas.
 
 joined_over : (name : List ℕ) (names : List (List ℕ)) → are_names (name ∷ names) ≡ true → all_over 44 (join_with_byte 44 (name ∷ names)) ≡ true
 joined_over name [] e = all_over_less 44 48 name (omega arith) (name_over name (and_parts (is_name name) true e).0)
@@ -85,7 +85,7 @@ joined_short most (name ∷ names) e few =
         let g = length-append x (further_joined xs) in
         omega (arith, d, f, g)
 
--- The processors that are up.
+-- Lemmas on the processors that are up.
 
 procs_named : (procs : List Proc) (up : ℕ) → Each (λ (proc : Proc). is_name proc.name ≡ true) procs → are_names (names_up procs up) ≡ true
 procs_named [] up spelled = refl
@@ -103,8 +103,8 @@ few_up (proc ∷ procs) up = by (up % 2 == 1) (few_up procs (up / 2))
     by true h = omega (arith, h)
     by false h = omega (arith, h)
 
--- If the name of a processor differs from those of a list of processors, it is not the first name in the list of
--- those that are up.
+-- If the name of a processor differs from the names of all processors of a list, it is not the first of the names of
+-- the processors in the list that are up.
 not_next : (proc : Proc) (procs : List Proc) (up : ℕ) → Each (λ (other : Proc). bytes_eq proc.name other.name ≡ false) procs → is_next proc (names_up procs up) ≡ false
 not_next proc [] up differ = refl
 not_next proc (other ∷ procs) up differ = by (up % 2 == 1) (not_next proc procs (up / 2) (λ i x there. differ (suc i) x there))
@@ -122,8 +122,8 @@ half_below n up below =
     let e : 2 ^ suc n ≡ 2 * 2 ^ n = omega arith in
     omega (arith, e, below)
 
--- If the bits of the remaining processors are read from their names, the bits from this processor on are read too,
--- whether it is up or not.
+-- If the bits of the processors after this processor are read from their names, the bits from this processor on are
+-- read too, whether this processor is up or not.
 up_step : (t : Bool) (proc : Proc) (procs : List Proc) (bit sum up : ℕ) → (up % 2 == 1) ≡ t → Each (λ (other : Proc). bytes_eq proc.name other.name ≡ false) procs →
     ((k : ℕ) → up_from procs (names_up procs (up / 2)) (bit * 2) k ≡ Some (k + (bit * 2) * (up / 2))) →
     up_from (proc ∷ procs) (cond t (proc.name ∷ names_up procs (up / 2)) (names_up procs (up / 2))) bit sum ≡ Some (sum + bit * up)
@@ -150,7 +150,8 @@ apart : (proc : Proc) (procs : List Proc) → NamesDiffer (λ (p : Proc). p.name
 apart proc procs differ i other there =
     not_true _ (λ t. let same : 0 ≡ suc i = differ 0 (suc i) proc other refl there (same_text proc.name other.name t) in absurd (omega (arith, same)))
 
--- The bits of the processors that are up are read from their names, given the bit `bit` of the first processor.
+-- Reading the names of the processors that are up adds `bit * up` to `sum`, given the bit `bit` of the first
+-- processor.
 up_back : (procs : List Proc) (bit sum up : ℕ) → NamesDiffer (λ (proc : Proc). proc.name) procs → up < 2 ^ length procs →
     up_from procs (names_up procs up) bit sum ≡ Some (sum + bit * up)
 up_back [] bit sum up differ below =
@@ -191,7 +192,7 @@ up_text_back spec up sound below =
       found = rw items (up_back spec.procs 1 0 up sound.procs_differ below ∙ ap Some sums);
     }
 
--- The values of factors.
+-- Lemmas on the values of factors.
 
 abbrev filled_from : List Factor → ℕ → List ℕ → List ℕ → List ℕ
 filled_from [] i set values = set
@@ -235,8 +236,8 @@ values_count : (factors : List Factor) (i : ℕ) (values : List ℕ) → length 
 values_count [] i values = refl
 values_count (factor ∷ factors) i values = ap suc (values_count factors (i + 1) values)
 
--- Filling a list from factor `i` on keeps its length. The filled list has the values `values` if the list had them
--- before factor `i` and past the last factor.
+-- Filling a list from factor `i` on does not change its length. The filled list has the values `values` if the list
+-- had them before factor `i` and past the last factor.
 filled_width : (factors : List Factor) (i : ℕ) (set values : List ℕ) → length (filled_from factors i set values) ≡ length set
 filled_width [] i set values = refl
 filled_width (factor ∷ factors) i set values = filled_width factors (i + 1) (slice_set set i (slice_index values i)) values ∙ length-set set i (slice_index values i)

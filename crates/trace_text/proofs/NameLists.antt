@@ -1,4 +1,4 @@
--- Reading lists of names to their end.
+-- Lemmas on reading lists of names to their end.
 use Rattle.std.proofs.Common.{ℕ, ◌≡◌, ◌<◌, ◌≤◌, ◌+◌, ◌∙◌, false, List, [], ◌∷◌, Option, Some, None, drop, length, arith, refl, sym, Bor}
 use Rattle.std.specs.Prelude.{◌==◌, option_map}
 use Rattle.std.proofs.lemmas.Bool.{ne_eqb}
@@ -21,7 +21,7 @@ names_over procs i left names bit up read end is rest =
     let e : up_from [] (pieces_of 44 names.now) bit up ≡ read = rw (d, is) at rest in
     sym (none_left (pieces_of 44 names.now) bit up (some_piece 44 names.now)) ∙ e
 
--- If a list has more names than expected, the number of its names is not `count`.
+-- If a list has further names after the first `count` names, the number of its names is not `count`.
 pub too_many : (list : List ℕ) (left : Option (Bor (List ℕ))) (names : Bor (List ℕ)) (wanted count : ℕ) → left ≡ Some names → wanted ≡ 0 →
     length (pieces_left 44 (option_map (λ (b : Bor (List ℕ)). b.now) left)) + count ≡ length (pieces_of 44 list) + wanted →
     false ≡ (length (pieces_of 44 list) == count)

@@ -1,4 +1,4 @@
--- Each printed name is found.
+-- Each printed name is found by the lookup of names.
 use Rattle.std.proofs.Common.{ℕ, suc, zero, ◌≡◌, ◌<◌, ◌+◌, ◌∙◌, Bool, true, false, cond, List, [], ◌∷◌, Option, Some, None, IsSome, length, arith, refl, sym, ap, subst}
 use Rattle.std.specs.Prelude.{◌==◌, bytes_eq, codes, slice_get}
 use Rattle.std.specs.Option.{option_map_or}
@@ -65,7 +65,7 @@ conf_or_dash_back spec None sound known = refl
 conf_or_dash_back spec (Some c) sound known =
     rw (name_not_dash (conf_name spec c.0) (conf_back spec c sound known).spelled, conf_found_back spec c sound known) refl
 
--- The names of modes.
+-- Lemmas on the names of modes.
 
 mode_named_is : (names : List (Option (List ℕ))) (m : ℕ) (o : Option (List ℕ)) → name_in names m ≡ o → IsSome o → name_in names m ≡ Some (option_map_or (λ (name : List ℕ). name) o [])
 mode_named_is names m None e h = absurd (let x = h in cc)

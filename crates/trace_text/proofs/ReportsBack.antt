@@ -1,4 +1,4 @@
--- The printed lines of reconfigurations and the end line are read.
+-- The printed lines of reconfigurations and the end line are read back.
 use Rattle.std.proofs.Common.{ℕ, suc, ◌≡◌, ◌<◌, ◌≤◌, ◌-◌, ◌^◌, ◌∙◌, Bool, true, false, cond, List, [], ◌∷◌, ◌++◌, Option, Some, None, Ok, length, decimal, arith, refl}
 use Rattle.std.specs.Prelude.{◌==◌, ◌&&◌, IfSome, codes, nat_le, nat_lt}
 use Rattle.std.specs.List.{list_all}
@@ -23,7 +23,7 @@ use Rattle.trace_text.proofs.Shapes.{end_shape, finished_shape, unfinished_shape
 use Rattle.trace_text.proofs.WordBytes.{decimal_over, decimal_visible, is_visible, line_of, name_short, name_visible, words_back, words_in_back}
 use Rattle.trace_text.proofs.LinesBack.{LineBack, frame_short, from_words, number_back}
 
--- The lines that are expected after the rows: a row may still come if the value is `true`.
+-- The lines that are expected after the lines of the rows. The argument is whether a further row is allowed.
 abbrev pub closing_by : Bool → Expected
 closing_by true = Rows
 closing_by false = Reports

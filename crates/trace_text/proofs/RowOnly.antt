@@ -188,7 +188,8 @@ row_ended spec next ws at mode values row h =
       row_is = let e : row_begun f.0 mode (env_read u.0 values) w.0 ≡ row = cc in e;
     }
 
--- A line that is read as the first line of a row is the text of the row, and the row has no acts yet.
+-- The line is the text of the row without the line feed. The row has frame `next`, all its acts are `Off`, and all
+-- its areas are zeros.
 pub record RowRead (spec : Parts) (next : ℕ) (line : List ℕ) (row : Row) : Type 0 where
   pub text : row_line spec row ≡ line ++ codes "\n"
   pub frame : row.frame ≡ next

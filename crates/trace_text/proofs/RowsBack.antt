@@ -1,4 +1,4 @@
--- The printed first line of each row is read.
+-- The printed first line of each row is read back.
 use Rattle.std.proofs.Common.{ℕ, ◌≡◌, ◌<◌, ◌≤◌, true, List, [], ◌∷◌, Option, Some, None, Ok, length, decimal, arith, refl}
 use Rattle.std.specs.Prelude.{codes, nat_le}
 use Rattle.std.specs.Fmt.{signed_decimal}

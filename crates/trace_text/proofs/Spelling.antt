@@ -1,4 +1,4 @@
--- The number that a text spells, or a proof that it spells no number.
+-- Lemmas on the number that a text spells, and on texts that spell no number.
 use Rattle.std.proofs.Common.{ℕ, ℤ, pos, negsuc, ◌≡◌, ◌<◌, ◌≤◌, suc, ◌^◌, ◌∙◌, Bool, true, false, cond, List, [], ◌∷◌, Some, None, Ok, Err, decimal, arith, refl, sym, ap, subst, w64}
 use Rattle.std.specs.Fmt.{signed_decimal}
 use Rattle.std.specs.Prelude.{nat_lt, ◌&&◌, IsUtf8, bytes_eq}
@@ -59,7 +59,7 @@ number_other limit text digits m low same h never = sym (number_none limit text 
     let e : m ≡ n = cc in
     never (omega arith) (ap decimal e ∙ sym is)))
 
--- The values of the printed texts of signed numbers.
+-- Lemmas on the values of the printed texts of signed numbers.
 unsigned_value : (ds : List ℕ) → AllDigits 10 ds → signed_digits_value 10 ds ≡ pos (digits_value 10 ds)
 unsigned_value [] d = refl
 unsigned_value (c ∷ cs) d = let k = digit_value_digit c (digit_from_value c d.0) in rw (ne_eqb c 45 (λ e. omega arith), ne_eqb c 43 (λ e. omega arith)) refl

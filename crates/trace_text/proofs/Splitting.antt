@@ -1,4 +1,4 @@
--- Splitting bytes at their first separator.
+-- Lemmas on splitting bytes at their first separator.
 use Rattle.std.proofs.Common.{ℕ, suc, ◌≡◌, ◌<◌, ◌≤◌, ◌+◌, ◌∙◌, Bool, true, false, cond, List, [], ◌∷◌, ◌++◌, Option, Some, None, take, drop, length, arith, refl, sym, ap, not, Bor, append-nil}
 use Rattle.std.specs.Prelude.{◌==◌, ◌&&◌, nat_lt, nat_le, option_map}
 use Rattle.std.specs.List.{list_all, position, position_or_len, onto_first}
@@ -43,7 +43,7 @@ pub no_separator : (separator : ℕ) (bytes : List ℕ) → position (λ (b : �
 no_separator separator bytes h =
     whole separator bytes (none_says (nat_lt (position_or_len (λ (b : ℕ). b == separator) bytes) (length bytes)) (position_or_len (λ (b : ℕ). b == separator) bytes) h)
 
--- Splitting any bytes gives at least one piece.
+-- Splitting any bytes results in at least one piece.
 pub some_piece : (separator : ℕ) (bytes : List ℕ) → 0 < length (pieces_of separator bytes)
 some_piece separator bytes = rw (length-slice_split (λ (b : ℕ). b == separator) bytes) (omega arith)
 

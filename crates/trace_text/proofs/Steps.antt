@@ -1,4 +1,4 @@
--- The text that has been written after a further application, row or report.
+-- Lemmas on the text that has been written after a further application, row or report.
 use Rattle.std.proofs.Common.{◌≡◌, ℕ, ◌+◌, ◌<◌, List, ◌∷◌, ◌++◌, length, drop, slice_index_or, append_assoc, sym, ◌∙◌, ap}
 use Rattle.std.proofs.lemmas.List.{drop_more}
 use Rattle.scram_types.specs.Specification.{Parts}

@@ -252,7 +252,7 @@ pub answered_text : (spec : Parts) (bytes : List ℕ) (answer : Result Flown Tra
 answered_text spec bytes answer few small h =
     answered (λ (f : Flown). bytes ≡ text_of spec f.rows f.reports) (trace_of spec bytes) answer (λ f read. trace_only spec bytes f few small read) h
 
--- Reading the printed text of a trace that was read gives the same trace.
+-- Reading the printed text of a trace that was read returns the same trace.
 pub answered_again : (spec : Parts) (bytes : List ℕ) (answer : Result Flown TraceError) → length spec.factors ≤ 6 → length spec.apps ≤ 8 → AnswersTrace (trace_of spec bytes) answer →
     IfOk answer (λ (f : Flown). trace_of spec (text_of spec f.rows f.reports) ≡ Ok f)
 answered_again spec bytes answer few small h =

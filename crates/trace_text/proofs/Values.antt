@@ -1,4 +1,4 @@
--- Reading a further signed number of a line.
+-- Lemmas on reading a further signed number of a line.
 use Rattle.std.proofs.Common.{ℕ, ℤ, suc, ◌≡◌, ◌<◌, ◌+◌, ◌-◌, ◌∙◌, List, [], ◌∷◌, ◌++◌, Option, Some, None, arith, refl, sym, ap, append_assoc}
 use Rattle.std.specs.Prelude.{option_map, option_and_then}
 use Rattle.trace_text.specs.Pieces.{word_at}

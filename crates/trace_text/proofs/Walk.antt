@@ -1,4 +1,4 @@
--- Reading a further line of a trace.
+-- Lemmas on reading a further line of a trace.
 use Rattle.std.proofs.Common.{ℕ, ◌≡◌, ◌<◌, ◌≤◌, ◌+◌, ◌∙◌, List, [], ◌∷◌, Result, Ok, Err, length, arith, refl, sym, ap}
 use Rattle.std.proofs.lemmas.Bool.{le-ltb}
 use Rattle.scram_types.specs.declared.limits.TheConstants.{MAX_TRACE_BYTES}

@@ -44,7 +44,7 @@ none_at separator least (b ∷ text) h e =
     let k = leb-true least b q.0 in
     All-cons (λ (c : ℕ). (c == separator) ≡ false) b text (ne_eqb b separator (λ same. omega (arith, same, k, h))) (none_at separator least text h p.1)
 
--- If no piece contains the separator, splitting the joined pieces gives the pieces.
+-- If no piece contains the separator, splitting the joined pieces returns the pieces.
 pub pieces_back : (separator least : ℕ) (piece : List ℕ) (pieces : List (List ℕ)) → separator < least → list_all (all_over least) (piece ∷ pieces) ≡ true →
     pieces_of separator (join_with_byte separator (piece ∷ pieces)) ≡ piece ∷ pieces
 pieces_back separator least piece [] h e = slice_split_none (λ (b : ℕ). b == separator) piece (none_at separator least piece h (and_parts _ _ e).0)
@@ -53,7 +53,7 @@ pieces_back separator least piece (next ∷ pieces) h e =
     slice_split_at (λ (b : ℕ). b == separator) piece separator (join_with_byte separator (next ∷ pieces)) (none_at separator least piece h p.0) (eq-eqb separator separator refl)
     ∙ ap (λ (rest : List (List ℕ)). piece ∷ rest) (pieces_back separator least next pieces h p.1)
 
--- The word can occur in a line: it is not empty, and it has printable bytes other than the space.
+-- The word can occur in a line: it is not empty, and all its bytes are printable and are not spaces.
 abbrev pub is_visible : List ℕ → Bool
 is_visible word = is_filled word && all_over 33 word
 
@@ -101,13 +101,13 @@ line_plain word words e short =
     let b : length (line_of (word ∷ words)) ≤ 512 = omega (arith, a, short) in
     and_from _ _ (le-leb _ 512 b) (joined_printable word words e)
 
--- If a line is printable, splitting a text that begins with the line and a line feed gives the line as the first
+-- If a line is printable, splitting a text that begins with the line and a line feed returns the line as the first
 -- piece.
 pub line_split : (line rest : List ℕ) → is_plain line ≡ true → pieces_of 10 (line ++ 10 ∷ rest) ≡ line ∷ pieces_of 10 rest
 line_split line rest e =
     slice_split_at (λ (b : ℕ). b == 10) line 10 rest (none_at 10 32 line (omega arith) (and_parts (nat_le (length line) MAX_LINE_BYTES) (list_all is_printable line) e).1) refl
 
--- The bytes of numbers.
+-- Lemmas on the bytes of numbers.
 
 digits_over : (ds : List ℕ) → AllDigits 10 ds → all_over 48 ds ≡ true
 digits_over [] d = refl
@@ -135,7 +135,7 @@ decimal_visible n small = and_from _ _ (decimal_filled n small) (all_over_less 3
 pub signed_visible : (z : ℤ) → mag z < 2 ^ 63 → is_visible (signed_decimal z) ≡ true
 signed_visible z small = and_from _ _ (signed_filled z small) (all_over_less 33 45 (signed_decimal z) (omega arith) (signed_over z small))
 
--- The bytes of names.
+-- Lemmas on the bytes of names.
 
 letter_over : (b : ℕ) → is_ascii_lowercase b ≡ true → over 48 b ≡ true
 letter_over b e =

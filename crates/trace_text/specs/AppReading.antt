@@ -16,7 +16,7 @@ use Rattle.trace_text.specs.Rules.{or_rule}
 use Rattle.trace_text.specs.Spelling.{signed_from, spelled_number}
 use Rattle.trace_text.specs.declared.rule.TheConstants.{NOT_NEXT, NO_FORM, OUT_OF_ORDER, UNKNOWN_NAME, WRONG_NUMBER}
 
--- An application's act, with its area.
+-- The act and the area of an application.
 abbrev pub done : Act → List ℤ → Done
 done act area = record { act = act; area = area }
 
@@ -48,8 +48,8 @@ bare_act tag =
     else (if bytes_eq tag (codes "off") then Some act.Off
     else (if bytes_eq tag (codes "lost") then Some act.Lost else None))
 
--- The result of reading the words of an application that ran, given the number of the application that is due. Rules
--- 4 to 6 are tested: the names, the area, and whether the application is due.
+-- The result of reading the words of an application that ran, given the number of the application whose line is
+-- expected. Rules 4 to 6 are tested: the names, the area, and whether the application is the expected one.
 abbrev pub ran_line : Parts → ℕ → List (List ℕ) → Result Done ℕ
 ran_line spec next words =
     or_rule UNKNOWN_NAME (app_number spec (word_at words 1)) (λ (app : ℕ).
@@ -58,8 +58,9 @@ ran_line spec next words =
     or_rule WRONG_NUMBER (signed_from 8 6 words) (λ (area : List ℤ).
     if app == next then Ok (done (act.Ran mode proc) area) else Err NOT_NEXT))))
 
--- The result of reading the words of an application in a phase, given the number of the application that is due, the
--- phase, and the two sides of the slash between the frame and the length of the phase.
+-- The result of reading the words of an application in a phase, given the number of the application whose line is
+-- expected, the phase, and the two sides of a slash. The slash separates the frame of the phase from the length of
+-- the phase.
 abbrev pub phase_line : Parts → ℕ → List (List ℕ) → Phase → List ℕ × List ℕ → Result Done ℕ
 phase_line spec next words phase fraction =
     or_rule UNKNOWN_NAME (app_number spec (word_at words 1)) (λ (app : ℕ).
@@ -72,15 +73,15 @@ phase_line spec next words phase fraction =
     else Err NOT_NEXT)))))
 
 -- The result of reading the words of an application whose act has no processor, given the number of the application
--- that is due and the act.
+-- whose line is expected and the act.
 abbrev pub bare_line : Parts → ℕ → List (List ℕ) → Act → Result Done ℕ
 bare_line spec next words told =
     or_rule UNKNOWN_NAME (app_number spec (word_at words 1)) (λ (app : ℕ).
     or_rule WRONG_NUMBER (signed_from 8 4 words) (λ (area : List ℤ).
     if app == next then Ok (done told area) else Err NOT_NEXT))
 
--- The result of reading the words of an act on a processor, given the number of the application that is due. The
--- third word is `ran` or names a phase.
+-- The result of reading the words of an act on a processor, given the number of the application whose line is
+-- expected. The third word has to be `ran` or the name of a phase.
 abbrev pub placed_line : Parts → ℕ → List (List ℕ) → Result Done ℕ
 placed_line spec next words =
     if is_word words 2 (codes "ran") then ran_line spec next words
@@ -88,7 +89,8 @@ placed_line spec next words =
     or_rule NO_FORM (phase_named (word_at words 2)) (λ (phase : Phase).
     or_rule NO_FORM (sides_of (word_at words 3)) (phase_line spec next words phase))
 
--- The result of reading the words of an application's line, given the number of the application that is due.
+-- The result of reading the words of an application's line, given the number of the application whose line is
+-- expected.
 abbrev pub app_in : Parts → ℕ → List (List ℕ) → Result Done ℕ
 app_in spec next words =
     if is_placed_form words then placed_line spec next words

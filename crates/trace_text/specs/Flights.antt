@@ -19,7 +19,7 @@ use Rattle.scram_types.specs.Specification.{Each, IsIn, IsInIfNamed, IsSpec, Par
 use Rattle.trace_text.specs.Text.{text_of}
 use Rattle.trace_text.specs.TraceReading.{trace_of}
 
--- The configurations of a reconfiguration exist, and it began in a frame of a flight.
+-- The configurations of a reconfiguration exist, and `since` is less than `MAX_FRAMES`.
 pub record IsMove (spec : Parts) (from : ConfId) (halting : Option ConfId) (to : ConfId) (since : ℕ) : Type 0 where
   pub source : IsIn spec.confs from
   pub halts : IsInIfNamed spec.confs halting
@@ -31,7 +31,8 @@ abbrev pub IsModeShown : Parts → KMode → Type 0
 IsModeShown spec (Stable c) = IsIn spec.confs c
 IsModeShown spec (Moving from halting to since) = IsMove spec from halting to since
 
--- The processors that are up exist, each factor has one of its values, and the entries past the last factor are 0.
+-- The processors that are up exist, and each factor has one of its values. There are six entries for values, and
+-- those past the last factor are 0.
 pub record IsEnvShown (spec : Parts) (env : Env) : Type 0 where
   pub up : env.up < 2 ^ length spec.procs
   pub width : length env.factors ≡ 6
@@ -49,7 +50,7 @@ pub record IsWorldShown (world : World) : Type 0 where
   pub heading : IsShown world.heading
   pub bank : IsShown world.bank
 
--- An application ran in a mode that its specification lists, on a processor that exists.
+-- An application ran in a mode that the specification lists for it, on a processor that exists.
 pub record IsRun (spec : Parts) (app : AppSpec) (mode : Mode) (proc : ProcId) : Type 0 where
   pub listed : IsSome (mode_in app.modes mode.0)
   pub on : proc.0 < length spec.procs
@@ -89,13 +90,14 @@ pub record IsRowShown (spec : Parts) (f : ℕ) (row : Row) : Type 0 where
   pub idle : (a : ℕ) → length spec.apps ≤ a → slice_index_or row.acts a Off ≡ Off
   pub empty : (a : ℕ) → length spec.apps ≤ a → a < 8 → slice_index_or row.areas a [] ≡ replicate 8 (pos 0)
 
--- A reconfiguration that ended did so in a frame of a flight. A reconfiguration that was cut off has the number of
+-- A reconfiguration that ended has an end below `MAX_FRAMES`. A reconfiguration that was cut off has the number of
 -- frames as its end.
 abbrev pub IsEndShown : ℕ → Option ConfId → ℕ → Type 0
 IsEndShown frames None end = end ≡ frames
 IsEndShown frames (Some to) end = end < MAX_FRAMES
 
--- A reconfiguration is valid in a flight with `frames` frames.
+-- A reconfiguration is valid in a flight with `frames` frames: its configurations exist, it begins no later than its
+-- end, and both its begin and its end are in range.
 pub record IsReportShown (spec : Parts) (frames : ℕ) (report : Report) : Type 0 where
   pub source : IsIn spec.confs report.from
   pub target : IsInIfNamed spec.confs report.to
@@ -103,15 +105,15 @@ pub record IsReportShown (spec : Parts) (frames : ℕ) (report : Report) : Type 
   pub ordered : report.begin ≤ report.end
   pub ended : IsEndShown frames report.to report.end
 
--- The rows of a flight are valid rows of its frames, in order. It has at most as many reconfigurations as rows, and
--- each of them is valid.
+-- The rows of a flight are valid rows of the frames 0, 1 and so on, and there are at most `MAX_FRAMES` rows. Each
+-- reconfiguration is valid, and there are no more reconfigurations than rows.
 pub record IsFlight (spec : Parts) (rows : List Row) (reports : List Report) : Type 0 where
   pub frames : length rows ≤ MAX_FRAMES
   pub rows_shown : (f : ℕ) (row : Row) → slice_get rows f ≡ Some row → IsRowShown spec f row
   pub few : length reports ≤ length rows
   pub reports_shown : Each (IsReportShown spec (length rows)) reports
 
--- Reading the printed text of a flight gives the flight's rows and reconfigurations.
+-- Reading the printed text of a flight returns the flight's rows and reconfigurations.
 abbrev pub PrintedIsRead : Type 0
 PrintedIsRead = (spec : Parts) (rows : List Row) (reports : List Report) → IsSpec spec → IsFlight spec rows reports
     → trace_of spec (text_of spec rows reports) ≡ Ok (record { rows = rows; reports = reports })

@@ -124,22 +124,22 @@ spells_numbers words Finished =
 spells_numbers words Unfinished = is_frame_number (word_at words 5) && is_count (word_at words 9) && is_some (bound_or_none (word_at words 11))
 spells_numbers words Ending = is_count (word_at words 2) && is_count (word_at words 4)
 
--- The number of the application whose line is due, or 0 if no application's line is due.
+-- The number of the application whose line is expected, or 0 if no application's line is expected.
 abbrev pub app_due : Expected → ℕ
 app_due Rows = 0
 app_due (Apps a row) = a
 app_due Reports = 0
 app_due Over = 0
 
--- The line's frame is the frame that follows the rows so far.
+-- The line has the number of the frame that follows the rows that were read.
 abbrev pub is_frame_due : ReadingState → Words → Bool
 is_frame_due s words = is_some_and (spelled_number MAX_FRAMES (word_at words 1)) (λ (frame : ℕ). frame == length s.rows)
 
--- The application that the line names is the one whose line is due.
+-- The line names the application whose line is expected.
 abbrev pub is_app_due : Parts → ReadingState → Words → Bool
 is_app_due spec s words = is_some_and (app_number spec (word_at words 1)) (λ (app : ℕ). app == app_due s.standing)
 
--- Rule 6: the frame of a row, or the application of an application's line, is the next one.
+-- Rule 6: a row has the expected frame, and the line of an application names the expected application.
 abbrev pub is_due : Parts → ReadingState → Words → Form → Bool
 is_due spec s words StableRow = is_frame_due s words
 is_due spec s words MovingRow = is_frame_due s words
@@ -150,7 +150,7 @@ is_due spec s words Finished = true
 is_due spec s words Unfinished = true
 is_due spec s words Ending = true
 
--- The frame before a slash is below the length of a phase after it, and the length is at most 16.
+-- The number before a slash is below the number after it. The number after it is at most 16.
 abbrev pub is_in_phase : List ℕ × List ℕ → Bool
 is_in_phase sides =
     is_some_and (spelled_number 256 sides.0) (λ (k : ℕ). is_some_and (spelled_number 256 sides.1) (λ (n : ℕ). nat_lt k n && nat_le n MAX_PHASE))
@@ -166,8 +166,8 @@ is_in_order spec words Finished = true
 is_in_order spec words Unfinished = true
 is_in_order spec words Ending = true
 
--- The words of a reconfiguration show a begin no later than `end`, the number of frames between the two, and the
--- bound `given`.
+-- The words of a reconfiguration spell a first frame, a length and a bound. The first frame is no later than `end`,
+-- the length is the difference between the two, and the bound is `given`.
 abbrev pub is_measured : Words → ℕ → Option ℕ → Bool
 is_measured words end given =
     is_some_and (spelled_number MAX_FRAMES (word_at words 5)) (λ (begin : ℕ).
@@ -175,7 +175,8 @@ is_measured words end given =
     is_some_and (bound_or_none (word_at words 11)) (λ (bound : Option ℕ).
     nat_le begin end && (took == end - begin) && same_bound bound given)))
 
--- Rule 8: lengths, bounds and counts are right.
+-- Rule 8: the length and the bound of a reconfiguration, and the counts of the end line, are correct. A
+-- reconfiguration begins no later than its end.
 abbrev pub counts_rightly : Parts → ReadingState → Words → Form → Bool
 counts_rightly spec s words StableRow = true
 counts_rightly spec s words MovingRow = true
@@ -199,7 +200,7 @@ is_open (Apps a row) = true
 is_open Reports = true
 is_open Over = false
 
--- The form, if there is one, passes the test `ask`. This holds if there is no form.
+-- If there is a form, it passes the test `ask`.
 abbrev pub keeps : {A : Type 0} → Option A → (A → Bool) → Bool
 keeps None ask = true
 keeps (Some form) ask = ask form

@@ -21,6 +21,6 @@ abbrev pub mode_from : ℕ → List ℕ → List ModeSpec → Option Mode
 mode_from kind text [] = None
 mode_from kind text (listed ∷ modes) = if bytes_eq (mode_text kind listed.mode.0) text then Some listed.mode else mode_from kind text modes
 
--- The mode of this name that application `a` lists, or `None` if it lists no such mode.
+-- The mode of this name that application `a` lists, or `None` if `a` does not exist or lists no such mode.
 abbrev pub listed_mode : Parts → ℕ → List ℕ → Option Mode
 listed_mode spec a text = option_and_then (λ (app : AppSpec). mode_from app.kind.0 text app.modes) (slice_get spec.apps a)

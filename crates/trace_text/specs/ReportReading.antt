@@ -27,8 +27,9 @@ same_bound None (Some b) = false
 same_bound (Some a) None = false
 same_bound (Some a) (Some b) = a == b
 
--- The reconfiguration with this source, target and end whose other numbers the words spell, or the first of rules 5
--- and 8 that they break. `given` is the bound that the words have to show. The spelling of the end is tested before.
+-- The result of reading the other words of a reconfiguration with this source, target and end: the reconfiguration,
+-- or the first of rules 5 and 8 that the words break. `given` is the bound that the words have to spell. The spelling
+-- of the end is tested before.
 abbrev pub report_end : List (List ℕ) → ConfId → Option ConfId → ℕ → Option ℕ → Result Report ℕ
 report_end words from to end given =
     or_rule WRONG_NUMBER (spelled_number MAX_FRAMES (word_at words 5)) (λ (begin : ℕ).
@@ -38,8 +39,8 @@ report_end words from to end given =
     Ok (record { from = from; to = to; begin = begin; end = end })
     else Err WRONG_COUNT)))
 
--- The result of reading the words of a reconfiguration that ended. They show its target, its end, and the bound from
--- its source to its target.
+-- The result of reading the words of a reconfiguration that ended. The words have the target, the end, and the bound
+-- from the source to the target.
 abbrev pub finished_report : Parts → List (List ℕ) → Result Report ℕ
 finished_report spec words =
     or_rule UNKNOWN_NAME (conf_named spec (word_at words 1)) (λ (from : ConfId).
@@ -47,8 +48,8 @@ finished_report spec words =
     or_rule WRONG_NUMBER (spelled_number MAX_FRAMES (word_at words 7)) (λ (end : ℕ).
     report_end words from (Some to) end (bound_in spec.bounds from.0 to.0))))
 
--- The result of reading the words of a reconfiguration that was cut off, given the number of frames of the flight,
--- which is its end.
+-- The result of reading the words of a reconfiguration that was cut off, given the number of frames of the flight.
+-- This number is the end of the reconfiguration.
 abbrev pub unfinished_report : Parts → ℕ → List (List ℕ) → Result Report ℕ
 unfinished_report spec frames words =
     or_rule UNKNOWN_NAME (conf_named spec (word_at words 1)) (λ (from : ConfId).
@@ -71,7 +72,7 @@ report_read spec frames line = or_rule NO_FORM (words_in line) (report_in spec f
 abbrev pub is_end_form : List (List ℕ) → Bool
 is_end_form words = (length words == 5) && is_word words 1 (codes "frames") && is_word words 3 (codes "reconfigurations")
 
--- The result of reading the words of the end line, which has to show these numbers of frames and reports.
+-- The result of reading the words of the end line, which have to spell these numbers of frames and reconfigurations.
 abbrev pub end_in : ℕ → ℕ → List (List ℕ) → Result ⊤ ℕ
 end_in frames reports words =
     if is_end_form words then

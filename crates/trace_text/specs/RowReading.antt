@@ -40,8 +40,8 @@ is_stable_form spec words = (length words == 13) && is_word words 2 (codes "stab
 abbrev pub is_moving_form : Parts → List (List ℕ) → Bool
 is_moving_form spec words = (length words == 16) && is_word words 2 (codes "moving") && is_env_form spec words 7
 
--- The list `values` with the numbers of the values that `names` names, from factor `i` on, or `None` if a name is
--- unknown or missing.
+-- The list `values` in which the entries from factor `i` on are replaced by the numbers of the values that `names`
+-- names, or `None` if a name is unknown or missing.
 abbrev pub values_from : List Factor → List (List ℕ) → ℕ → List ℕ → Option (List ℕ)
 values_from [] names i values = Some values
 values_from (factor ∷ factors) [] i values = None
@@ -77,15 +77,16 @@ names_left proc (name ∷ names) = if bytes_eq proc.name name then names else na
 abbrev pub with_bit : Bool → ℕ → ℕ → ℕ
 with_bit named bit up = if named then up + bit else up
 
--- The bits of the named processors, or `None` if the names are not in the order of the processors. `bit` is the bit
--- of the first processor of the list, and `up` has the bits of the preceding ones.
+-- The bits of the named processors, or `None` if a name is unknown or the names are not in the order of the
+-- processors. `bit` is the bit of the first processor of the list, and `up` has the bits of the preceding ones.
 abbrev pub up_from : List Proc → List (List ℕ) → ℕ → ℕ → Option ℕ
 up_from [] [] bit up = Some up
 up_from [] (name ∷ names) bit up = None
 up_from (proc ∷ procs) names bit up =
     up_from procs (names_left proc names) (bit * 2) (with_bit (is_next proc names) bit up)
 
--- The bits of the processors that a list names, or `None` if the names are not in the order of the processors.
+-- The bits of the processors that a list names, or `None` if a name is unknown or the names are not in the order of
+-- the processors.
 abbrev pub up_in : List Proc → List ℕ → Option ℕ
 up_in procs list = up_from procs (items_of list) 1 0
 
@@ -105,8 +106,9 @@ abbrev pub row_begun : ℕ → KMode → Env → World → Row
 row_begun frame mode env world =
     record { frame = frame; env = env; mode = mode; acts = replicate 8 Off; areas = replicate 8 (replicate 8 (pos 0)); world = world }
 
--- The row with this mode and these values whose other parts the words spell, or the first of rules 5 to 7 that they
--- break. `at` is the index of the environment's words. The spelling of `since` is tested before.
+-- The result of reading the other words of row `next`, which has this mode and these values: the row, or the first of
+-- rules 5 to 7 that the words break. `at` is the index of the environment's first word. The spelling of `since` is
+-- tested before.
 abbrev pub row_end : Parts → ℕ → List (List ℕ) → ℕ → KMode → List ℕ → Result Row ℕ
 row_end spec next words at mode values =
     or_rule WRONG_NUMBER (spelled_number MAX_FRAMES (word_at words 1)) (λ (frame : ℕ).

@@ -17,7 +17,7 @@ use Rattle.trace_text.specs.Names.{conf_or_dash, joined, values_named, names_up}
 use Rattle.scram_types.specs.Lookups.{proc_name, conf_name}
 
 -- The text of a row's mode: `stable` and the configuration, or `moving`, the source, the halting configuration, the
--- target and the first frame.
+-- target and the frame `since`.
 abbrev pub kernel_mode_text : Parts → KMode → List ℕ
 kernel_mode_text spec (Stable c) = codes "stable " ++ conf_name spec c.0
 kernel_mode_text spec (Moving from halting to since) =

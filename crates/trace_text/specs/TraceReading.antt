@@ -22,7 +22,8 @@ use Rattle.trace_text.specs.ReportReading.{report_read, end_read}
 use Rattle.trace_text.specs.RowReading.{row_read}
 use Rattle.trace_text.specs.declared.rule.TheConstants.{BROKEN_LINE, OUT_OF_PLACE, WRONG_END}
 
--- The state of reading a trace: the rows and reports of the lines so far, and the lines that may come next.
+-- The state of reading a trace: the rows and reports of the lines that have been read, and the lines that may come
+-- next.
 pub record ReadingState : Type 0 where
   pub rows : List Row
   pub reports : List Report
@@ -63,13 +64,13 @@ after_app spec s a row =
     else record { rows = s.rows ++ row ∷ []; reports = s.reports; standing = Rows }
 
 -- The state after the first line of a row, given the result of reading the line. The lines of the row's applications
--- are due.
+-- are expected next.
 abbrev pub with_row : ReadingState → Result Row ℕ → Result ReadingState ℕ
 with_row s (Ok row) = Ok (record { rows = s.rows; reports = s.reports; standing = Apps 0 row })
 with_row s (Err rule) = Err rule
 
--- The state after the line of application `a`, given the result of reading the line. Its act and area are added to
--- the row.
+-- The state after the line of application `a`, given the result of reading the line. The act and the area in the line
+-- are added to the row.
 abbrev pub with_done : Parts → ReadingState → ℕ → Row → Result Done ℕ → Result ReadingState ℕ
 with_done spec s a row (Ok done) = Ok (after_app spec s a (with_app row a done.act done.area))
 with_done spec s a row (Err rule) = Err rule

@@ -12,14 +12,14 @@ use crate::words::Words;
 use scram_types::limits::MAX_PHASE;
 use scram_types::{Act, Area, ProcId, Spec};
 
-/// An application's act in a frame, with its area.
+/// The act and the area of an application in a frame.
 #[derive(Clone, Copy, Debug, PartialEq, Eq)]
 pub struct Done {
     pub act: Act,
     pub area: Area,
 }
 
-/// A phase of an application's act whose frames are numbered.
+/// A phase whose frames are numbered in the acts of an application.
 #[derive(Clone, Copy, Debug, PartialEq, Eq)]
 pub enum Phase {
     Halting,
@@ -27,7 +27,7 @@ pub enum Phase {
     Initialising,
 }
 
-// The numbers of a phase's frames, and its length, are spelled below this limit.
+// The exclusive upper limit of the numbers that a line spells for a frame of a phase and for the length of the phase.
 const PHASE_LIMIT: u64 = 256;
 
 /// Reads a line as the line of application `next`. Returns its act and area, or the first rule that the line breaks.

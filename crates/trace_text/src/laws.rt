@@ -3,14 +3,14 @@
 ghost use Rattle.trace_text.specs.Flights.{PrintedIsRead};
 ghost use Rattle.trace_text.specs.LineRules.{LeastRuleIsReported};
 
-/// A line that breaks no rule is read. For any other line the first rule that it breaks is reported. Each rule is
-/// stated separately for each form of line, independently of the order of tests.
+/// States that a line that breaks no rule is read, and that for any other line the first rule that it breaks is
+/// reported. Each rule is stated separately for each form of line, independently of the order of tests.
 pub fn least_rule_is_reported()
     ensures { LeastRuleIsReported }
 {}
 
-/// Reading the printed text of a flight gives the flight's rows and reconfigurations. The text is never too long,
-/// since a row and its applications have at most 1,520 bytes, and a reconfiguration at most 100.
+/// States that reading the printed text of a flight returns the flight's rows and reconfigurations. The text is never
+/// too long, since a row and its applications have at most 1,520 bytes, and a reconfiguration at most 100.
 pub fn printed_is_read()
     ensures { PrintedIsRead }
 {}

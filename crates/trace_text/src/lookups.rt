@@ -31,7 +31,8 @@ pub fn find_app(spec: &Spec, text: &[u8]) -> Option<usize>
     }
 }
 
-/// Returns the mode of this name that application `app` lists, or `None` if it lists no such mode.
+/// Returns the mode of this name that application `app` lists, or `None` if `app` does not exist or lists no such
+/// mode.
 pub fn find_mode(spec: &Spec, app: usize, text: &[u8]) -> Option<Mode>
     ensures { result ≡ listed_mode spec.now app text.now }
 {

@@ -61,7 +61,8 @@ pub fn find_values(spec: &Spec, list: &[u8]) -> Option<[u8; 6]>
     Some(values)
 }
 
-/// Returns the bits of the processors that a list names, or `None` if the names are not in the order of the processors.
+/// Returns the bits of the processors that a list names, or `None` if a name is unknown or the names are not in the
+/// order of the processors.
 pub fn read_up(procs: &[Proc], list: &[u8]) -> Option<u8>
     requires { length procs.now ≤ 8 }
     ensures { result ≡ up_in procs.now list.now }

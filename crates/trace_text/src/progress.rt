@@ -1,4 +1,5 @@
-//! The state of reading a trace: the rows and reports of the lines so far, and the lines that may come next.
+//! The state of reading a trace: the rows and reports of the lines that have been read, and the lines that may come
+//! next.
 
 ghost use Rattle.std.specs.Prelude.{◌≡◌, ◌≤◌, ◌<◌, Ok, length};
 ghost use Rattle.std.specs.List.{list_all};
@@ -38,7 +39,7 @@ pub enum Stop {
     NoMemory,
 }
 
-/// The rows and reports of the lines so far, and the lines that may come next.
+/// The rows and reports of the lines that have been read, and the lines that may come next.
 #[derive(Drop)]
 pub struct Progress {
     pub rows: Vec<Row>,
@@ -69,7 +70,11 @@ impl Progress {
         }
     }
 
-    /// Reads a further line, given without its line feed.
+    /// Reads a further line, given without its line feed, and returns the state after the line.
+    ///
+    /// # Errors
+    ///
+    /// Returns the first rule that the line breaks, or `NoMemory` if there is no memory for a further row or report.
     pub fn read_line(self, spec: &Spec, line: &[u8]) -> Result<Progress, Stop>
         ensures { AnswersLine (after_line spec.now self line.now) result }
     {

@@ -3,7 +3,7 @@
 /// The line lacks its line feed, has a byte that is not printable, or is too long.
 pub const BROKEN_LINE: u8 = 1;
 
-/// The line's first word is not allowed here.
+/// The line's first word is not allowed at this point of the trace.
 pub const OUT_OF_PLACE: u8 = 2;
 
 /// The line's words do not match any form.
@@ -15,7 +15,7 @@ pub const UNKNOWN_NAME: u8 = 4;
 /// A number is not spelled as it is printed, or is out of its range.
 pub const WRONG_NUMBER: u8 = 5;
 
-/// The line's frame or application is not the next one.
+/// The line's frame or application is not the expected one.
 pub const NOT_NEXT: u8 = 6;
 
 /// The frame of a phase is not below the phase's length, the length is above 16, or processors are out of order.

@@ -11,8 +11,8 @@ use scram_types::limits::MAX_TRACE_BYTES;
 use scram_types::{Flown, List, Spec};
 use std::alloc::Global;
 
-/// The first line that breaks a rule, counted from 1, and the first rule, from 1 to 9, that it breaks. A trace that
-/// is too long breaks rule 9 at line 0.
+/// The number of the first line that breaks a rule, counted from 1, and the number of the first rule that the line
+/// breaks, 1 to 9. A trace that is too long breaks rule 9 at line 0.
 #[derive(Clone, Copy, Debug, PartialEq, Eq)]
 pub struct TraceFault {
     pub line: u32,
