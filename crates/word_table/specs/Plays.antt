@@ -59,8 +59,8 @@ AwaitsEnd m i (Runs p f n ∷ rest) = ⊥
 AwaitsEnd m i (Stopped p h ∷ rest) = ⊥
 AwaitsEnd m i (Kernel k j ∷ rest) = (k < m.frames) × (j < m.procs) × (i ≡ index_of (EndWord j))
 
--- Whether the release word `release` shows the frame that the first actor awaits. The value is `false` if there is no
--- actor.
+-- Whether the first actor may start the frame for which it waits, if the release word is `release`. The value is
+-- `false` if there is no actor.
 abbrev pub may_start : Flight → List Actor → ℕ → Bool
 may_start m [] release = false
 may_start m (a ∷ rest) release = nat_lt (awaited m a) release
@@ -77,8 +77,7 @@ can_note m (Kernel k j ∷ rest) end = may_note m j k end
 abbrev pub GoesOrTries : Bool → (Actor → Actor) → View → Sat → Type 0
 GoesOrTries ready go v after = MatchBool ready (Has after (each_actor go v)) (Has after (tried v))
 
--- If `waits` holds, `go` is applied to each actor if `ready` is `true`, and the view counts another try if it is
--- `false`. If `waits` does not hold, the seat still has the view `v`.
+-- If `waits` holds, the seat changes as `GoesOrTries` states. Otherwise the seat still has the view `v`.
 abbrev pub MovesIfWaiting : Type 0 → Bool → (Actor → Actor) → View → Sat → Type 0
 MovesIfWaiting waits ready go v after = (waits → GoesOrTries ready go v after) × (¬ waits → Has after v)
 
@@ -92,8 +91,8 @@ IsAfterStart m i n v after = MovesIfWaiting (AwaitsRelease m i v.actors) (may_st
 abbrev pub IsAfterNote : Flight → ℕ → ℕ → View → Sat → Type 0
 IsAfterNote m i n v after = MovesIfWaiting (AwaitsEnd m i v.actors) (can_note m v.actors n) one_more v after
 
--- The word that the first actor stores next, if its next step is a store into a bank or of one of the kernel's words.
--- The value is 0 if there is no actor or the first is a halted processor.
+-- The word that the first actor stores next. Its next step must be a store into a bank or a store of one of the
+-- kernel's words. The value is 0 if there is no actor or the first actor is a halted processor.
 abbrev pub word_due : Flight → List Actor → ℕ
 word_due m [] = 0
 word_due m (Runs p f n ∷ rest) = word_in (m.draft p f) (n - (m.procs + 1))

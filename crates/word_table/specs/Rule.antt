@@ -18,7 +18,7 @@ abbrev pub Hosts : Places → (Option ℕ → ℕ) → ℕ → List Actor → Ty
 Hosts at home j [] = Unit {0}
 Hosts at home j (a ∷ rest) = (home (who a) ≡ j) × StandsAt at a × Hosts at home j rest
 
--- Actor `o` is not in a list.
+-- No actor of a list is actor `o`, which is the number of a processor or `None` for the kernel.
 abbrev pub IsNotIn : Option ℕ → List Actor → Type 0
 IsNotIn o [] = Unit {0}
 IsNotIn o (a ∷ rest) = (who a ≢ o) × IsNotIn o rest
@@ -28,7 +28,7 @@ abbrev pub AreApart : List Actor → Type 0
 AreApart [] = Unit {0}
 AreApart (a ∷ rest) = IsNotIn (who a) rest × AreApart rest
 
--- Actor `o` is in a list.
+-- Some actor of a list is actor `o`, which is the number of a processor or `None` for the kernel.
 abbrev pub IsAmong : Option ℕ → List Actor → Type 0
 IsAmong o [] = ⊥
 IsAmong o (a ∷ rest) = (who a ≡ o) ⊎ IsAmong o rest
