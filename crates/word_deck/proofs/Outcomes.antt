@@ -1,4 +1,4 @@
--- The result of a flight is the trace, and its seats are at their last places.
+-- The result of a flight is the one-thread trace, and the seats in the result are at their last places.
 use Rattle.std.proofs.Common.{◌≡◌, ◌∙◌, ◌<◌, ◌≤◌, ap, arith, sym, subst, List, length}
 use Rattle.std.specs.Prelude.{Some}
 use Rattle.std.proofs.lemmas.Option.{slice_get_within}

@@ -11,7 +11,7 @@ use Rattle.word_deck.specs.declared.kernels.Noted.{Noted}
 use Rattle.word_deck.specs.declared.turns.Turn.{Turn}
 use Rattle.word_deck.specs.declared.turns.Turn.TheVariants.{Worked, NotYet, Finished}
 
--- The number of frames in which the kernel has noted all of `procs` processors.
+-- The number of frames in which the kernel has noted all processors. Their number is `procs`.
 abbrev pub frames_noted : ℕ → KSeat → ℕ
 frames_noted procs kseat = if nat_lt (kernel_steps kseat) procs then kernel_frame kseat else suc (kernel_frame kseat)
 
@@ -32,8 +32,9 @@ pub record IsKernelBetween (procs frames : ℕ) (kseat : KSeat) : Type 0 where
   pub steps : kernel_steps kseat ≤ procs
   pub last : kernel_steps kseat ≡ procs → suc (kernel_frame kseat) ≡ frames
 
--- The invariant of a kernel between two turns. Its log is that of the frames in which it has noted all processors.
--- The noted marks and images are those that the processors noted so far have committed by the end of its frame.
+-- The invariant of a kernel between two turns. The log is that of the frames in which the kernel has noted all
+-- processors. The marks and images of the processors noted in the current frame are those that these processors have
+-- committed by its end.
 pub record KernelCrewKeeps (mission : MissionParts) (kseat : KSeat) (kernel : KernelParts) (noted : Noted) : Type 0 where
   pub between : IsKernelBetween (length mission.spec.procs) mission.script.frames kseat
   pub log : kernel ≡ kernel_after mission.spec mission.script (frames_noted (length mission.spec.procs) kseat)
