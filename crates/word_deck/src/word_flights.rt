@@ -147,7 +147,7 @@ impl<'a> WordFlight<'a> {
             resources: &resources,
         };
         let (kernel, seats) = fly(rt, &shared, kernel, roster);
-        // The name `_last` lets the proof learn the value to which the reference refers.
+        // The name `_last` lets the proof refer to the value behind the reference.
         let WatchedKernel {
             kernel,
             watch: _last,
