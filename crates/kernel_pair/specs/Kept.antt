@@ -7,8 +7,8 @@ use Rattle.fail_stop.specs.Kept.{mark_at, end_at, bank_at, kernel_at, release_at
 use Rattle.kernel_pair.specs.declared.events.UnitHalt.{UnitHalt}
 use Rattle.kernel_pair.specs.Pairs.{Processor, KernelUnit, Pair, other_unit, frame_to_make}
 
--- Processor `p` may be at the beginning of frame `f`, after `n` = 0 steps. The frame is at most the last one. The
--- processor is up in it and is done with the preceding frame.
+-- Processor `p` may be at the beginning of frame `f`. The number `n` of its steps is 0, and `f` is at most the number
+-- of frames. The processor is up in frame `f` and is done with the preceding frame.
 pub record Waiting (m : Flight) (p f n : ℕ) : Type 0 where
   pub fresh : n ≡ 0
   pub within : f ≤ m.frames
@@ -41,8 +41,8 @@ readies m k j = if nat_lt (m.procs + 20) j then suc k else k
 abbrev pub meetings : Flight → ℕ → ℕ → ℕ
 meetings m k j = if nat_lt (m.procs + 21) j then suc k else k
 
--- The ready word of a unit in frame `k` after `j` steps. It is twice the number of frames in which the unit has been
--- ready, or `2 * t + 1` if the unit has halted in frame `t`.
+-- The ready word of a unit in frame `k` after `j` steps, given the frame of its halt. It is `2 * t + 1` if the unit
+-- has halted in frame `t`. Otherwise it is twice the number of frames in which the unit has been ready.
 abbrev pub ready_at : Flight → Option ℕ → ℕ → ℕ → ℕ
 ready_at m None k j = 2 * readies m k j
 ready_at m (Some t) k j = 2 * t + 1
@@ -76,12 +76,12 @@ NotBelow k j p f = (k ≤ f) × (p < j → k < f)
 abbrev pub IsAhead : Flight → ℕ → Place → KernelUnit → Type 0
 IsAhead m p place x = (f : ℕ) → frame_to_make (m.restart p) place ≡ Some f → NotBelow x.frame x.step p f
 
--- The number of frames that a processor at a place has left behind, including a frame in which it has halted.
+-- The number of frames that are past for a processor at a place. A frame in which the processor has halted is past.
 abbrev pub frames_past : Place → ℕ
 frames_past (At f n) = f
 frames_past (Halted h) = suc h
 
--- Some unit has released every frame that a processor at this place has left behind.
+-- Some unit has released every frame that is past for a processor at this place.
 pub record IsReached (units : ℕ → KernelUnit) (place : Place) : Type 0 where
   pub unit : ℕ
   pub there : unit < 2

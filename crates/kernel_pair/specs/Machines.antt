@@ -37,8 +37,8 @@ pair_in k = pair_of k.state
 abbrev pub pair_with : PairParts → PairEvent → Pair
 pair_with k event = pair_after (pair_flight k) k.halt (pair_in k) event
 
--- The invariant of a pair whose list holds `count` events and has room for `room`. The events are a schedule from the
--- opening to the state, and there is room for every remaining event.
+-- The invariant of a pair whose list contains `count` events and has a capacity of `room` events. The events are a
+-- schedule from the opening to the state, and the list has space for every remaining event.
 pub record PairKeeps (spec : Parts) (script : ScriptParts) (halt : Option UnitHalt) (state : PairState) (events : List PairEvent)
     (room count : ℕ) : Type 0 where
   pub facts : IsSpec spec

@@ -109,7 +109,8 @@ next_by m halt u x ready ends =
 abbrev pub next_unit : Flight → Option UnitHalt → Pair → ℕ → Option PairEvent
 next_unit m halt s u = next_by m halt u (s.unit u) (s.unit (other_unit u)).ready (λ p. (s.proc p).end)
 
--- An event is a next event of its actor. A processor may have two, which are its frame by the words of either unit.
+-- An event is a next event of its actor. A processor may have two next events: its next frame by the words of unit 0,
+-- and the same frame by the words of unit 1.
 abbrev pub IsPairNext : Flight → Option UnitHalt → Pair → PairEvent → Type 0
 IsPairNext m halt s (Fly p u) = (p.0 < m.procs) × (u < 2) × MakesReleased (m.restart p.0) (s.proc p.0).place (s.unit u).release
 IsPairNext m halt s (Note u p) = (u < 2) × (next_unit m halt s u ≡ Some (Note u p))
@@ -119,8 +120,8 @@ IsPairNext m halt s (Meet u) = (u < 2) × (next_unit m halt s u ≡ Some (Meet u
 IsPairNext m halt s (Release u) = (u < 2) × (next_unit m halt s u ≡ Some (Release u))
 IsPairNext m halt s (Stop u) = (u < 2) × (next_unit m halt s u ≡ Some (Stop u))
 
--- Processor `p` with state `x` after it has made frame `f`. Its draft is in the bank that its mark did not name, whole
--- or up to its halt.
+-- Processor `p` with state `x` after it has made frame `f`. The bank that its mark did not name contains its draft,
+-- whole or up to its halt.
 abbrev pub frame_made : Flight → ℕ → ℕ → Processor → Processor
 frame_made m p f x = record {
   place = after_frame f (m.halt p f);
@@ -272,8 +273,8 @@ pub record IsAtEnd (m : Flight) (x : KernelUnit) : Type 0 where
   pub last : suc x.frame ≡ m.frames
   pub noted_all : m.procs ≤ x.step
 
--- The pair is over. The flight has no frame, or each processor is done and each unit that has not halted has made its
--- last note.
+-- The pair is over. The flight has no frame, or each processor has made all frames or has halted for good and each
+-- unit that has not halted has made its last note.
 abbrev pub IsPairOver : Flight → Pair → Type 0
 IsPairOver m s = (m.frames ≡ 0)
     ⊎ (((p : ℕ) → p < m.procs → IsDone m p (s.proc p).place) × ((u : ℕ) → u < 2 → (s.unit u).stopped ≡ None → IsAtEnd m (s.unit u)))
