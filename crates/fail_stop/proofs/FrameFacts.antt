@@ -90,8 +90,7 @@ unfolding bank_before side image_before
 bank_side m p zero i h = refl
 bank_side m p (suc f) i h = bank_side_next m p f i (is_committed m p f) refl h (bank_side m p f i h)
 
--- Processor `p` has the same commits, banks, end words and images at frames `a` and `b`, since it is down between
--- them.
+-- Processor `p` has the same last commit, marked bank, end word, image and bank words at frames `a` and `b`.
 pub record Same (m : Flight) (p a b : ℕ) : Type 0 where
   pub lasts : last_commit m p b ≡ last_commit m p a
   pub sides : side m p b ≡ side m p a
@@ -133,7 +132,7 @@ back_none (Some s) h g e = let late : h < s → g < s = e s refl in grind (arith
 pub halted_still : (m : Flight) (p h s b : ℕ) → Flies m → m.up p h ≡ true → m.halt p h ≡ Some s → h < b → ((r : ℕ) → m.restart p ≡ Some r → h < r → b ≤ r) → Same m p (suc h) b
 halted_still m p h s b y u e l q = still m p (suc h) b (omega arith) (λ g lo hi. y.gone p h s g u e (omega arith) (back_none (m.restart p) h g (λ r i j. let k : b ≤ r = q r i j in omega arith)))
 
--- Lemmas on end words: bounds, and the halts that odd end words show.
+-- Lemmas on end words: bounds, and the halts that odd end words record.
 end_word_le : (f : ℕ) (o : Option ℕ) → end_word_after f o ≤ 2 * suc f
 end_word_le f None = omega arith
 end_word_le f (Some s) = omega arith

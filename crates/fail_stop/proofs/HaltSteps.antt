@@ -1,4 +1,4 @@
--- Lemmas that the only halt that a processor can have in a frame decides whether it commits the frame.
+-- A processor has at most one halt in a frame. This halt decides whether the processor commits the frame.
 use Rattle.std.proofs.Common.{◌≡◌, ◌∙◌, ℕ, suc, ◌+◌, ◌<◌, ◌≤◌, refl, ap, arith, Bool, true, false, not, ◌&&◌, ◌||◌, List, [], ◌∷◌, ◌⊎◌}
 use mathlib.Core.Logic.{inl, inr}
 use Rattle.std.specs.Prelude.{◌==◌, nat_le, find, Option, Some, None, if◌then◌else◌}

@@ -85,8 +85,9 @@ SchedulesKeep = (spec : Parts) (script : ScriptParts) → Fits spec script → (
     → IsSchedule (flight_of spec script) (opening (flight_of spec script)) events state
     → Kept (flight_of spec script) state.at state.words × IsConsistent (flight_of spec script) state.at state.words
 
--- A processor that reads in frame `f` finds the words of that frame. The bank that it picks of processor `q` does not
--- change and holds the image of `q` after the first `f` frames. The kernel's words are those of frame `f`.
+-- A processor that reads in frame `f` finds the words of that frame. The bank that the reader picks of processor `q`
+-- does not change during the frame and holds the image of `q` after the first `f` frames. The kernel's words are
+-- those of frame `f`.
 pub record Finds (spec : Parts) (script : ScriptParts) (words : Word → ℕ) (f : ℕ) : Type 0 where
   pub picked : (q : ℕ) → q < length spec.procs → pick (words (MarkWord q)) f ≡ image_bank_after spec script q f
   pub held : (q i : ℕ) → q < length spec.procs → i < width_of spec
@@ -104,7 +105,7 @@ pub record IsNoted (spec : Parts) (script : ScriptParts) (words : Word → ℕ) 
   pub held : (i : ℕ) → i < width_of spec
       → words (BankWord p (image_bank_after spec script p (suc k)) i) ≡ word_in (image_words_after spec script p (suc k)) i
 
--- A processor that the kernel has noted shows its mark and its image at the end of the frame.
+-- If the kernel has noted a processor, the mark and the image of the processor are those after the kernel's frame.
 abbrev pub NotesFix : Type 0
 NotesFix = (spec : Parts) (script : ScriptParts) → Fits spec script → (at : Places) (words : Word → ℕ)
     → Kept (flight_of spec script) at words → (p : ℕ) → p < length spec.procs → p < at.step → IsNoted spec script words at.frame p

@@ -48,7 +48,8 @@ pub fn readers_find()
     ensures { ReadersFind }
 {}
 
-/// States that a processor that the kernel has noted shows its mark and its image at the end of the frame.
+/// States that, if the kernel has noted a processor, the mark and the image of the processor are those after the
+/// kernel's frame.
 pub fn notes_fix()
     ensures { NotesFix }
 {}
