@@ -191,7 +191,7 @@ module _ (plan : Plan) (course : Course) (accepted : IsAcceptedPlan plan) (withi
           change_next)
           (λ e. true_false _ ran_to (and_false _ _ e o.0)))
 
-  -- If the reading agrees with the mode in a frame, then it agrees with it in the next one.
+  -- If the reading agrees with the mode in a frame, then the next reading agrees with the next mode.
   pub coupled_step : (f : ℕ) → suc f ≤ course.frames → (r : CourseReading) (m : CourseMode) → Coupled plan course f r m → CourseRowUnder plan course f m
       → course_report_at plan course f ≡ course_report_of course f r → course_mode_at plan course f ≡ m → Coupled plan course (suc f) (course_read_row course f r) (course_decision_after plan course f m)
   coupled_step f inside (Steady c) (Stable k) h row reported moded =

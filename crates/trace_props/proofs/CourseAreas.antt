@@ -49,7 +49,8 @@ IsAreaFilled laws a (Initialised k n p) old new = (laws.lies a (DidInit p) new �
 IsAreaFilled laws a WasOff old new = laws.lies a Zeros new ≡ true
 IsAreaFilled laws a Lost old new = new ≡ old
 
--- The areas open and are filled by the laws. `area f a` is the area of application `a` after `f` frames.
+-- The start areas lie in the ranges of their first writers, and each act fills its area as the laws require. `area f
+-- a` is the area of application `a` after `f` frames.
 pub record AreAreasFilled (plan : Plan) (build : Build) (course : Course) (commits : ℕ → ℕ → Bool) (laws : AreaLaws) (area : ℕ → ℕ → CourseArea) : Type 0 where
   pub opens : (a : ℕ) → a < build.apps → laws.lies a (opening_written (build.place plan.start a)) (area 0 a) ≡ true
   pub writes : (f a : ℕ) → f < course.frames → a < build.apps → IsAreaFilled laws a (course_acts_at plan build course commits f a) (area f a) (area (suc f) a)

@@ -152,7 +152,8 @@ task_same spec (told.Halting c age) a = halting_task (halt_offset spec c a) (hal
 task_same spec (told.Preparing c age) a = preparing_task (prepare_time spec c a) age (place_of spec c a)
 task_same spec (told.Initialising c age) a = init_task (init_offset spec c a) (init_time spec c a) age (place_of spec c a)
 
--- The facts on the laws of the kinds.
+-- The laws of the kinds keep areas in their ranges: during each act, after an initialisation and at the start. All
+-- tables are narrow.
 pub record KindsLie : Type 0 where
   pub during : LawLiesDuring
   pub initialised : LawLiesAfterInit

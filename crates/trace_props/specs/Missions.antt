@@ -33,7 +33,8 @@ abbrev pub begin_in : Reading → ℕ → ℕ
 begin_in (Steady c) f = f
 begin_in (Leaving c begin) f = begin
 
--- The begin of the reconfiguration to which frame `f` of a mission belongs.
+-- The begin of the reconfiguration to which frame `f` of a mission belongs, or `f` if no reconfiguration is under way
+-- there.
 abbrev pub begin_at : Parts → ScriptParts → ℕ → ℕ
 begin_at spec script f = begin_in (reading_of spec (listed_below (row_at spec script) f)) f
 
@@ -71,7 +72,8 @@ pub record IsTargetChosen (spec : Parts) (script : ScriptParts) (f : ℕ) (from 
 abbrev pub TargetsAreChosen : Type 0
 TargetsAreChosen = InMovingFrames IsTargetChosen
 
--- The halting phase ends in time: each further change of the environment delays it by at most the slowest turn.
+-- The halting phase ends in time. It ends at most `halting_time` frames after the first moving frame, plus `slowest`
+-- frames for each further change of the environment.
 abbrev pub HaltsInTime : Parts → ScriptParts → ℕ → ConfId → Option ConfId → ConfId → ℕ → Type 0
 HaltsInTime spec script f from halting to since =
     since + halting_frames spec halting ≤ first_moving spec script f + halting_time spec from + changes_since spec script f * slowest spec
@@ -84,7 +86,7 @@ HaltingEndsInTime = InMovingFrames HaltsInTime
 abbrev pub SettlesInTime : Parts → ScriptParts → ℕ → ConfId → Option ConfId → ConfId → ℕ → Type 0
 SettlesInTime spec script f from halting to since = f ≤ since + halting_frames spec halting + preparing_time spec to + initialising_time spec to
 
--- Each moving frame of a mission is no later than its phases allow.
+-- Each moving frame of a mission satisfies `SettlesInTime`.
 abbrev pub PhasesArePastInTime : Type 0
 PhasesArePastInTime = InMovingFrames SettlesInTime
 

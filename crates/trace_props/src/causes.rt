@@ -36,8 +36,8 @@ fn has_cause(spec: &Spec, rows: &[Row], before: Option<Report>, read: Report) ->
         || follows(spec, rows, before, read)
 }
 
-// Returns `true` if the targets are settled, and reconfiguration `before` ended in the row before the begin of `read`
-// and saw a change of the environment after its own begin.
+// Returns `true` if the policy is `Settle`, reconfiguration `before` ended in the row before the begin of `read`, and
+// the environment changed during `before` after its begin.
 fn follows(spec: &Spec, rows: &[Row], before: Option<Report>, read: Report) -> bool
     ensures { result ≡ follows spec.now rows.now before read }
 {

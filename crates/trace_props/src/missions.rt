@@ -6,12 +6,12 @@ ghost use Rattle.trace_props.specs.Calms.{CalmSettles};
 ghost use Rattle.trace_props.specs.Known.{IsKnown};
 
 /// States that SP1 to SP6 hold for a mission's rows and reports, with halts and restarts in any frame, with failures
-/// chained during a reconfiguration, and under both policies. Each reconfiguration that the rows show is reported, goes
-/// to a target that was chosen in an environment seen during it, and ends within the given bound. It keeps its
-/// invariants throughout and meets its target's preconditions in the row before its end. Its cause is a change of the
-/// environment, unless it begins in the last row. No target is claimed for a reconfiguration that the end of the script
-/// cuts off. Once the environment has held for the greatest bound, a configuration that meets the demands runs in each
-/// row in which no application is lost.
+/// chained during a reconfiguration, and under both policies. Each reconfiguration that is read off the rows is
+/// reported, goes to a target that was chosen in an environment seen during it, and ends within the given bound. It
+/// keeps its invariants throughout and meets its target's preconditions in the row before its end. Its cause is a
+/// change of the environment, unless it begins in the last row. No target is claimed for a reconfiguration that the
+/// end of the script cuts off. Once the environment has held for the greatest bound, a configuration that meets the
+/// demands runs in each row in which no application is lost.
 pub fn reconfigurations_are_assured()
     ensures { ReconfigurationsAreAssured }
 {
