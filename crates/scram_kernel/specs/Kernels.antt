@@ -47,8 +47,8 @@ pub record HasRoomForFlight (frames f room_of_rows room_of_reports count_of_rows
   pub rows_told : count_of_rows ≡ f
   pub reports_few : count_of_reports ≤ f
 
--- The invariant of a kernel. Its image is the image of the running frame, which is also the frame of its walk.
--- Therefore the image gives the number of frames that have ended.
+-- The invariant of a kernel. The kernel's image is the image of the running frame, which is also the frame of the
+-- walk. Therefore the frame of the image is the number of frames that have ended.
 pub record KernelKeeps (spec : Parts) (script : ScriptParts) (walk : Walk) (image : KernelImage) (areas : List (List ℤ))
     (reading : Reading) (rows : List Row) (reports : List Report) (room_of_rows room_of_reports count_of_rows count_of_reports : ℕ) : Type 0 where
   pub facts : IsSpec spec
