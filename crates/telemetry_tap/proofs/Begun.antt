@@ -1,4 +1,4 @@
--- The number of reconfigurations that have begun in the first frames.
+-- Lemmas on the number of reconfigurations that begin in the first `m` frames.
 use Rattle.std.proofs.Common.{◌≡◌, ◌∙◌, ℕ, zero, suc, ◌+◌, ◌-◌, ◌<◌, ◌≤◌, ap, sym, subst, refl, inl, inr, arith, Bool, true, false, List, [], ◌∷◌, ◌++◌, length, append_assoc}
 use Rattle.std.specs.Prelude.{Option, Some, None, filter, map, slice_get, take, if◌then◌else◌}
 use Rattle.std.proofs.Math.Seq.{take-append_seam}
@@ -121,8 +121,8 @@ begun_few law mission (suc m) le =
 pub none_begun : BeginningsAreRead → (mission : MissionParts) → 0 ≡ summary_begun mission 0
 none_begun law mission = let few = begun_few law mission 0 (omega arith) in omega (arith, few)
 
--- From one summary to a later one, the number of reconfigurations that have begun does not fall, and rises by at most
--- 1 with each frame.
+-- From one summary to a later one, the number of reconfigurations that have begun does not decrease, and rises by at
+-- most 1 with each frame.
 goes_on : BeginningsAreRead → (mission : MissionParts) (m k : ℕ) → m + k ≤ mission.script.frames
     → (summary_begun mission m ≤ summary_begun mission (m + k)) × (summary_begun mission (m + k) ≤ summary_begun mission m + k)
 goes_on law mission m zero le = let e : m + 0 ≡ m = omega arith in rw e (omega arith, omega arith)

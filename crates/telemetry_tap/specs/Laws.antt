@@ -1,4 +1,4 @@
--- Laws of the definitions in this crate's contracts.
+-- Laws of summaries: the rows of a summary, the number of reconfigurations that have begun, and the encoding.
 use Rattle.std.specs.Prelude.{◌≡◌, ℕ, ◌+◌, ◌-◌, ◌<◌, ◌≤◌, ◌^◌, List, [], ◌∷◌, length}
 use Rattle.scram_types.specs.Specification.{Parts}
 use Rattle.scram_types.specs.declared.rows.Row.{Row}

@@ -1,4 +1,4 @@
-//! Laws of the definitions in this crate's contracts. Each function states a law by its contract.
+//! Laws of summaries. Each function states a law by its contract.
 
 ghost use Rattle.telemetry_tap.specs.Laws.{SummariesComeBack, SummariesGoOn, SummariesTellRows};
 
