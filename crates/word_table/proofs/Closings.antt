@@ -58,8 +58,8 @@ unused_stay_zero p marks images mark image before q least most =
       get_or-set_other images p q image [] other ∙ was.1,
     )
 
--- The item at the front of the items left in an iterator is the item at the index that equals the number of yielded
--- items.
+-- The item that an iterator yields next is the item of the whole list at the index that equals the number of items
+-- yielded before.
 at_front : (l rest : List Seat) (x : Seat) → slice_get (l ++ x ∷ rest) (length l) ≡ Some x
 at_front [] rest x = refl
 at_front (y ∷ l) rest x = at_front l rest x

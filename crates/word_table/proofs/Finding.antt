@@ -1,4 +1,4 @@
--- The marks, images and kernel words that loads find are those of the mission.
+-- The marks, images and kernel words that loads find are those of the mission's one-thread trace.
 use Rattle.std.proofs.Common.{◌≡◌, ℕ, suc, ℤ, pos, ◌+◌, ◌*◌, ◌%◌, ◌<◌, ◌≤◌, Bool, true, false, refl, sym, ap, subst, ◌∙◌, arith, List, [], ◌∷◌, length}
 use Rattle.std.specs.Prelude.{Option, Some, None, nat_eq, slice_index, slice_index_or, slice_set}
 use Rattle.std.proofs.lemmas.Bool.Decides.{nat_tests}

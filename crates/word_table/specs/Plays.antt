@@ -12,7 +12,7 @@ use Rattle.word_table.specs.declared.actors.Actor.TheVariants.{Runs, Stopped, Ke
 use Rattle.word_table.specs.declared.actors.View.{View}
 use Rattle.word_table.specs.Actors.{StandsAt, Waits, awaited, begun, halted_actor, mission_flight, next_frame, one_more, tried, with_actors}
 
--- A seat in the table, which has a view and no slots.
+-- A seat in the table. A seat has a view and no slots.
 abbrev pub Sat : Type 0
 Sat = Me (Unit {0}) View
 
@@ -82,12 +82,14 @@ abbrev pub MovesIfWaiting : Type 0 → Bool → (Actor → Actor) → View → S
 MovesIfWaiting waits ready go v after = (waits → GoesOrTries ready go v after) × (¬ waits → Has after v)
 
 -- `after` is a seat with view `v` after a load at place `i` that found `n`. If the first actor waits for this word
--- and may start, each actor has started its frame. If it waits and may not start, the view counts another try.
+-- and may start, each actor has started its frame. If the first actor waits and may not start, the view counts
+-- another try.
 abbrev pub IsAfterStart : Flight → ℕ → ℕ → View → Sat → Type 0
 IsAfterStart m i n v after = MovesIfWaiting (AwaitsRelease m i v.actors) (may_start m v.actors n) (begun m) v after
 
 -- `after` is a seat with view `v` after a load at place `i` that found `n`. If the first actor is the kernel, waits
--- for this word and may note the processor, it has made a step. If it waits and may not, the view counts another try.
+-- for this word and may note the processor, the kernel has made a step. If the kernel waits and may not note, the
+-- view counts another try.
 abbrev pub IsAfterNote : Flight → ℕ → ℕ → View → Sat → Type 0
 IsAfterNote m i n v after = MovesIfWaiting (AwaitsEnd m i v.actors) (can_note m v.actors n) one_more v after
 

@@ -44,8 +44,8 @@ pub record IsViewOf (views : List View) (o : Option ℕ) (j : ℕ) : Type 0 wher
   pub there : get_elem? views j ≡ some view
   pub among : IsAmong o view.actors
 
--- The rule for a flight and its mission. The law of events holds for words and places. Each actor of the flight is at
--- its place and in exactly one view, its home. Each view with an actor knows the mission.
+-- The rule for a flight and its mission. The law of events holds for the words and for the places of the actors. Each
+-- actor of the flight is at its place and in exactly one view, its home. Each view with an actor knows the mission.
 pub record Ruled (m : Flight) (mission : MissionParts) (s : State (Unit {0}) View) : Type 0 where
   pub at : Places
   pub home : Option ℕ → ℕ

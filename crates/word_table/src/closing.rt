@@ -99,7 +99,7 @@ fn last_words(closed: &Closed<(), Global>, procs: usize, width: usize) -> LastWo
     LastWords { images, marks }
 }
 
-// Returns the image whose words are stored from place `at` on.
+// Returns the image whose first `width` words are stored from place `at` on. The other words of the image are zero.
 fn stored_image(closed: &Closed<(), Global>, at: usize, width: usize) -> Image
     requires full { IsFull closed.now.words }
     requires places { slots_len closed.now.words ≡ word_index_count }
