@@ -35,7 +35,7 @@ abbrev pub AreLanded : WordTable → List Seat → Type 0
 AreLanded words seats = (p : ℕ) (seat : Seat) → slice_get seats p ≡ Some seat → IsLanded words p seat
 
 -- The numbers of the processors that fly in the caller's turns, after processor `p` has boarded in the given way.
--- `numbers` are those before.
+-- `numbers` are the numbers before `p` has boarded.
 abbrev pub numbers_boarded : Boarding → ℕ → List ℕ → List ℕ
 numbers_boarded (Threaded flying) p numbers = numbers
 numbers_boarded Own p numbers = numbers ++ p ∷ []

@@ -11,7 +11,7 @@ use Rattle.word_deck.specs.declared.kernels.Noted.{Noted}
 use Rattle.word_deck.specs.declared.turns.Turn.{Turn}
 use Rattle.word_deck.specs.declared.turns.Turn.TheVariants.{Worked, NotYet, Finished}
 
--- The number of frames in which the kernel has noted all processors. Their number is `procs`.
+-- The number of frames in which the kernel has noted all of the `procs` processors.
 abbrev pub frames_noted : ℕ → KSeat → ℕ
 frames_noted procs kseat = if nat_lt (kernel_steps kseat) procs then kernel_frame kseat else suc (kernel_frame kseat)
 
@@ -25,7 +25,7 @@ abbrev pub IsKernelDone : MissionParts → KSeat → Type 0
 IsKernelDone mission kseat =
     (mission.script.frames ≡ 0) ⊎ ((suc (kernel_frame kseat) ≡ mission.script.frames) × (kernel_steps kseat ≡ length mission.spec.procs))
 
--- The kernel is between two turns. It has not noted all processors of its frame, or this is the last frame.
+-- The kernel is between two turns. It has not noted all processors of its frame, or its frame is the last one.
 pub record IsKernelBetween (procs frames : ℕ) (kseat : KSeat) : Type 0 where
   pub within : kernel_frame kseat ≤ frames
   pub flies : 0 < frames → kernel_frame kseat < frames

@@ -167,8 +167,8 @@ impl Crew {
             .draft(mission.spec(), &self.snap, &mut self.image);
     }
 
-    // Ends the frame that the processor has drafted. It commits the frame, or halts if the script has a halt in the
-    // frame.
+    // Ends the frame of which the processor has made the draft. The processor commits the frame, or halts if the
+    // script has a halt in the frame.
     fn end(&mut self, mission: &Mission, words: &WordTable)
         requires mission { mission_in words.now ≡ mission.now }
         requires flies { CrewFlies words.now (length mission.now.spec.procs + 1) self.old }

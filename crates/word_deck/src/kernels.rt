@@ -116,7 +116,7 @@ impl<'a> KernelCrew<'a> {
     }
 }
 
-// Notes processors in order, until one may not be noted.
+// Notes processors in order, until all are noted or one may not be noted.
 fn note_all(words: &WordTable, procs: u32, kseat: &mut KSeat, noted: &mut Noted)
     requires seat { IsKernelSeatOf words.now kseat.old }
     requires procs { procs ≡ length (mission_in words.now).spec.procs }

@@ -124,8 +124,8 @@ pub(crate) fn fly_crew<R: Wait>(
     unreachable!()
 }
 
-/// Starts a thread for a processor. If no thread can be created, leaves the boxes in the cell and returns the seat in
-/// a landing with `flown` set to `false`.
+/// Starts a thread for a processor and returns the handle of the thread. If no thread can be created, leaves the
+/// boxes in the cell and returns the seat in a landing with `flown` set to `false`.
 pub(crate) fn start<'s, E, R: Wait + Threads + Sync>(
     scope: &Scope<'s, E>,
     rt: &'s R,
@@ -211,8 +211,8 @@ pub(crate) fn crew_from<R: Wait>(rt: &R, words: &WordTable, cell: &RackCell, sea
     }
 }
 
-/// Returns the seat of a processor that has landed. If the processor has not flown, the caller flies it with the
-/// boxes from the cell. `was` is the seat with which the processor started.
+/// Returns the seat of a processor once the processor has landed. If the processor has not flown, the caller flies it
+/// with the boxes from the cell. `was` is the seat with which the processor started.
 pub(crate) fn land<R: Wait>(rt: &R, site: &Site<'_>, landing: Landing, was: Snapshot<Seat>) -> Seat
     requires mission { mission_in site.now.words.now ≡ site.now.mission.now }
     requires lands { Lands site.now.words.now was.value landing }
