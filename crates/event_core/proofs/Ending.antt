@@ -1,4 +1,4 @@
--- Lemmas on the number of frames that have ended, and on the kernel after them.
+-- Lemmas on the number of frames that have ended, and on the kernel after these frames.
 use Rattle.std.proofs.Common.{◌≡◌, ◌∙◌, ℕ, ◌+◌, Bool, true, false, refl, ap, sym, subst, arith, List, length}
 use Rattle.std.specs.Prelude.{nat_le, if◌then◌else◌}
 use Rattle.std.proofs.lemmas.Bool.Decides.{nat_tests}

@@ -61,8 +61,8 @@ open_keeps spec script first areas keepers places stored history room count fact
       room_left = subst (λ n. n + events_left (flight_of spec script) (machine_places places) ≤ room) (sym is_count) (subst (λ n. n ≤ room) (sym left) is_room);
     }
 
--- If the machine of a core keeps its invariant, its places are the opening places and its kernel has not begun the
--- first frame, then the core keeps its invariant.
+-- A core satisfies `CoreKeeps` if its machine satisfies `MachineKeeps`, its places are the opening places, and its
+-- kernel is the kernel before the first frame.
 pub opened : (spec : Parts) (script : ScriptParts) (places : KeptPlaces) (stored : List ℕ) (history : List Event) (room count : ℕ) (kernel : KernelParts)
     → MachineKeeps spec script places stored history room count → places ≡ kept_opening → kernel ≡ kernel_after spec script 0 → CoreKeeps spec script places stored history room count kernel
 opened spec script places stored history room count kernel machine is_places is_kernel =

@@ -46,7 +46,7 @@ module _ (m : Flight) (at : Places) (v w : Word → ℕ) (same : (x : Word) → 
   next_moved (KStore x) i = sym kernel_same ∙ i
   next_moved Release i = sym kernel_same ∙ i
 
--- The places and words to which a history leads satisfy the invariant.
+-- The places and words to which a history leads satisfy the invariant `Kept`.
 pub replay_kept : (m : Flight) (events : List Event) (at : Places) (words : Word → ℕ) → Flies m → IsReplay m events at words → Kept m at words
 replay_kept m events at words y r =
     let k = each_state m events r.state y r.schedule in

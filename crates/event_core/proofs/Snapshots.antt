@@ -126,7 +126,7 @@ store_looked m at words p i next =
     let low = c.2 in
     (is_less p.0 m.procs a.0, subst (λ (place : Place). HasLooked m place) (sym b.here) (omega (arith, count), omega (arith, count, low)), low)
 
--- If the core is not over, then some actor has a next event.
+-- If the flight of a core is not over, then some actor has a next event.
 pub goes_on_by : (core : CoreParts) (spec : Parts) (script : ScriptParts) (places : KeptPlaces) (stored : List ℕ) (history : List Event) (room count : ℕ) → core_of spec script places stored history ≡ core
     → MachineKeeps spec script places stored history room count → MachineGoesOn → IsOver (core_flight core) (core_places core) ⊎ ((event : Event) × IsNext (core_flight core) (core_places core) (core_words core) event)
 goes_on_by core spec script places stored history room count is k on =
