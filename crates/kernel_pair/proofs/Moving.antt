@@ -20,7 +20,7 @@ both zero l P a b = two P a b
 both (suc zero) l P a b = two P b a
 both (suc (suc u)) l P a b = absurd (omega arith)
 
--- The facts from which the invariant follows if unit `u` becomes `x`.
+-- Unit `x` satisfies the facts from which the invariant follows if `x` replaces unit `u`.
 pub record UnitMoves (m : Flight) (halt : Option UnitHalt) (s : Pair) (u : ℕ) (x : KernelUnit) : Type 0 where
   pub own : IsUnit m halt u x
   pub ahead : (p : ℕ) → p < m.procs → IsAhead m p (s.proc p).place x

@@ -31,7 +31,7 @@ placed_by m k j p (Halted h) d a b = record {
   noted = λ g r e l. (a r (restart_past_some (m.restart p) h r e l)).1 g;
 }
 
--- A processor that may be noted in frame `k` makes a later frame next.
+-- If a processor that may be noted in frame `k` makes a further frame, that frame is later than frame `k`.
 noted_ahead : (m : Flight) (k p f : ℕ) (place : Place) → Noted m k p place → frame_to_make (m.restart p) place ≡ Some f → k < f
 noted_ahead m k p f (At g n) l e = let same : g ≡ f = cc in subst (λ (x : ℕ). k < x) same l
 noted_ahead m k p f (Halted h) l e = let r = restart_past_is (m.restart p) h f e in l f r.0 r.1

@@ -183,8 +183,8 @@ module _ (m : Flight) (halt : Option UnitHalt) (s : Pair) (y : Flies m) (k : Pai
   over_if : (u : ℕ) → u < 2 → IsAtEnd m (s.unit u) → ((s.unit (other_unit u)).stopped ≡ None → IsAtEnd m (s.unit (other_unit u))) → ((p r : ℕ) → m.restart p ≡ Some r → suc r ≤ m.frames) → IsPairOver m s
   over_if u l a b within = inr (all_done u l a within, both u l (λ v. (s.unit v).stopped ≡ None → IsAtEnd m (s.unit v)) (λ n. a) b)
 
-  -- If unit `u` has been ready in the other unit's frame, then the other unit does not wait for `u`. Some actor has a
-  -- next event, or the other unit has made its last note. The other unit must not have halted.
+  -- If unit `u` has been ready in the frame of the other unit, and the other unit has not halted, then the other unit
+  -- does not wait for `u`. Some actor has a next event, or the other unit has made its last note.
   other_goes : (u : ℕ) → u < 2 → (s.unit (other_unit u)).stopped ≡ None → ((s.unit (other_unit u)).frame < readies m (s.unit u).frame (s.unit u).step ⊎ IsAtEnd m (s.unit (other_unit u)))
       → HasNext m halt s ⊎ IsAtEnd m (s.unit (other_unit u))
   other_goes u l going c = sorted (unit_goes (other_unit u) (other_less u) going)

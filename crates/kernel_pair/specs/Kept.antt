@@ -15,13 +15,13 @@ pub record Waiting (m : Flight) (p f n : ℕ) : Type 0 where
   pub up : m.up p f ≡ true
   pub done : end_before m p f ≡ 2 * f
 
--- Processor `p` may have halted in frame `h`, since it is up and has a halt in that frame.
+-- Processor `p` may have halted in frame `h`: it is up and has a halt in that frame.
 pub record Down (m : Flight) (p h : ℕ) : Type 0 where
   pub step : ℕ
   pub up : m.up p h ≡ true
   pub halts : m.halt p h ≡ Some step
 
--- Processor `p` may be at the place.
+-- Processor `p` may be at the place. It is at the beginning of a frame (`Waiting`) or has halted in one (`Down`).
 abbrev pub IsStanding : Flight → ℕ → Place → Type 0
 IsStanding m p (At f n) = Waiting m p f n
 IsStanding m p (Halted h) = Down m p h
@@ -92,7 +92,8 @@ pub record IsReached (units : ℕ → KernelUnit) (place : Place) : Type 0 where
 abbrev pub HasMet : Flight → KernelUnit → KernelUnit → Type 0
 HasMet m x y = y.stopped ≡ None → meetings m x.frame x.step ≤ readies m y.frame y.step
 
--- The invariant of a state of a pair.
+-- The invariant of a state of a pair. `IsUnit` holds for each unit, `IsProcessor` and `IsReached` for each processor,
+-- `IsAhead` for each processor and each unit, and `HasMet` for each unit and the other unit.
 pub record PairKept (m : Flight) (halt : Option UnitHalt) (s : Pair) : Type 0 where
   pub units : (u : ℕ) → u < 2 → IsUnit m halt u (s.unit u)
   pub processors : (p : ℕ) → p < m.procs → IsProcessor m p (s.proc p)

@@ -41,8 +41,8 @@ abbrev pub restart_past : ℕ → Option ℕ → Option ℕ
 restart_past h None = None
 restart_past h (Some r) = if nat_lt h r then Some r else None
 
--- The frame that a processor makes next, or `None` if it has halted for good. It is the frame at whose beginning the
--- processor is, or the frame of its restart.
+-- The frame that a processor makes next, or `None` if it has halted for good. This is the frame at the beginning of
+-- which the processor is, or the frame of its restart.
 abbrev pub frame_to_make : Option ℕ → Place → Option ℕ
 frame_to_make restart (At f n) = Some f
 frame_to_make restart (Halted h) = restart_past h restart
@@ -252,7 +252,8 @@ pub record IsFirstUnit (m : Flight) (x : KernelUnit) : Type 0 where
   pub ready : x.ready ≡ 0
   pub kernel : (i : ℕ) → i < 20 → x.kernel i ≡ word_in (m.kernel_image 0) i
 
--- The state is an opening. Entries past the last processor, the last unit and the last word are arbitrary.
+-- Each processor and each unit of the state is at the opening. Entries past the last processor, the last unit and the
+-- last word are arbitrary.
 pub record IsPairOpening (m : Flight) (s : Pair) : Type 0 where
   pub processors : (p : ℕ) → p < m.procs → IsFirstProcessor m p (s.proc p)
   pub units : (u : ℕ) → u < 2 → IsFirstUnit m (s.unit u)
