@@ -29,7 +29,8 @@ use Rattle.fail_stop.specs.declared.snapshots.Snapshot.{Snapshot}
 use Rattle.fail_stop.specs.Drafts.{IsSnapshot, area_kept, areas_shown, draft_made, slot_made, state_shown, task_among}
 use Rattle.fail_stop.proofs.Joining.{image_same, of_slots}
 
--- A draft that is made of the parts that a snapshot gives is the draft of the definition.
+-- If the tasks, the view, the areas and the old image are those of a snapshot, the image that is made of them is
+-- `draft_made`.
 
 pub draft_is : (spec : Parts) (snap : Snapshot) (p : ℕ) (tasks : List Task) (seen : Seen) (areas : List (List ℤ)) (own image : List ℤ)
     → tasks ≡ eight (task_of spec snap.kernel.mode snap.kernel.frame) → seen ≡ seen_by_all spec snap.kernel.env (state_shown snap)

@@ -70,7 +70,7 @@ pub(crate) fn make_slots(
     }
 }
 
-// Returns the area of an application after the frame, by a call of its box.
+// Returns the area of an application after the frame, computed by a call of the application's box.
 fn area_drafted(rack: &mut Rack, setting: &Setting<'_>, seen: &mut Seen, a: u8) -> Area
     requires a { a < 8 }
     ensures area { let s = setting.now in result ≡ area_drafted s.spec.now s.tasks seen.old (areas_shown s.snap.now) a }

@@ -31,8 +31,8 @@ pub fn events_keep_lists()
     ensures { EventsKeepLists }
 {}
 
-/// States that the invariant implies the facts on marks, banks, places, the release, notes, the kernel's words and the
-/// words that a reader sees.
+/// States that the invariant implies the facts on marks, banks, places, the release, notes, the kernel's words and
+/// the words that a reader finds.
 pub fn kept_is_consistent()
     ensures { KeptIsConsistent }
 {}
