@@ -120,8 +120,8 @@ lost_running : (commits : ℕ → Bool) (there : Option Place) → course_fits_p
 lost_running commits None h = absurd (true_false true refl h)
 lost_running commits (Some p) h = (p, refl, ran_not (commits p.proc.0) p h)
 
--- The phase agrees with the mode in frame `f`. It is the running phase if and only if the mode is to run its target,
--- its configuration exists, and the running phase has the mode's target.
+-- The phase agrees with the mode in frame `f`. The phase is the running phase if and only if the mode is to run its
+-- target. The configuration of the phase exists, and in the running phase it is the mode's target.
 abbrev pub InPhase : Plan → CourseMode → ℕ → CoursePhase → Type 0
 InPhase plan mode f ph = (runs_in ph ≡ course_is_running plan mode f) × (conf_of ph < plan.configurations) × (runs_in ph ≡ true → conf_of ph ≡ course_target mode)
 

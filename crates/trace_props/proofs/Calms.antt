@@ -24,8 +24,8 @@ timed_in plan course f (Steady c) (Moving from halting to since) h = (f, h.deadl
 timed_in plan course f (Leaving c s) (Stable k) h = absurd h.moves
 timed_in plan course f (Leaving c s) (Moving from halting to since) h = (h.first, h.moves.1)
 
--- A reconfiguration under way began with a change of the environment and has seen no other, and its target is chosen
--- again. This holds if a window has at most one change.
+-- If a window has at most one change, then a reconfiguration under way began with a change of the environment and has
+-- seen no other, and its target is chosen again.
 abbrev pub SeesOneChange : Plan → Course → ℕ → CourseMode → Type 0
 SeesOneChange plan course f (Stable c) = Unit {0}
 SeesOneChange plan course f (Moving from halting to since) =

@@ -10,7 +10,8 @@ use Rattle.trace_props.proofs.CourseModes.{CourseMode.Moving, course_wanted}
 use Rattle.trace_props.proofs.Courses.{Course, IsCourseWithin, course_changes_at, course_changes_upto, course_mode_at}
 use Rattle.trace_props.proofs.Counting.{count_changed, count_grows, count_le}
 
--- Frame `g` has this mode, and the processors that the target uses are up in it and in the next frame.
+-- Frame `g` has the mode `Moving from halting to since`. The processors that the target uses are up in frame `g` and
+-- in the next frame.
 pub record IsWhole (plan : Plan) (course : Course) (g from : ℕ) (halting : Option ℕ) (to since : ℕ) : Type 0 where
   pub moded : course_mode_at plan course g ≡ Moving from halting to since
   pub before : plan.is_runnable to (course.env g) ≡ true

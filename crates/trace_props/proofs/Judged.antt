@@ -1,4 +1,4 @@
--- The judgement of all reconfigurations gives the first break, or a proof that all six properties hold.
+-- `first_break` is the first break of a trace, or `None` if SP1 to SP6 hold.
 use Rattle.std.proofs.Common.{◌≡◌, ℕ, suc, ◌+◌, ◌<◌, ◌≤◌, refl, arith, ap, sym, ◌∙◌, List, [], ◌∷◌, ◌⊎◌, subst}
 use mathlib.Core.Logic.{inl, inr}
 use Rattle.std.specs.Prelude.{Option, Some, None, slice_get, ◌↔◌}

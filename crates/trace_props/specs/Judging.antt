@@ -100,8 +100,8 @@ abbrev pub unchosen_to : Parts → List Row → Report → Option ConfId → Opt
 unchosen_to spec rows r None = None
 unchosen_to spec rows r (Some to) = unless_chosen (least_from (chooses spec rows r.from to) r.begin (r.end + 1 - r.begin)) r.end
 
--- The frame in which SP2 is broken: the end of the reconfiguration if the table does not choose the target in any of
--- its rows, or `None` if SP2 is kept.
+-- The frame in which SP2 is broken, or `None` if SP2 is kept. SP2 is broken in the end of the reconfiguration if the
+-- table does not choose the target in the environment of any row of the reconfiguration.
 abbrev pub unchosen_at : Parts → List Row → Report → Option ℕ
 unchosen_at spec rows r = unchosen_to spec rows r r.to
 
@@ -203,8 +203,8 @@ follows spec rows None r = false
 follows spec rows (Some before) r =
     settles spec.policy && before.end + 1 == r.begin && is_some (least_from (changes_in spec rows) (before.begin + 1) (before.end + 1 - (before.begin + 1)))
 
--- Whether a reconfiguration has a cause: the environment changes in its begin, in the row after it, or during the
--- reconfiguration just before.
+-- Whether a reconfiguration has a cause: the environment changes in its begin, in the row after its begin, or, under
+-- `Settle`, during the reconfiguration just before (`follows`).
 abbrev pub has_cause : Parts → List Row → Option Report → Report → Bool
 has_cause spec rows before r = changes_in spec rows r.begin || changes_in spec rows (r.begin + 1) || follows spec rows before r
 

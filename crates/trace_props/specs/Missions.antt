@@ -59,7 +59,7 @@ InMovingFrames Fact = (spec : Parts) (script : ScriptParts) → IsSpec spec → 
     → Fact spec script f from halting to since
 
 -- The target can run, and was chosen from the source in an environment seen since the first moving frame. Under
--- `Retarget` it was chosen in the environment of frame `f`.
+-- `Retarget` the target was chosen in the environment of frame `f`.
 pub record IsTargetChosen (spec : Parts) (script : ScriptParts) (f : ℕ) (from : ConfId) (halting : Option ConfId) (to : ConfId) (since : ℕ) : Type 0 where
   pub can_run : is_runnable spec to (env_at spec script f) ≡ true
   pub chosen_at : ℕ

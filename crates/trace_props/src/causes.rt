@@ -9,8 +9,8 @@ use scram_types::lookups::{env_before, env_in};
 use scram_types::{Env, Policy, Report, Row, Spec};
 
 // Returns the begin of a reconfiguration if SP5 is broken in it, or `None` if SP5 is kept. SP5 is broken if the
-// environment changed neither in the begin, nor in the next frame, nor during a reconfiguration just before. A begin in
-// the last row is exempt.
+// environment changed neither in the begin, nor in the next frame, nor, under `Settle`, during the reconfiguration
+// just before. A begin in the last row is exempt.
 pub(crate) fn causeless_at(
     spec: &Spec,
     rows: &[Row],

@@ -20,9 +20,9 @@ use scram_types::{Report, Row, Spec};
 /// # Errors
 ///
 /// Returns the first break: the first frame in which a property is broken, and the broken property with the smallest
-/// number there. SP1 is broken in the smaller begin at the first index at which reports and rows differ. SP2 is broken
-/// in the end of a reconfiguration, and SP3 in the end or the last row. SP4 is broken in a row, SP5 in the begin, and
-/// SP6 in a calm row.
+/// number there. SP1 is broken in the smaller begin at the first index at which the reports differ from the
+/// reconfigurations that are read off the rows. SP2 is broken in the end of a reconfiguration, and SP3 in the end or
+/// the last row. SP4 is broken in a row, SP5 in the begin, and SP6 in a calm row.
 pub fn props(spec: &Spec, rows: &[Row], told: &[Report]) -> Result<(), Broken>
     requires { length rows.now < 2 ^ 32 }
     ensures holds { IsOk result ↔ HoldsAll spec.now rows.now told.now }

@@ -19,8 +19,8 @@ pub fn reconfigurations_are_assured()
 }
 
 /// States that the target of a reconfiguration can run in each frame in which the reconfiguration is under way. The
-/// target was chosen from its source in an environment seen since the first moving frame. Under `Retarget` the target
-/// was chosen in this frame's environment.
+/// target was chosen from the reconfiguration's source in an environment seen since the first moving frame. Under
+/// `Retarget` the target was chosen in the environment of the frame.
 pub fn targets_are_chosen()
     ensures { TargetsAreChosen }
 {
@@ -35,14 +35,15 @@ pub fn halting_ends_in_time()
     know();
 }
 
-/// States that no frame of a reconfiguration is later than its phases allow.
+/// States that no frame of a reconfiguration is later than the phases of the reconfiguration allow.
 pub fn phases_are_past_in_time()
     ensures { PhasesArePastInTime }
 {
     know();
 }
 
-/// States that the number of further changes during a reconfiguration is at most the number for which its bounds allow.
+/// States that the number of further changes during a reconfiguration is at most the number for which the bounds
+/// allow.
 pub fn further_changes_are_few()
     ensures { FurtherChangesAreFew }
 {
