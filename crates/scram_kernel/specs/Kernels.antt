@@ -38,8 +38,8 @@ pub record HoldsFlight (spec : Parts) (script : ScriptParts) (f : ℕ) (image : 
   pub reading_is : reading ≡ reading_of spec (rows_below spec script f)
   pub reports_are : reports ≡ ended spec (rows_below spec script f)
 
--- After `f` frames there is room for the rest of the flight. It needs a row for each frame, and a report for each frame
--- and one at the end.
+-- After `f` frames there is room for the rest of the flight. The flight needs a row for each frame, a report for each
+-- frame, and one report at the end.
 pub record HasRoomForFlight (frames f room_of_rows room_of_reports count_of_rows count_of_reports : ℕ) : Type 0 where
   pub within : f ≤ frames
   pub rows_fit : frames ≤ room_of_rows
