@@ -94,8 +94,8 @@ impl<'a> LockFlight<'a> {
     }
 }
 
-// The processors that wait for a thread, the processors that the caller flies, and the numbers of those for which
-// threads are requested.
+// The processors that wait for a thread, the processors that the caller flies, and for each processor whether a
+// thread is requested for it.
 #[derive(Drop)]
 struct Roster {
     members: Vec<CachePadded<Member>>,
