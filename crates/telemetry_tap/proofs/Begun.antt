@@ -79,7 +79,7 @@ one_more spec rows row =
     omega (arith, parts, a, b, d, e)
 
 -- The number of reconfigurations that begin in the first `m` frames is the number of reconfigurations read from the
--- first `m` rows. It is at most `m`.
+-- first `m` rows. The number is at most `m`.
 pub begun_as_read : BeginningsAreRead → (mission : MissionParts) (m : ℕ) → m ≤ mission.script.frames → summary_begun mission m ≡ length (reports mission.spec (first_rows mission m))
 begun_as_read law mission m le =
     let rows = listed_below (row_at mission.spec mission.script) m in

@@ -11,7 +11,8 @@ pub fn summaries_tell_rows()
     beginnings_are_read();
 }
 
-/// States that the number of reconfigurations that have begun never falls, and rises by at most 1 with each frame.
+/// States that the number of reconfigurations that have begun never decreases, and rises by at most 1 with each
+/// frame.
 pub fn summaries_go_on()
     ensures { SummariesGoOn }
 {

@@ -1,5 +1,5 @@
-//! The views of seats at the table, the rule that every step keeps, and the steps. Only contracts use these types: no
-//! value of them is created.
+//! The views of seats at the table, the rule that every step keeps, and the steps. No value of these types is
+//! created.
 
 use atomic_table::{Play, Split, TableRule};
 use coverage_check::Mission;
