@@ -1,4 +1,4 @@
--- A step of a seat keeps the rule on words and views.
+-- A step of a seat keeps `Ruled`, the rule on the words and views of a table.
 use Rattle.std.proofs.Common.{◌≡◌, ◌≢◌, ◌⊎◌, ℕ, zero, suc, ◌<◌, ◌≤◌, false, refl, sym, ap, subst, ◌∙◌, inl, inr, arith, List, [], ◌∷◌, map, length}
 use Rattle.std.specs.Prelude.{Option, Some, None, IfSome, nat_eq, slice_index, slice_set}
 use Rattle.std.proofs.lemmas.Grind.{common_steps}

@@ -29,7 +29,7 @@ abbrev pub AllStand : Places → List Actor → Type 0
 AllStand at [] = Unit {0}
 AllStand at (a ∷ rest) = StandsAt at a × AllStand at rest
 
--- In some state that the law of events allows, these actors are at their places and `n` is the word at place `i`.
+-- In some state that satisfies `Kept`, these actors are at their places and `n` is the word at place `i`.
 pub record IsFound (m : Flight) (actors : List Actor) (i n : ℕ) : Type 0 where
   pub at : Places
   pub list : List ℕ

@@ -26,8 +26,9 @@ pub struct LastWords {
 }
 
 impl WordTable {
-    /// Closes the table and takes back all its seats. Returns for each processor the mark and the image that it has
-    /// committed at its place. The entries after the last processor are zero. This method does not block.
+    /// Closes the table and takes back all its seats. Returns for each processor the mark and the image that the
+    /// processor has committed at its place. The entries after the last processor are zero. This method does not
+    /// block.
     pub fn close(self, kseat: KSeat, seats: Vec<Seat>) -> LastWords
         requires kernel { IsKernelSeatOf self kseat }
         requires seats { AreSeatsOf self seats.items }

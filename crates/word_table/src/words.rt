@@ -198,8 +198,9 @@ impl<'a> Words<'a> {
         self.table.rest_kernel(rt, kseat);
     }
 
-    /// Closes the table and takes back all its seats. Returns for each processor the mark and the image that it has
-    /// committed at its place. The entries after the last processor are zero. This method does not block.
+    /// Closes the table and takes back all its seats. Returns for each processor the mark and the image that the
+    /// processor has committed at its place. The entries after the last processor are zero. This method does not
+    /// block.
     pub fn close(self, kseat: KSeat, seats: Vec<Seat>) -> LastWords
         requires kernel { IsKernelSeatOf self.table kseat }
         requires seats { AreSeatsOf self.table seats.items }
