@@ -34,16 +34,16 @@ pub record IsKernelBetween (procs frames : ℕ) (kseat : KSeat) : Type 0 where
 
 -- The invariant of a kernel between two turns. The log is that of the frames in which the kernel has noted all
 -- processors. The marks and images of the processors noted in the current frame are those that these processors have
--- committed by its end.
+-- committed by the end of that frame.
 pub record KernelCrewKeeps (mission : MissionParts) (kseat : KSeat) (kernel : KernelParts) (noted : Noted) : Type 0 where
   pub between : IsKernelBetween (length mission.spec.procs) mission.script.frames kseat
   pub log : kernel ≡ kernel_after mission.spec mission.script (frames_noted (length mission.spec.procs) kseat)
   pub noted_are : AreNoted mission (kernel_frame kseat) (kernel_steps kseat) noted
 
--- The second seat is the kernel's seat after a turn with the given result, and the first is its seat before the turn.
--- After `NotYet`, the kernel is at the same place and has counted another try. After `Worked`, it has noted more
--- processors of its frame, or is at the start of the next frame. After `Finished`, it is in the same frame and has
--- made at least as many steps as before.
+-- The second seat is the kernel's seat after a turn with the given result. The first seat is the kernel's seat before
+-- the turn. After `NotYet`, the kernel is at the same place and has counted another try. After `Worked`, it has noted
+-- more processors of its frame, or is at the start of the next frame. After `Finished`, it is in the same frame and
+-- has made at least as many steps as before.
 abbrev pub IsKernelMoved : Turn → ℕ → ℕ → KSeat → KSeat → Type 0
 IsKernelMoved NotYet procs frames before after =
     (kernel_frame after ≡ kernel_frame before) × (kernel_steps after ≡ kernel_steps before) × (kernel_tries after ≡ suc (kernel_tries before))
