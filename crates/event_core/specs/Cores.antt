@@ -81,8 +81,8 @@ ends_frame spec (KStore i) = false
 ends_frame spec Release = false
 
 -- The invariant of a core's machine. The history is a schedule that leads to the places and the stored words. The
--- list of the history contains `count` events. Its capacity is `room` events, and there is space in it for every
--- event that can still come.
+-- list of the history contains `count` events and has a capacity of `room` events. The list has space for every event
+-- that can still come.
 pub record MachineKeeps (spec : Parts) (script : ScriptParts) (places : KeptPlaces) (stored : List ℕ) (history : List Event) (room count : ℕ) : Type 0 where
   pub facts : IsSpec spec
   pub fits : Fits spec script
