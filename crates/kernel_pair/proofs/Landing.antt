@@ -1,5 +1,5 @@
--- A flight on two units satisfies its invariant at the opening. Once the flight is over, the kernel of each unit that
--- has not halted has ended all frames.
+-- A flight on two units satisfies `PairCoreKeeps` at the opening. Once the flight is over, the kernel of each unit
+-- that has not halted has ended all frames.
 use Rattle.std.proofs.Common.{◌≡◌, ◌∙◌, ◌⊎◌, ℕ, suc, ◌<◌, refl, ap, sym, subst, arith, Bool, true, false, inl, inr, List, [], ◌∷◌, ◌++◌, length}
 use Rattle.std.specs.Prelude.{Option, Some, None, drop, is_some, nat_le, slice_index_or, take, if◌then◌else◌}
 use Rattle.std.proofs.lemmas.Bool.Decides.{nat_tests}

@@ -1,4 +1,5 @@
--- An event changes one actor. These lemmas derive the invariant after the event from facts about that actor.
+-- An event changes one actor. These lemmas derive the invariant `PairKept` after the event from facts about that
+-- actor.
 use Rattle.std.proofs.Common.{◌≡◌, ℕ, zero, suc, ◌<◌, ◌≤◌, arith}
 use Rattle.std.specs.Prelude.{Option}
 use native.Mathlib.Decide.{ℕ_discrete}

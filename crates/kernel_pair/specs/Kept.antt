@@ -53,8 +53,8 @@ pub record IsNamed (halt : Option UnitHalt) (u : ℕ) : Type 0 where
   pub is : halt ≡ Some named
   pub unit : u ≡ named.unit
 
--- The words of unit `u`, and the marks and images that it has noted, are those of its frame and step. Only the unit
--- that the halt names has halted. If the flight has no frame, the unit makes no step.
+-- The words of unit `u`, and the marks and images that the unit has noted, are those of the unit's frame and step.
+-- Only the unit that the halt names has halted. If the flight has no frame, the unit makes no step.
 pub record IsUnit (m : Flight) (halt : Option UnitHalt) (u : ℕ) (x : KernelUnit) : Type 0 where
   pub below : 0 < m.frames → x.frame < m.frames
   pub still : m.frames ≡ 0 → (x.frame ≡ 0) × (x.step ≡ 0)
@@ -72,7 +72,8 @@ pub record IsUnit (m : Flight) (halt : Option UnitHalt) (u : ℕ) (x : KernelUni
 abbrev pub NotBelow : ℕ → ℕ → ℕ → ℕ → Type 0
 NotBelow k j p f = (k ≤ f) × (p < j → k < f)
 
--- The frame that processor `p` makes next is at least the frame of a unit, and above it if the unit has noted `p`.
+-- The frame that processor `p` makes next is at least the frame of a unit. If the unit has noted `p`, it is above the
+-- frame of the unit.
 abbrev pub IsAhead : Flight → ℕ → Place → KernelUnit → Type 0
 IsAhead m p place x = (f : ℕ) → frame_to_make (m.restart p) place ≡ Some f → NotBelow x.frame x.step p f
 
@@ -87,8 +88,8 @@ pub record IsReached (units : ℕ → KernelUnit) (place : Place) : Type 0 where
   pub there : unit < 2
   pub high : frames_past place ≤ suc (units unit).frame
 
--- Unless unit `y` has halted, the number of frames in which unit `x` has met it is at most the number of frames in
--- which `y` has been ready.
+-- Unless unit `y` has halted, the number of frames in which unit `x` has met unit `y` is at most the number of frames
+-- in which `y` has been ready.
 abbrev pub HasMet : Flight → KernelUnit → KernelUnit → Type 0
 HasMet m x y = y.stopped ≡ None → meetings m x.frame x.step ≤ readies m y.frame y.step
 

@@ -52,7 +52,7 @@ abbrev pub MakesReleased : Option ℕ → Place → ℕ → Type 0
 MakesReleased restart place release = (f : ℕ) × (frame_to_make restart place ≡ Some f) × (f < release)
 
 -- The exclusive upper limit of the number of steps after which a unit may halt in frame `f`. A halt may follow all
--- steps of a frame. In the last frame it must come before the last note.
+-- steps of a frame. In the last frame the halt must come before the last note.
 abbrev pub halts_below : Flight → ℕ → ℕ
 halts_below m f = if nat_lt (suc f) m.frames then m.procs + 24 else m.procs
 
@@ -76,8 +76,8 @@ halt_frame (Some h) = h.frame
 abbrev pub may_meet : ℕ → ℕ → Bool
 may_meet k ready = nat_le (2 * suc k) ready || nat_eq (ready % 2) 1
 
--- The event of unit `u` in frame `k` after `j` steps, once it has noted all processors, or `None` if it waits.
--- `ready` is the other unit's ready word.
+-- The event of unit `u` in frame `k` after `j` steps, once the unit has noted all processors, or `None` if the unit
+-- waits. `ready` is the other unit's ready word.
 abbrev pub plan_noted : Flight → ℕ → ℕ → ℕ → ℕ → Option PairEvent
 plan_noted m u k j ready =
     if nat_lt j (m.procs + 20) then Some (Store u (j - m.procs))
