@@ -1,5 +1,4 @@
--- Each state of each schedule satisfies the invariant, for a mission whose processors are up by their halts and
--- restarts.
+-- Each state of each schedule satisfies `Kept`, for a mission whose processors are up by their halts and restarts.
 use Rattle.std.proofs.Common.{◌≡◌, ℕ, zero, suc, ◌<◌, ◌≤◌, Bool, true, false, ◌&&◌, ◌||◌, refl, sym, ap, ◌∙◌, arith, List, [], ◌∷◌}
 use Rattle.std.specs.Prelude.{Option, Some, None, nat_eq, is_none, is_some, if◌then◌else◌}
 use Rattle.std.proofs.lemmas.Bool.Decides.{nat_tests}

@@ -1,5 +1,5 @@
--- A step of a processor changes only its own place and its own words. These lemmas derive the invariant after the
--- step from facts on that place and these words.
+-- A step of a processor changes only its own place and its own words. These lemmas derive the invariant `Kept` after
+-- the step from facts on that place and these words.
 use Rattle.std.proofs.Common.{◌≡◌, ◌≢◌, ℕ, ◌<◌, true, false, refl, sym, ap, ◌∙◌, arith}
 use Rattle.std.specs.Prelude.{Option, Some, None, nat_eq}
 use Rattle.std.proofs.lemmas.Bool.Decides.{nat_tests}

@@ -23,7 +23,7 @@ abbrev pub unit_rack : {X : Type 0} {Y : X → Type 0} → HeldUnit X Y → Opti
 unit_rack (Up live) = Some live.rack
 unit_rack (Down halted) = None
 
--- A unit after a start. A halted unit becomes live again with its spare rack, if it has one.
+-- A unit after a start. A halted unit becomes live again with the spare rack, if there is one.
 abbrev pub unit_started : {X : Type 0} {Y : X → Type 0} → HeldUnit X Y → Option (Rack X Y) → HeldUnit X Y
 unit_started (Up live) spare = Up live
 unit_started (Down halted) None = Down halted

@@ -1,5 +1,5 @@
--- The law of events: the invariant on places and words in each state of each schedule of a script that fits its
--- specification.
+-- The law of events. The invariant `Kept` on places and words holds in each state of each schedule of a script that
+-- fits its specification.
 use Rattle.std.specs.Prelude.{◌≡◌, ◌⊎◌, ℕ, suc, ◌<◌, List, length}
 use Rattle.scram_types.specs.Scripts.{ScriptParts}
 use Rattle.scram_types.specs.Specification.{IsSpec, Parts}
@@ -34,7 +34,7 @@ pub record IsOfTrace (spec : Parts) (script : ScriptParts) : Type 0 where
 abbrev pub FlightsAreOfTraces : Type 0
 FlightsAreOfTraces = (spec : Parts) (script : ScriptParts) → Fits spec script → IsOfTrace spec script
 
--- The opening state satisfies the invariant.
+-- The opening state satisfies `Kept`.
 abbrev pub OpeningKeeps : Type 0
 OpeningKeeps = (spec : Parts) (script : ScriptParts) → Fits spec script
     → Kept (flight_of spec script) opening_places (opening_words (flight_of spec script))
@@ -58,7 +58,7 @@ abbrev pub OpeningListsAreOfScripts : Type 0
 OpeningListsAreOfScripts = (spec : Parts) (script : ScriptParts) → IsSpec spec
     → IsOpening spec script (opening_list script.frames (kernel_words spec script 0) (state_after spec script 0).areas (state_after spec script 0).keepers)
 
--- An event that is the next of its actor preserves the invariant.
+-- An event that is the next of its actor preserves `Kept`.
 abbrev pub EventsKeep : Type 0
 EventsKeep = (spec : Parts) (script : ScriptParts) → Fits spec script
     → (at : Places) (words : Word → ℕ) (event : Event) (at_after : Places) (words_after : Word → ℕ)
@@ -66,7 +66,7 @@ EventsKeep = (spec : Parts) (script : ScriptParts) → Fits spec script
     → Happens (flight_of spec script) at words event at_after words_after
     → Kept (flight_of spec script) at_after words_after
 
--- An event that is the next of its actor preserves the invariant if the words are kept in one list.
+-- An event that is the next of its actor preserves `Kept` if the words are kept in one list.
 abbrev pub EventsKeepLists : Type 0
 EventsKeepLists = (spec : Parts) (script : ScriptParts) → IsSpec spec → Fits spec script
     → (at : Places) (list : List ℕ) (event : Event) (at_after : Places)
@@ -74,12 +74,12 @@ EventsKeepLists = (spec : Parts) (script : ScriptParts) → IsSpec spec → Fits
     → Moves (flight_of spec script) at event at_after
     → Kept (flight_of spec script) at_after (stored_in (list_after list (writes (flight_of spec script) at (stored_in list) event)))
 
--- The invariant implies each fact of `IsConsistent`.
+-- `Kept` implies `IsConsistent`.
 abbrev pub KeptIsConsistent : Type 0
 KeptIsConsistent = (spec : Parts) (script : ScriptParts) → Fits spec script → (at : Places) (words : Word → ℕ)
     → Kept (flight_of spec script) at words → IsConsistent (flight_of spec script) at words
 
--- Each state of each schedule satisfies the invariant.
+-- Each state of each schedule satisfies `Kept` and `IsConsistent`.
 abbrev pub SchedulesKeep : Type 0
 SchedulesKeep = (spec : Parts) (script : ScriptParts) → Fits spec script → (events : List Event) (state : Machine)
     → IsSchedule (flight_of spec script) (opening (flight_of spec script)) events state
