@@ -24,8 +24,8 @@ timed_in plan course f (Steady c) (Moving from halting to since) h = (f, h.deadl
 timed_in plan course f (Leaving c s) (Stable k) h = absurd h.moves
 timed_in plan course f (Leaving c s) (Moving from halting to since) h = (h.first, h.moves.1)
 
--- If a window has at most one change, then a reconfiguration under way began with a change of the environment and has
--- seen no other, and its target is chosen again.
+-- In a moving mode, frame `since` is a change frame, no later frame up to frame `f` is a change frame, and the target
+-- is chosen again in frame `f`. A stable mode always satisfies the condition.
 abbrev pub SeesOneChange : Plan → Course → ℕ → CourseMode → Type 0
 SeesOneChange plan course f (Stable c) = Unit {0}
 SeesOneChange plan course f (Moving from halting to since) =

@@ -165,13 +165,13 @@ breaks_target_precondition row to pre = goes_to to pre.conf && breaks_preconditi
 abbrev pub unmet_in : Parts → Row → Option ConfId → Bool
 unmet_in spec row to = list_any (breaks_target_precondition row to) spec.preconditions
 
--- The frame before a given end if it has a row that does not meet some precondition of the target, or `None`
+-- The frame before a given end if its row exists and does not meet some precondition of the target, or `None`
 -- otherwise.
 abbrev pub unmet_before : Parts → List Row → Option ConfId → ℕ → Option ℕ
 unmet_before spec rows to zero = None
 unmet_before spec rows to (suc f) = option_and_then (λ (row : Row). if unmet_in spec row to then Some f else None) (slice_get rows f)
 
--- The frame before the end of a reconfiguration if it has a row that does not meet some precondition of the target,
+-- The frame before the end of a reconfiguration if its row exists and does not meet some precondition of the target,
 -- or `None` otherwise.
 abbrev pub unmet_at : Parts → List Row → Report → Option ℕ
 unmet_at spec rows r = unmet_before spec rows r.to r.end

@@ -98,8 +98,8 @@ SeesFewChanges spec script f from halting to since = changes_since spec script f
 abbrev pub FurtherChangesAreFew : Type 0
 FurtherChangesAreFew = InMovingFrames SeesFewChanges
 
--- A finished flight is the one-thread trace of a mission, for which all properties hold. It has a row for each frame,
--- and the number of its reconfigurations is at most the number of its rows.
+-- A finished flight is the one-thread trace of a mission, for which all properties hold. The flight has a row for
+-- each frame. The number of its reconfigurations is at most the number of its rows.
 pub record IsTraceOf (mission : MissionParts) (flown : Flown) : Type 0 where
   pub rows : flown.rows ≡ rows_of mission.spec mission.script
   pub reports : flown.reports ≡ reports_of mission.spec mission.script

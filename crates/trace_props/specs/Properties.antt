@@ -64,8 +64,8 @@ InvariantHolds inv row = Between (inv.least, inv.greatest) (word (area_at row.ar
 abbrev pub PreconditionHolds : Precondition → Row → Type 0
 PreconditionHolds pre row = Between (pre.least, pre.greatest) (word (area_at row.areas pre.app.0) pre.variable)
 
--- SP4 of a reconfiguration: the invariants for its source hold in its rows, from the begin to the end or to the last
--- row. In addition, the preconditions of its target hold in the row before its end.
+-- SP4 of a reconfiguration: the invariants for the source hold in the rows of the reconfiguration, from the begin to
+-- the end or to the last row. In addition, the preconditions of the target hold in the row before the end.
 pub record KeepsSp4 (spec : Parts) (rows : List Row) (r : Report) : Type 0 where
   pub throughout : Each (λ (inv : Invariant). has_source inv.from r.from ≡ true → (f : ℕ) (row : Row) → r.begin ≤ f → f ≤ r.end
       → slice_get rows f ≡ Some row → InvariantHolds inv row) spec.invariants
