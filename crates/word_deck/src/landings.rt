@@ -125,7 +125,7 @@ pub(crate) fn fly_crew<R: Wait>(
 }
 
 /// Starts a thread for a processor and returns the handle of the thread. If no thread can be created, leaves the
-/// boxes in the cell and returns the seat in a landing with `flown` set to `false`.
+/// boxes in the cell and returns, as the error, a landing with the seat and with `flown` set to `false`.
 pub(crate) fn start<'s, E, R: Wait + Threads + Sync>(
     scope: &Scope<'s, E>,
     rt: &'s R,
