@@ -1,4 +1,4 @@
--- A state whose actors are those of the opening is an opening, and has the invariant of a pair.
+-- A state whose actors are those of the opening is an opening. A pair in such a state satisfies `PairKeeps`.
 use Rattle.std.proofs.Common.{◌≡◌, ◌∙◌, ℕ, zero, suc, ◌+◌, ◌*◌, ◌<◌, ◌≤◌, refl, ap, arith, List, [], length}
 use Rattle.std.specs.Prelude.{Option, nat_eq, slice_index_or, if◌then◌else◌}
 use Rattle.scram_types.specs.Scripts.{ScriptParts}
