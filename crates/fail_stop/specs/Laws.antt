@@ -22,7 +22,8 @@ use Rattle.fail_stop.specs.Openings.{opening_list}
 use Rattle.fail_stop.specs.Schedules.{IsSchedule, Machine, opening}
 use Rattle.fail_stop.specs.ScriptFlights.{flight_of, image_words_after, kernel_words}
 
--- The flight of a script commits the frames that the one-thread trace commits, and has its marks and images.
+-- The flight of a script commits the frames that the one-thread trace commits, and has the marks and images of the
+-- one-thread trace.
 pub record IsOfTrace (spec : Parts) (script : ScriptParts) : Type 0 where
   pub flies : Flies (flight_of spec script)
   pub committed : (p f : ℕ) → is_committed (flight_of spec script) p f ≡ commits spec script p f
@@ -39,9 +40,9 @@ abbrev pub OpeningKeeps : Type 0
 OpeningKeeps = (spec : Parts) (script : ScriptParts) → Fits spec script
     → Kept (flight_of spec script) opening_places (opening_words (flight_of spec script))
 
--- A list holds the words before the first event. The release is 1, or 0 if the flight has no frame. The kernel's words
--- are those of frame 0, and all marks and end words are 0. Bank 0 of each processor holds its image before frame 0, and
--- bank 1 holds zeros.
+-- A list holds the words before the first event. The release is 1, or 0 if the flight has no frame. The kernel's
+-- words are those of frame 0, and all marks and end words are 0. Bank 0 of each processor holds the processor's image
+-- before frame 0, and bank 1 holds zeros.
 pub record IsOpening (spec : Parts) (script : ScriptParts) (list : List ℕ) : Type 0 where
   pub long : length list ≡ word_index_count
   pub released : 0 < script.frames → stored_in list ReleaseWord ≡ 1
@@ -99,7 +100,8 @@ abbrev pub ReadersFind : Type 0
 ReadersFind = (spec : Parts) (script : ScriptParts) → Fits spec script → (at : Places) (words : Word → ℕ)
     → Kept (flight_of spec script) at words → (p f n : ℕ) → p < length spec.procs → Reads at p f n → Finds spec script words f
 
--- The mark of processor `p` is its mark after frame `k`, and the marked bank holds the image of `p` after that frame.
+-- The mark of processor `p` is the mark of `p` after frame `k`, and the marked bank holds the image of `p` after that
+-- frame.
 pub record IsNoted (spec : Parts) (script : ScriptParts) (words : Word → ℕ) (k p : ℕ) : Type 0 where
   pub mark : words (MarkWord p) ≡ mark_after spec script p (suc k)
   pub held : (i : ℕ) → i < width_of spec

@@ -43,8 +43,8 @@ pub fn schedules_keep()
     ensures { SchedulesKeep }
 {}
 
-/// States that a processor that reads in a frame finds the images and the kernel's words of that frame. The banks that
-/// it chooses do not change meanwhile.
+/// States that a processor that reads in a frame finds the images and the kernel's words of that frame. The banks
+/// that the processor chooses do not change meanwhile.
 pub fn readers_find()
     ensures { ReadersFind }
 {}
