@@ -34,8 +34,8 @@ abbrev pub written_by : (ℕ → CourseAct) → Written → ℕ → Written
 written_by acts w zero = w
 written_by acts w (suc f) = written_after (acts f) (written_by acts w f)
 
--- The laws of areas. `lies a w v` states that area `v` of application `a` lies in the ranges of its writer `w`, and
--- `initialised a p v` that it lies in the ranges after a whole initialisation at `p`.
+-- The laws of areas. `lies a w v` states that area `v` of application `a` lies in the ranges of its writer `w`.
+-- `initialised a p v` states that area `v` of application `a` lies in the ranges after a whole initialisation at `p`.
 pub record AreaLaws : Type 0 where
   pub lies : ℕ → Written → CourseArea → Bool
   pub initialised : ℕ → Place → CourseArea → Bool

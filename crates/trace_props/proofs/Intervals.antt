@@ -86,7 +86,7 @@ module _ (spec : Parts) (sound : IsSpec spec) (accepts : Accepts spec) where
       kept = accepts.kept k inv there (conf_id i) known (source_is inv.from i speaks)
 
       -- If the application has this place in `i` or in a possible target of `i`, then the invariant holds the ranges
-      -- in which it is left.
+      -- in which the place is left.
       left_at : (o : Option Place) → IsPlacedInEither (plan_of spec) (build_of spec) i inv.app.0 o → holds_leaving spec inv o ≡ true
       left_at o site = elim site [
         | inl here ↦ rw here at kept.leaving

@@ -5,7 +5,8 @@ use Rattle.trace_props.proofs.Plans.{Plan, IsAcceptedPlan, plan_further, plan_ha
 use Rattle.trace_props.proofs.CourseModes.{CourseMode, CourseMode.Stable, CourseMode.Moving}
 use Rattle.trace_props.proofs.Courses.{Course, CourseReading, CourseReading.Steady, CourseReading.Leaving, CourseReport, course_reading_before, course_report_at, course_changes_at, course_changes_upto, course_mode_at, IsCourseWithin, IsCourseFlown}
 
--- A reconfiguration that begins in frame `s` follows another one, which saw a change after its begin.
+-- A reconfiguration that begins in frame `s` follows another one. The environment changed during that other one after
+-- its begin.
 pub record CourseFollows (plan : Plan) (course : Course) (s : ℕ) : Type 0 where
   pub settles : plan.settles ≡ true
   pub before : CourseReport

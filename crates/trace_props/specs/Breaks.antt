@@ -35,7 +35,7 @@ lesser_begin (Some one) (Some other) = Some (min one.begin other.begin)
 
 -- SP1 is broken in `frame`: the reports differ from the reconfigurations that are read off the rows. At the first
 -- index at which the two lists differ, `frame` is the smaller begin of the two reconfigurations there. If one list
--- has ended, it is the begin of the reconfiguration in the other list.
+-- has ended, `frame` is the begin of the reconfiguration in the other list.
 pub record BreaksSp1 (told read : List Report) (frame : ℕ) : Type 0 where
   pub place : ℕ
   pub alike : (k : ℕ) → k < place → slice_get told k ≡ slice_get read k

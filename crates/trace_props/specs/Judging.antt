@@ -213,8 +213,8 @@ has_cause spec rows before r = changes_in spec rows r.begin || changes_in spec r
 abbrev pub causeless_at : Parts → List Row → Option Report → Report → Option ℕ
 causeless_at spec rows before r = if nat_le (length rows) (r.begin + 1) || has_cause spec rows before r then None else Some r.begin
 
--- The first break of SP2 to SP5 by a reconfiguration, or `None` if it keeps them. `before` is the reconfiguration
--- that was read just before.
+-- The first break of SP2 to SP5 by a reconfiguration, or `None` if the reconfiguration keeps them. `before` is the
+-- reconfiguration that was read just before.
 abbrev pub broken_in : Parts → List Row → Option Report → Report → Option Broken
 broken_in spec rows before r = earlier
     (earlier (broken_at Sp2 (unchosen_at spec rows r)) (broken_at Sp3 (late_at spec r)))

@@ -1,5 +1,5 @@
--- Theorems on missions. A mission is an accepted specification and a script that fits it and keeps to its failure
--- assumption.
+-- Theorems on missions. A mission is an accepted specification and a script that fits the specification and keeps to
+-- its failure assumption.
 use Rattle.std.specs.Prelude.{◌≡◌, ℕ, suc, ◌+◌, ◌-◌, ◌*◌, ◌≤◌, true, length, Option}
 use Rattle.scram_types.specs.declared.ids.ConfId.{ConfId}
 use Rattle.scram_types.specs.declared.orders.KMode.{KMode}
@@ -38,8 +38,8 @@ begin_in (Leaving c begin) f = begin
 abbrev pub begin_at : Parts → ScriptParts → ℕ → ℕ
 begin_at spec script f = begin_in (reading_of spec (listed_below (row_at spec script) f)) f
 
--- The first moving frame of a reconfiguration, given its begin and the mode of that frame. It is the begin if the
--- mode is a moving one, or else the frame after it.
+-- The first moving frame of a reconfiguration, given its begin and the mode in the frame of the begin. It is the
+-- begin if the mode is a moving one, or else the frame after the begin.
 abbrev pub first_moving_in : KMode → ℕ → ℕ
 first_moving_in (Stable c) begin = suc begin
 first_moving_in (Moving from halting to since) begin = begin

@@ -104,8 +104,8 @@ fn judge(
     }
 }
 
-// Returns the first break of SP2 to SP5 by a reconfiguration, or `None` if it keeps them. `before` is the
-// reconfiguration that was read just before.
+// Returns the first break of SP2 to SP5 by a reconfiguration, or `None` if the reconfiguration keeps them. `before`
+// is the reconfiguration that was read just before.
 fn broken_in(spec: &Spec, rows: &[Row], before: Option<Report>, read: Report) -> Option<Broken>
     ensures { result ≡ broken_in spec.now rows.now before read }
 {

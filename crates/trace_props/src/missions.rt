@@ -1,5 +1,5 @@
-//! Theorems on missions. Each function here states a theorem by its contract and does nothing. A mission is an accepted
-//! specification and a script that fits it and keeps to its failure assumption.
+//! Theorems on missions. Each function here states a theorem by its contract and does nothing. A mission is an
+//! accepted specification and a script that fits the specification and keeps to its failure assumption.
 
 ghost use Rattle.trace_props.specs.Missions.{FurtherChangesAreFew, HaltingEndsInTime, PhasesArePastInTime, ReconfigurationsAreAssured, TargetsAreChosen};
 ghost use Rattle.trace_props.specs.Calms.{CalmSettles};
