@@ -124,7 +124,7 @@ fn make_members(
 }
 
 // Takes the last rack and the last spare rack, and adds the processor with these racks if the mission has it. The
-// number of the processor is the number of racks that remain.
+// number of the processor is the number of racks that remain. The only error is that memory runs out.
 fn add_next(
     mission: &Mission,
     racks: &mut Vec<Rack>,
@@ -168,7 +168,7 @@ fn take_rack(racks: &mut Vec<Rack>) -> Option<Rack>
     racks.pop()
 }
 
-// Adds a processor to the processors that wait for a thread.
+// Adds a processor to the processors that wait for a thread. The only error is that memory runs out.
 fn add_member(members: &mut Vec<CachePadded<Member>>, member: Member) -> Result<(), NoMemory>
     ensures { OnOk result ((mission : MissionParts) → MemberFits mission member → All (λ member. MemberFits mission member.value) members.old.items
         → All (λ member. MemberFits mission member.value) members.new.items) }
