@@ -24,7 +24,8 @@ use Rattle.event_core.specs.Replays.{IsReplay}
 use Rattle.event_core.proofs.Ending.{ended_by}
 
 module _ (m : Flight) where
-  -- The number of notes in all frames before the kernel's frame and in that frame so far.
+  -- The number of notes in the frames before the kernel's frame, plus the number of notes made so far in the kernel's
+  -- frame.
   abbrev noted : Places → ℕ
   noted at = m.procs * at.frame + min at.step m.procs
 

@@ -1,4 +1,4 @@
--- Lemmas on the number of frames that have ended, and on the kernel after them.
+-- Lemmas on the number of frames that have ended, and on the kernel after these frames.
 use Rattle.std.proofs.Common.{◌≡◌, ◌∙◌, ℕ, ◌+◌, Bool, true, false, refl, ap, sym, subst, arith, List, length}
 use Rattle.std.specs.Prelude.{nat_le, if◌then◌else◌}
 use Rattle.std.proofs.lemmas.Bool.Decides.{nat_tests}
@@ -74,7 +74,8 @@ module _ (spec : Parts) (facts : IsSpec spec) (script : ScriptParts) (places pla
       let after : nat_le (length spec.procs) places2.step ≡ true = grind (arith, nat_tests, last) in
       record { step = last; same = frame; before = ended_by spec places false before ∙ sym frame; after = ended_by spec places2 true after }
 
--- If the kernel ends the frame, or waits for another note, then the core keeps its invariant.
+-- Lemmas on a core whose machine satisfies `MachineKeeps`. If the kernel of the core is the kernel after the frames
+-- that have ended, the core satisfies `CoreKeeps`.
 module _ (spec : Parts) (script : ScriptParts) (places2 : KeptPlaces) (stored2 : List ℕ) (history2 : List Event) (room2 count2 : ℕ) (machine : MachineKeeps spec script places2 stored2 history2 room2 count2)
     (kernel : KernelParts) where
   pub core_on : frames_ended spec places2 ≡ places2.frame + 1 → kernel ≡ kernel_after spec script (places2.frame + 1) → CoreKeeps spec script places2 stored2 history2 room2 count2 kernel

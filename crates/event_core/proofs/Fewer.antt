@@ -15,7 +15,7 @@ use Rattle.fail_stop.proofs.Plans.{Begin, HaltsHere, Mid, begin, both_less, gate
 use Rattle.fail_stop.proofs.Moves.{nat_eq_self}
 use Rattle.event_core.specs.Rooms.{events_a_frame, events_left, left_at, left_below, left_of_kernel}
 
--- The events of the frames that remain are the events of one frame and of the frames after it.
+-- If `f < frames`, then `(frames - f) * c` equals `c + (frames - suc f) * c`.
 pub frame_less : (frames f c : ℕ) → f < frames → (frames - f) * c ≡ c + (frames - suc f) * c
 frame_less frames f c low = let e : frames - f ≡ 1 + (frames - suc f) = omega arith in rw e (grind arith)
 
@@ -45,7 +45,7 @@ sum_less m at at2 p (suc n) low less same = elim (ends p n low) [
   sum_same zero all = refl
   sum_same (suc k) all = let front = sum_same k (λ q below. all q (omega arith)) in let here = all k (omega arith) in omega (arith, front, here)
 
--- If a processor has a next event at the opening, then the flight has a frame.
+-- If a processor has a next event at the opening, then the flight has at least one frame.
 begun_flies : (m : Flight) (words : Word → ℕ) (p : ℕ) (e : Event) → next_of m opening_places words p ≡ Some e → 0 < m.frames
 begun_flies m words p e i =
     let a = (gate (nat_lt p m.procs) (next_from m p (words ReleaseWord) (At 0 0)) e i).1 in
@@ -62,13 +62,13 @@ first_flies m words (KNote p) i = is_less 0 m.frames (gate (nat_lt 0 m.frames) _
 first_flies m words (KStore x) i = is_less 0 m.frames (gate (nat_lt 0 m.frames) _ (KStore x) i).0
 first_flies m words Release i = is_less 0 m.frames (gate (nat_lt 0 m.frames) _ Release i).0
 
--- If some actor has a next event after a schedule, then the flight has a frame.
+-- If some actor has a next event after a schedule, then the flight has at least one frame.
 pub has_frames : (m : Flight) (es : List Event) (t : Machine) (e : Event) → IsSchedule m (opening m) es t → IsNext m t.at t.words e → 0 < m.frames
 has_frames m [] t e is next = first_flies m (opening_words m) e (subst (λ (s : Machine). IsNext m s.at s.words e) is next)
 has_frames m (x ∷ es) t e is next = first_flies m (opening_words m) x is.0
 
 module _ (m : Flight) where
-  -- A step within frame `f` reduces the number of events left for its processor.
+  -- A step within frame `f` reduces the number of events left for the processor that makes the step.
   step_less : (f n : ℕ) → f < m.frames → n + 1 < events_a_frame m → left_at m (At f (suc n)) < left_at m (At f n)
   step_less f n low within = let e = frame_less m.frames f (events_a_frame m) low in omega (arith, e)
 

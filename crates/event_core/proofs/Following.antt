@@ -28,7 +28,7 @@ use Rattle.event_core.specs.Flyers.{AreLastDrafts, FlyBy, FlyersFit, IsLastDraft
 use Rattle.event_core.specs.Places.{HasLooked, kept_opening, machine_places}
 use Rattle.event_core.proofs.Opens.{places_open}
 
--- A processor that has looked is live.
+-- A processor that has made all looks of its frame, but neither its flip nor its halt, has not halted.
 pub looked_flies : (m : Flight) (place : Place) → HasLooked m place → is_halted place ≡ false
 looked_flies m (At f n) looked = refl
 looked_flies m (Halted h) looked = absurd looked
@@ -81,7 +81,7 @@ module _ {X : Type 0} {Y : X → Type 0} (m : Flight) where
       (let own : is_actor e p ≡ true = by p ∙ grind (arith, nat_tests) in rw own is)
       (λ q other. let foreign : is_actor e q ≡ false = by q ∙ grind (arith, nat_tests, other) in rw foreign refl)
 
-  -- If one processor has drafted, then all processors stay at their places.
+  -- If one processor has made a draft, then all processors are still at their places.
   pub flyers_drafted : (at : ℕ → Place) (flyers : List (Flyer X Y)) (p : ℕ) (was flyer : Flyer X Y) → AreFlyersAt m at flyers → p < 8 → is_halted (at p) ≡ false → IsFlyerAt m p (at p) was
       → is_down flyer.unit ≡ false → unit_proc flyer.unit ≡ unit_proc was.unit → flyer.spare ≡ was.spare → AreFlyersAt m at (slice_set flyers p flyer)
   flyers_drafted at flyers p was flyer are low flies is up number spare = flyers_with m at at flyers p flyer are low

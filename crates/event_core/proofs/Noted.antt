@@ -1,4 +1,4 @@
--- Lemmas that the marks and images that the kernel is given at the end of a frame are those of the one-thread trace.
+-- The marks and images that the kernel reads at the end of a frame are those of the one-thread trace.
 use Rattle.std.proofs.Common.{◌≡◌, ◌∙◌, ℕ, suc, ℤ, ◌+◌, ◌*◌, ◌/◌, ◌%◌, ◌<◌, ◌≤◌, refl, ap, sym, subst, arith, true, List, length}
 use Rattle.std.specs.Prelude.{nat_le}
 use Rattle.std.proofs.lemmas.Bool.Decides.{nat_tests}

@@ -1,4 +1,4 @@
--- Lemmas that a core has its invariant at the opening.
+-- A core satisfies its invariant at the opening.
 use Rattle.std.proofs.Common.{◌≡◌, ◌∙◌, ℕ, zero, suc, ◌+◌, ◌*◌, ◌≤◌, refl, ap, sym, subst, arith, false, List, [], length}
 use Rattle.std.specs.Prelude.{ℤ, Option, nat_le, replicate, slice_index_or}
 use Rattle.scram_types.specs.declared.ids.ProcId.{ProcId}
@@ -61,7 +61,8 @@ open_keeps spec script first areas keepers places stored history room count fact
       room_left = subst (λ n. n + events_left (flight_of spec script) (machine_places places) ≤ room) (sym is_count) (subst (λ n. n ≤ room) (sym left) is_room);
     }
 
--- A core whose kernel has not begun the first frame keeps its invariant.
+-- A core satisfies `CoreKeeps` if its machine satisfies `MachineKeeps`, its places are the opening places, and its
+-- kernel is the kernel before the first frame.
 pub opened : (spec : Parts) (script : ScriptParts) (places : KeptPlaces) (stored : List ℕ) (history : List Event) (room count : ℕ) (kernel : KernelParts)
     → MachineKeeps spec script places stored history room count → places ≡ kept_opening → kernel ≡ kernel_after spec script 0 → CoreKeeps spec script places stored history room count kernel
 opened spec script places stored history room count kernel machine is_places is_kernel =

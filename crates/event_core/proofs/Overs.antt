@@ -26,7 +26,7 @@ use Rattle.event_core.proofs.Ending.{ended_by}
 use Rattle.event_core.proofs.Fewer.{first_flies}
 use Rattle.event_core.proofs.Steps.{kept_of}
 
--- A processor that the kernel has noted in the last frame is done.
+-- A processor that the kernel has noted in the last frame has flown all frames or has halted for good.
 done_by : (m : Flight) (k j p : ℕ) (place : Place) → IsPlaced m k j p place → p < j → suc k ≡ m.frames → ((r : ℕ) → m.restart p ≡ Some r → r < m.frames) → IsDone m p place
 done_by m k j p (At f n) is noted last within = let past = is.noted noted in omega (arith, past, is.high, last)
 done_by m k j p (Halted h) is noted last within = λ r back. by_frame r back (dec_le r h)
@@ -66,7 +66,8 @@ module _ {spec : Parts} {script : ScriptParts} {places : KeptPlaces} {stored : L
   over_ended (inl none) = none_ended none
   over_ended (inr last) = all_ended last.1 last.2
 
--- If the flight has no frame, or the kernel has noted all processors in the last frame, then the core is over.
+-- If the flight has no frame, or the kernel has noted all processors in the last frame, then the flight of the core
+-- is over.
 pub over_by : (core : CoreParts) (spec : Parts) (script : ScriptParts) (places : KeptPlaces) (stored : List ℕ) (history : List Event) (room count : ℕ) → core_of spec script places stored history ≡ core
     → MachineKeeps spec script places stored history room count → (script.frames ≡ 0) ⊎ ((suc places.frame ≡ script.frames) × (length spec.procs ≤ places.step)) → IsOver (core_flight core) (core_places core)
 over_by core spec script places stored history room count is k over = subst (λ (core : CoreParts). IsOver (core_flight core) (core_places core)) is (is_over k over)

@@ -1,4 +1,4 @@
--- Lemmas that a history to which a next event is appended is a schedule again.
+-- If the next event of an actor is appended to a history, the result is a schedule again.
 use Rattle.std.proofs.Common.{◌≡◌, ◌∙◌, ℕ, ◌<◌, Bool, true, false, refl, ap, sym, subst, arith, List, [], ◌∷◌, ◌++◌}
 use Rattle.std.specs.Prelude.{Option, Some, None, nat_lt, if◌then◌else◌}
 use Rattle.std.proofs.lemmas.Bool.Decides.{nat_tests}
@@ -46,7 +46,7 @@ module _ (m : Flight) (at : Places) (v w : Word → ℕ) (same : (x : Word) → 
   next_moved (KStore x) i = sym kernel_same ∙ i
   next_moved Release i = sym kernel_same ∙ i
 
--- The places and words to which a history leads satisfy the invariant.
+-- The places and words to which a history leads satisfy the invariant `Kept`.
 pub replay_kept : (m : Flight) (events : List Event) (at : Places) (words : Word → ℕ) → Flies m → IsReplay m events at words → Kept m at words
 replay_kept m events at words y r =
     let k = each_state m events r.state y r.schedule in

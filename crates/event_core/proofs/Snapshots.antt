@@ -1,4 +1,4 @@
--- Lemmas that the words that a processor that has looked reads are the snapshot of its frame.
+-- The words that a processor reads once it has made all looks of its frame are the snapshot of that frame.
 use Rattle.std.proofs.Common.{◌≡◌, ◌∙◌, ◌⊎◌, ℕ, pos, ◌<◌, ◌≤◌, false, refl, ap, sym, subst, arith, List, ◌∷◌, length}
 use Rattle.std.specs.Prelude.{nat_le, nat_lt, slice_index_or}
 use Rattle.std.proofs.lemmas.Bool.Decides.{nat_tests}
@@ -31,7 +31,7 @@ use Rattle.event_core.proofs.Ending.{ended_by}
 use Rattle.event_core.proofs.ImagesFound.{images_found}
 use Rattle.event_core.proofs.Steps.{kept_of}
 
--- Lemmas that twenty words that equal those of a kernel image one by one are the words of the image.
+-- Twenty words are those of a kernel image if each of them equals the word of the image at the same index.
 next_same : (x y : ℕ) (xs ys : List ℕ) → x ≡ y → xs ≡ ys → x ∷ xs ≡ y ∷ ys
 next_same x y xs ys is are = rw (is, are) refl
 
@@ -43,7 +43,7 @@ words_are stored image held =
     (next_same _ _ _ _ (held 12 (omega arith)) (next_same _ _ _ _ (held 13 (omega arith)) (next_same _ _ _ _ (held 14 (omega arith)) (next_same _ _ _ _ (held 15 (omega arith))
     (next_same _ _ _ _ (held 16 (omega arith)) (next_same _ _ _ _ (held 17 (omega arith)) (next_same _ _ _ _ (held 18 (omega arith)) (next_same _ _ _ _ (held 19 (omega arith)) refl)))))))))))))))))))
 
--- A processor that has looked is in the kernel's frame and is not noted in it.
+-- Processor `p` is in the kernel's frame and is not noted in it. The stored words satisfy `Finds` for that frame.
 pub record Looking (spec : Parts) (script : ScriptParts) (places : KeptPlaces) (stored : List ℕ) (p : ℕ) : Type 0 where
   pub now : frame_of ((machine_places places).proc p) ≡ places.frame
   pub early : places.step ≤ p
@@ -76,7 +76,8 @@ module _ {spec : Parts} {script : ScriptParts} {places : KeptPlaces} {stored : L
   pub looking : (p : ℕ) → p < length spec.procs → HasLooked (flight_of spec script) ((machine_places places).proc p) → Looking spec script places stored p
   looking p low looked = at_place p ((machine_places places).proc p) low refl looked
 
--- If a processor of a core has looked, then it is in the frame of the core's kernel and is not noted in it.
+-- If a processor of a core has made all looks of its frame, but neither its flip nor its halt, then it is in the
+-- frame of the core's kernel and is not noted in it.
 pub looking_in : (core : CoreParts) (spec : Parts) (script : ScriptParts) (places : KeptPlaces) (stored : List ℕ) (history : List Event) (room count p : ℕ) → core_of spec script places stored history ≡ core
     → MachineKeeps spec script places stored history room count → ReadersFind → p < length core.spec.procs → HasLooked (core_flight core) ((core_places core).proc p) → Looking spec script places stored p
 looking_in core spec script places stored history room count p is k find low looked =
@@ -98,7 +99,7 @@ held_now : (spec : Parts) (script : ScriptParts) (stored : List ℕ) (f : ℕ) �
     → (p i : ℕ) → p < length spec.procs → i < words spec → stored_in stored (BankWord p (bank_taken stored f p) i) ≡ word_in (image_words_after spec script p f) i
 held_now spec script stored f finds p i low inside = ap (λ b. stored_in stored (BankWord p b i)) (finds.picked p low) ∙ finds.held p i low inside
 
--- The kernel image and the images that are read are the snapshot of the processor's frame.
+-- The kernel image of a processor's frame and the images that are read in that frame are the snapshot of that frame.
 pub snapshot_by : (core : CoreParts) (spec : Parts) (script : ScriptParts) (places : KeptPlaces) (stored : List ℕ) (history : List Event) (room count p : ℕ) (snap : Snapshot) (frame : ℕ)
     → core_of spec script places stored history ≡ core → MachineKeeps spec script places stored history room count → Looking spec script places stored p
     → snap.kernel ≡ kernel_image spec script places.frame → frame ≡ frame_of ((core_places core).proc p)
@@ -115,7 +116,7 @@ snapshot_by core spec script places stored history room count p snap frame is k 
     subst (λ (core : CoreParts). IsSnapshot core.spec core.script (frame_of ((core_places core).proc p)) snap) is
     (subst (λ f. IsSnapshot spec script f snap) here snapshot)
 
--- A processor whose next event is a store has looked.
+-- A processor whose next event is a store has made all looks of its frame, but neither its flip nor its halt.
 pub store_looked : (m : Flight) (at : Places) (words : Word → ℕ) (p : ProcId) (i : ℕ) → IsNext m at words (Store p i) → (p.0 < m.procs) × HasLooked m (at.proc p.0) × (i < m.width)
 store_looked m at words p i next =
     let a = gate (nat_lt p.0 m.procs) (next_from m p.0 (words ReleaseWord) (at.proc p.0)) (Store p i) next in
@@ -125,7 +126,7 @@ store_looked m at words p i next =
     let low = c.2 in
     (is_less p.0 m.procs a.0, subst (λ (place : Place). HasLooked m place) (sym b.here) (omega (arith, count), omega (arith, count, low)), low)
 
--- If the core is not over, then some actor has a next event.
+-- If the flight of a core is not over, then some actor has a next event.
 pub goes_on_by : (core : CoreParts) (spec : Parts) (script : ScriptParts) (places : KeptPlaces) (stored : List ℕ) (history : List Event) (room count : ℕ) → core_of spec script places stored history ≡ core
     → MachineKeeps spec script places stored history room count → MachineGoesOn → IsOver (core_flight core) (core_places core) ⊎ ((event : Event) × IsNext (core_flight core) (core_places core) (core_words core) event)
 goes_on_by core spec script places stored history room count is k on =

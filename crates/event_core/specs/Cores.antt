@@ -59,12 +59,12 @@ IsWordIn core event word = IsEventWord (core_flight core) (core_places core) eve
 abbrev pub HappensIn : CoreParts → Event → CoreParts → Type 0
 HappensIn old event new = Happens (core_flight old) (core_places old) (core_words old) event (core_places new) (core_words new)
 
--- The event is not the next of its actor, and the error has that event and the actor's next event.
+-- The event is not the next event of its actor. The error has the event and the actor's next event, or `None` if the
+-- actor has no next event.
 abbrev pub RefusesEvent : CoreParts → Event → Illegal → Type 0
 RefusesEvent core event told = (next_event core event ≢ Some event) × (told.given ≡ event) × (told.next ≡ next_event core event)
 
--- The number of frames that have ended. The kernel's own frame has ended once the kernel has noted all processors in
--- it.
+-- The number of frames that have ended. The kernel's frame has ended once the kernel has noted all processors in it.
 abbrev pub frames_ended : Parts → KeptPlaces → ℕ
 frames_ended spec places = if nat_le (length spec.procs) places.step then places.frame + 1 else places.frame
 
@@ -80,8 +80,9 @@ ends_frame spec (Halt p) = false
 ends_frame spec (KStore i) = false
 ends_frame spec Release = false
 
--- The invariant of a core's machine. The history is a schedule that leads to the places and the stored words. Its
--- list holds `count` events and has room, of `room` events in all, for every event that can still come.
+-- The invariant of a core's machine. The history is a schedule that leads to the places and the stored words. The
+-- list of the history contains `count` events and has a capacity of `room` events. The list has space for every event
+-- that can still come.
 pub record MachineKeeps (spec : Parts) (script : ScriptParts) (places : KeptPlaces) (stored : List ℕ) (history : List Event) (room count : ℕ) : Type 0 where
   pub facts : IsSpec spec
   pub fits : Fits spec script
@@ -89,7 +90,7 @@ pub record MachineKeeps (spec : Parts) (script : ScriptParts) (places : KeptPlac
   pub replay : IsReplay (flight_of spec script) history (machine_places places) (stored_in stored)
   pub room_left : count + events_left (flight_of spec script) (machine_places places) ≤ room
 
--- The invariant of a core: its machine keeps its own invariant, and its kernel is the kernel after the frames that have
+-- The invariant of a core. `MachineKeeps` holds, and the kernel of the core is the kernel after the frames that have
 -- ended.
 pub record CoreKeeps (spec : Parts) (script : ScriptParts) (places : KeptPlaces) (stored : List ℕ) (history : List Event)
     (room count : ℕ) (kernel : KernelParts) : Type 0 where

@@ -45,15 +45,15 @@ abbrev pub releases_in : List Event → ℕ
 releases_in [] = 0
 releases_in (event ∷ events) = with_release event (releases_in events)
 
--- The number of the kernel's frame is the number of releases. The notes are one for each processor before each release,
--- and the notes in the kernel's current frame. The number of frames that have ended is the number of notes divided by
--- the number of processors.
+-- The number of the kernel's frame is the number of releases. The number of notes is the number of processors for
+-- each release, plus the number of notes in the kernel's frame. The number of frames that have ended is the number of
+-- notes divided by the number of processors.
 pub record AreCounted (spec : Parts) (events : List Event) (places : KeptPlaces) : Type 0 where
   pub frame : places.frame ≡ releases_in events
   pub notes : notes_in events ≡ length spec.procs * releases_in events + min places.step (length spec.procs)
   pub ended : frames_ended spec places ≡ notes_in events / length spec.procs
 
--- The releases and the notes of a history give the number of frames that have ended.
+-- Each history that is a schedule satisfies `AreCounted` for the places to which it leads.
 abbrev pub HistoriesCountFrames : Type 0
 HistoriesCountFrames = (spec : Parts) (script : ScriptParts) → IsSpec spec → (events : List Event) (places : KeptPlaces) (words : Word → ℕ)
     → IsReplay (flight_of spec script) events (machine_places places) words → AreCounted spec events places

@@ -11,21 +11,21 @@ use Rattle.scram_types.specs.Specification.{Parts}
 use Rattle.event_core.specs.declared.flyers.Flyers.{Flyers}
 use Rattle.event_core.specs.Cores.{CoreParts, core_flight, core_places}
 
--- If processor `p` has a last draft, it is the draft of `p` in its frame of the one-thread trace.
+-- If there is a last draft, its image is the draft of processor `p` in the one-thread trace, in the frame of the last
+-- draft.
 abbrev pub IsLastDraft : Parts → ScriptParts → ℕ → Option Draft → Type 0
 IsLastDraft spec script p drafted = IfSome drafted (λ (made : Draft). made.image ≡ draft spec script p made.frame)
 
--- The last draft of each of eight processors, if there is one, is its draft in the one-thread trace.
+-- Each of the last drafts of eight processors satisfies `IsLastDraft`.
 abbrev pub AreLastDrafts : Parts → ScriptParts → List (Option Draft) → Type 0
 AreLastDrafts spec script drafted = (p : ℕ) → p < 8 → IsLastDraft spec script p (slice_index_or drafted p None)
 
--- The processors are at these places, and the last draft of each, if there is one, is its draft in the one-thread
--- trace.
+-- The processors are at the places `at`, and their last drafts satisfy `AreLastDrafts`.
 pub record FlyersFit {X : Type 0} {Y : X → Type 0} (spec : Parts) (script : ScriptParts) (at : ℕ → Place) (flyers : Flyers X Y) : Type 0 where
   pub all : AreFlyersAt (flight_of spec script) at flyers.all.items
   pub drafted : AreLastDrafts spec script flyers.drafted
 
--- The processors fly with the core: they are at the places of its machine.
+-- The processors fly with the core: they are at the places of the core's machine.
 abbrev pub FlyBy : {X : Type 0} {Y : X → Type 0} → CoreParts → Flyers X Y → Type 0
 FlyBy core flyers = FlyersFit core.spec core.script (core_places core).proc flyers
 

@@ -7,7 +7,7 @@ use Rattle.fault_script.specs.Times.{words}
 use Rattle.fail_stop.specs.Events.{BankWord, KernelWord, MarkWord}
 use Rattle.fail_stop.specs.Listed.{stored_in}
 
--- The bank of processor `p` that a reader in frame `f` takes.
+-- The number of the bank of processor `p` that a reader in frame `f` reads.
 abbrev pub bank_taken : List ℕ → ℕ → ℕ → ℕ
 bank_taken stored f p = pick (stored_in stored (MarkWord p)) f
 

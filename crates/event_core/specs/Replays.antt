@@ -5,8 +5,8 @@ use Rattle.fail_stop.specs.Events.{IsStored, Places, Word}
 use Rattle.fail_stop.specs.Flights.{Flight}
 use Rattle.fail_stop.specs.Schedules.{IsSchedule, Machine, opening}
 
--- The events are a schedule from the opening to the places `at` and to a state in which each stored word has its
--- value in `words`.
+-- The events are a schedule from the opening to a state with the places `at`. Each stored word has in `words` the
+-- value that it has in this state.
 pub record IsReplay (m : Flight) (events : List Event) (at : Places) (words : Word → ℕ) : Type 0 where
   pub state : Machine
   pub schedule : IsSchedule m (opening m) events state

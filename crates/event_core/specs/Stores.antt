@@ -7,8 +7,8 @@ use Rattle.event_core.specs.Places.{CanGoOn, kept_place}
 use Rattle.fail_stop.specs.Events.{Places, frame_of}
 use Rattle.fail_stop.specs.Flights.{Flight, word_in}
 
--- A word is valid for an event. A store needs a word of the draft, and a store of the kernel needs a word of the
--- kernel's next image. For any other event the word is arbitrary.
+-- A word is valid for an event. For a store of a processor, it is the word of the processor's draft. For a store of
+-- the kernel, it is the word of the kernel's next image. For any other event, the word is arbitrary.
 abbrev pub IsEventWord : Flight → Places → Event → ℕ → Type 0
 IsEventWord m at (Store p i) word = word ≡ word_in (m.draft p.0 (frame_of (at.proc p.0))) i
 IsEventWord m at (KStore i) word = word ≡ word_in (m.kernel_image (suc at.frame)) i

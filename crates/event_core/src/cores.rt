@@ -91,8 +91,8 @@ impl<'a> Core<'a> {
         next_of(self.spec, self.script, &self.places, &self.stored, p)
     }
 
-    /// Returns the next event of the kernel. Returns `None` if and only if the processor that the kernel would note
-    /// may not be noted yet, or all frames are noted.
+    /// Returns the next event of the kernel. Returns `None` if and only if the processor that the kernel notes next
+    /// may not be noted yet, the kernel has made its last note, or no frame is flown.
     pub fn next_kernel(&self) -> Option<Event>
         ensures { result ≡ next_kernel (core_flight self.now) (core_places self.now) (core_words self.now) }
     {
@@ -132,8 +132,9 @@ impl<'a> Core<'a> {
         self.kernel.rows()
     }
 
-    /// Returns the snapshot of a processor that has made all looks of its frame, but neither its flip nor its halt. The
-    /// snapshot holds the kernel image of that frame and every processor's image before it.
+    /// Returns the snapshot of a processor that has made all looks of its frame, but neither its flip nor its halt.
+    /// The snapshot contains the kernel image of that frame and the image of every processor as of the start of that
+    /// frame.
     pub fn snapshot(&self, p: ProcId) -> Snapshot
         requires known { p.0 < length self.now.spec.procs }
         requires looked { HasLooked (core_flight self.now) ((core_places self.now).proc p.0) }
@@ -185,8 +186,8 @@ impl<'a> Core<'a> {
         self.kernel.finish()
     }
 
-    /// Returns the next event of the actor of `event`, or `None` if the actor has none. It is that of `next_of` or
-    /// `next_kernel`.
+    /// Returns the next event of the actor of `event`, or `None` if the actor has none. This is the result of
+    /// `next_of` or of `next_kernel`.
     pub fn next_of_actor(&self, event: Event) -> Option<Event>
         ensures { result ≡ next_event self.now event }
     {

@@ -1,4 +1,4 @@
-//! Processors that fly with a core. The fields are public so that clauses can name them.
+//! Processors that fly with a core. The fields are public because contracts refer to them.
 
 ghost use Rattle.std.specs.Prelude.{◌≡◌, ◌<◌, IfOk, IfSome, Some, length, map, vec_len, ℕ};
 ghost use Rattle.event_core.specs.Cores.{IsNextIn, IsWordIn, core_places, core_flight};
@@ -21,7 +21,8 @@ use fail_stop::{Draft, Flyer};
 use scram_types::{Image, NoMemory, ProcId, Spec};
 use std::alloc::Global;
 
-/// Eight processors that fly with a core, in the order of their numbers, and the last draft of each.
+/// Eight processors that fly with a core, in the order of their numbers. For each there is its last draft, or `None`
+/// before its first draft.
 #[derive(Drop)]
 pub struct Flyers {
     pub all: Vec<Flyer>,
@@ -49,9 +50,9 @@ impl Flyers {
         })
     }
 
-    /// Returns the word for an event, which must be the next of its actor, and lets the processors follow the event.
-    /// A processor makes one draft in a frame, before its first store. Its halt event halts it, and the start event
-    /// of its restart makes it live again.
+    /// Returns the word for an event, and updates the processors as the event requires. The event must be the next of
+    /// its actor. A processor makes one draft in a frame, before its first store. A halt event halts the processor,
+    /// and the start event of the restart makes it live again.
     pub fn word(&mut self, core: &Core, spec: &Spec, event: Event) -> u64
         requires spec { core.now.spec ≡ spec.now }
         requires next { IsNextIn core.now event }

@@ -15,7 +15,7 @@ use fail_stop::law::notes_fix;
 use scram_kernel::Kernel;
 use scram_types::{Script, Spec};
 
-/// Ends the frame in which all processors have been noted, so that the kernel goes on to the next frame.
+/// Ends a frame in which all processors have been noted. The kernel becomes the kernel after that frame.
 pub(crate) fn end_frame(
     spec: &Spec,
     script: &Script,

@@ -2,8 +2,8 @@
 
 ghost use Rattle.event_core.specs.Counts.{HistoriesCountFrames};
 
-/// States that the history gives the number of frames that have ended. The number of the kernel's frame is the number
-/// of releases. A frame has ended for each full set of notes, one note of each processor.
+/// States that the number of frames that have ended follows from the history. The number of the kernel's frame is the
+/// number of releases. A frame has ended for each full set of notes, one note of each processor.
 pub fn histories_count_frames()
     ensures { HistoriesCountFrames }
 {}

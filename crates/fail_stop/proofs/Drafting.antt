@@ -1,4 +1,5 @@
--- A processor's draft of a snapshot is that of the definition, and in a flight it is the draft of the one-thread trace.
+-- A processor's draft of a snapshot is `draft_made`. If the snapshot is that of a frame of a script, the draft is
+-- that of the one-thread trace.
 use Rattle.std.proofs.Common.{◌≡◌, ◌∙◌, ℕ, zero, suc, ◌+◌, ◌<◌, refl, ap, sym, subst, arith, length, Bool, true, false, List}
 use native.Mathlib.Decide.{ℕ_discrete}
 use Rattle.std.specs.Prelude.{ℤ, Option, Some, None, IfSome, option_map, if◌then◌else◌, nat_eq, nat_lt}
@@ -28,7 +29,8 @@ use Rattle.fail_stop.specs.declared.snapshots.Snapshot.{Snapshot}
 use Rattle.fail_stop.specs.Drafts.{IsSnapshot, area_kept, areas_shown, draft_made, slot_made, state_shown, task_among}
 use Rattle.fail_stop.proofs.Joining.{image_same, of_slots}
 
--- A draft that is made of the parts that a snapshot gives is the draft of the definition.
+-- If the tasks, the view, the areas and the old image are those of a snapshot, the image that is made of them is
+-- `draft_made`.
 
 pub draft_is : (spec : Parts) (snap : Snapshot) (p : ℕ) (tasks : List Task) (seen : Seen) (areas : List (List ℤ)) (own image : List ℤ)
     → tasks ≡ eight (task_of spec snap.kernel.mode snap.kernel.frame) → seen ≡ seen_by_all spec snap.kernel.env (state_shown snap)
@@ -73,7 +75,7 @@ one_kept slot n old image before is b low = by_place (ℕ_discrete b n) (before 
 pub all_made : (slot : ℕ → List ℤ) (old image : List ℤ) → length image ≡ 64 → MadeBelow slot 8 old image → image ≡ image_of slot
 all_made slot old image long made = of_slots image long ∙ image_same (slot_in image) slot (λ b low. let under : nat_lt b 8 ≡ true = grind (arith, nat_tests, low) in made b low ∙ rw under refl)
 
--- Lemmas that each processor that keeps an application exists.
+-- Lemmas that the keeper of an application is a processor of the specification.
 
 start_exists : (spec : Parts) (place : Option Place) → IfSome place (λ p. p.proc.0 < length spec.procs) → Exists spec (option_map (λ (place : Place). place.proc) place)
 unfolding Exists
@@ -97,7 +99,7 @@ keeper_exists spec is script (suc f) a low =
     subst (Exists spec) (sym (eight_at (λ b. keeper_after (λ p. commits spec script p f) (state_after spec script f) (task_in spec phase b) b) a None low))
     (on_exists spec (λ p. commits spec script p f) (keeper_at (state_after spec script f).keepers a) (task_in spec phase a).proc (task_exists spec is phase a) (keeper_exists spec is script f a low))
 
--- Lemmas that the areas that a snapshot of a frame shows are the areas before the frame.
+-- Lemmas that the areas in the snapshot of a frame are the areas as of the start of the frame.
 
 kept_same : (spec : Parts) (script : ScriptParts) (f a : ℕ) (snap : Snapshot) (keeper : Option ProcId) (area : List ℤ) → a < 8 → IsSnapshot spec script f snap → Exists spec keeper
     → IsSlotOfKeeper keeper area (λ p. slot_after spec script p f a) → area_kept snap.images keeper a ≡ area

@@ -14,7 +14,7 @@ use Rattle.fail_stop.specs.Flights.{Flight}
 use Rattle.fail_stop.specs.Flyers.{AreFlyersAt, IsFlyerAt, IsUnitAt, is_down, unit_halted, unit_proc, unit_started}
 
 module _ {X : Type 0} {Y : X → Type 0} where
-  -- A live unit is the unit at each place of a frame.
+  -- A live unit of processor `p` is the unit of `p` at each place at which the processor has not halted.
   pub unit_up : (p : ℕ) (place : Place) (unit : HeldUnit X Y) → is_halted place ≡ false → is_down unit ≡ false → unit_proc unit ≡ p → IsUnitAt p place unit
   unit_up p place unit flies up is = record { number = is; down = up ∙ sym flies; frame = λ down. cc }
 
@@ -68,7 +68,7 @@ module _ {X : Type 0} {Y : X → Type 0} (m : Flight) where
       → IsFlyerAt m p (At 0 0) flyer
   opening_flyer p flyer proc rack spare unit some is = record { unit = rw unit (record { number = is; down = refl; frame = λ down. cc }); spare = λ r e low. ap is_some some }
 
-  -- If a processor neither halts nor starts after a halt, then it is at its place after the event without a change.
+  -- A processor that neither halts nor restarts is, without a change, at its place after the event.
   pub flyer_stays : (p : ℕ) (before after : Place) (flyer : Flyer X Y) → is_halted after ≡ is_halted before → (is_halted before ≡ true → frame_of after ≡ frame_of before) → frame_of before ≤ frame_of after
       → IsFlyerAt m p before flyer → IsFlyerAt m p after flyer
   flyer_stays p before after flyer same still low is = record {

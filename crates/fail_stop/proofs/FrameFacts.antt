@@ -90,8 +90,7 @@ unfolding bank_before side image_before
 bank_side m p zero i h = refl
 bank_side m p (suc f) i h = bank_side_next m p f i (is_committed m p f) refl h (bank_side m p f i h)
 
--- Processor `p` has the same commits, banks, end words and images at frames `a` and `b`, since it is down between
--- them.
+-- Processor `p` has the same last commit, marked bank, end word, image and bank words at frames `a` and `b`.
 pub record Same (m : Flight) (p a b : ℕ) : Type 0 where
   pub lasts : last_commit m p b ≡ last_commit m p a
   pub sides : side m p b ≡ side m p a
@@ -119,7 +118,7 @@ pub still : (m : Flight) (p a b : ℕ) → a ≤ b → ((g : ℕ) → a ≤ g �
 still m p a zero h q = let e : a ≡ 0 = omega arith in subst (λ (x : ℕ). Same m p a x) e (same_refl m p a)
 still m p a (suc b) h q = still_next m p a b q (λ d. still m p a b d (λ g l u. q g l (omega arith))) h (dec_le a b)
 
--- A halted processor is not back before the frame of its restart.
+-- A halted processor has not restarted before the frame of its restart.
 back_not_yet : (o : Option ℕ) (h r g : ℕ) → o ≡ Some r → g < r → back_by o h g ≡ false
 back_not_yet None h r g e l = cc
 back_not_yet (Some s) h r g e l = let same : s ≡ r = cc in grind (arith, nat_tests)
@@ -128,12 +127,12 @@ back_none : (o : Option ℕ) (h g : ℕ) → ((r : ℕ) → o ≡ Some r → h <
 back_none None h g e = refl
 back_none (Some s) h g e = let late : h < s → g < s = e s refl in grind (arith, nat_tests)
 
--- The commits, banks, end words and images of a processor do not change between its halt in frame `h` and frame `b`,
--- if it does not restart before frame `b`.
+-- The commits, banks, end words and images of a processor do not change from the halt of the processor in frame `h`
+-- up to frame `b`, if the processor does not restart before frame `b`.
 pub halted_still : (m : Flight) (p h s b : ℕ) → Flies m → m.up p h ≡ true → m.halt p h ≡ Some s → h < b → ((r : ℕ) → m.restart p ≡ Some r → h < r → b ≤ r) → Same m p (suc h) b
 halted_still m p h s b y u e l q = still m p (suc h) b (omega arith) (λ g lo hi. y.gone p h s g u e (omega arith) (back_none (m.restart p) h g (λ r i j. let k : b ≤ r = q r i j in omega arith)))
 
--- Lemmas on end words: bounds, and the halts that odd end words show.
+-- Lemmas on end words: bounds, and the halts that odd end words record.
 end_word_le : (f : ℕ) (o : Option ℕ) → end_word_after f o ≤ 2 * suc f
 end_word_le f None = omega arith
 end_word_le f (Some s) = omega arith

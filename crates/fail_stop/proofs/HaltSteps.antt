@@ -1,4 +1,4 @@
--- Lemmas that the only halt that a processor can have in a frame decides whether it commits the frame.
+-- A processor has at most one halt in a frame. This halt decides whether the processor commits the frame.
 use Rattle.std.proofs.Common.{◌≡◌, ◌∙◌, ℕ, suc, ◌+◌, ◌<◌, ◌≤◌, refl, ap, arith, Bool, true, false, not, ◌&&◌, ◌||◌, List, [], ◌∷◌, ◌⊎◌}
 use mathlib.Core.Logic.{inl, inr}
 use Rattle.std.specs.Prelude.{◌==◌, nat_le, find, Option, Some, None, if◌then◌else◌}
@@ -67,6 +67,6 @@ early_is : (w p f : ℕ) (halts : List HaltAt) → EachNext HaltBefore halts
 early_is w p f [] next = refl
 early_is w p f (x ∷ xs) next = by_first w p f x xs next (is_halt_in p f x) refl (early_is w p f xs (tail x xs next))
 
--- A processor commits a frame if and only if it is up in it and does not halt there before the mark.
+-- A processor commits a frame if and only if it is up in the frame and does not halt in the frame before the mark.
 pub commits_by : (spec : Parts) (script : ScriptParts) → Fits spec script → (p f : ℕ) → commits spec script p f ≡ (is_up script p f && not (is_early (words spec) (halt_in script p f)))
 commits_by spec script fits p f = ap (λ b. is_up script p f && not b) (early_is (words spec) p f script.halts fits.halts_ordered)

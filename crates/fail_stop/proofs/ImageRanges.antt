@@ -1,4 +1,4 @@
--- Every word of an image fits in 64 bits, so it can be decoded from its stored word.
+-- Every word of an image fits in 64 bits. Therefore the word can be decoded from its stored word.
 use Rattle.std.proofs.Common.{◌≡◌, ℕ, zero, suc, ℤ, pos, negsuc, ◌<◌, ◌≤◌, refl, sym, subst, arith, Bool, true, false, ◌&&◌, List}
 use Rattle.std.specs.Prelude.{Option, Some, None, slice_get, slice_index_or, nat_le, if◌then◌else◌}
 use Rattle.std.specs.Int.{w64}

@@ -1,4 +1,5 @@
--- The kernel image of a frame can be decoded from its words, since each number of it is small enough for its word.
+-- The kernel image of a frame can be decoded from its words, since each number of the image is small enough for its
+-- word.
 use Rattle.std.proofs.Common.{◌≡◌, ◌∙◌, ℕ, zero, suc, ℤ, pos, ◌+◌, ◌-◌, ◌*◌, ◌/◌, ◌%◌, ◌^◌, ◌<◌, ◌≤◌, Bool, true, false, cond, refl, sym, ap, subst, arith, List, [], ◌∷◌, length}
 use Rattle.std.specs.Prelude.{◌==◌, ◌≤ℤ◌, Option, Some, None, IfSome, nat_lt, option_and_then, option_map, slice_get, slice_index, slice_index_or}
 use Rattle.std.proofs.lemmas.Bool.Decides.{nat_tests}

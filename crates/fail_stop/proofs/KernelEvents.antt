@@ -1,4 +1,4 @@
--- Each event of the kernel keeps the invariant.
+-- Each event of the kernel keeps the invariant `Kept`.
 use Rattle.std.proofs.Common.{◌≡◌, ◌⊎◌, ℕ, suc, ◌+◌, ◌*◌, ◌/◌, ◌%◌, ◌<◌, ◌≤◌, Bool, true, false, not, ◌&&◌, ◌||◌, refl, sym, ◌∙◌, inl, inr, arith}
 use Rattle.std.specs.Prelude.{Option, Some, None, nat_eq, if◌then◌else◌}
 use Rattle.std.proofs.lemmas.Bool.Decides.{nat_tests}
@@ -36,7 +36,7 @@ by_kernel m at words e at2 words2 h k a kn mk en bk rl kr pl =
     kernel_word (BankWord q b i) l same = rw (same q) (h.words_are (BankWord q b i) l ∙ bk q b i ∙ k.words_are (BankWord q b i) l)
 
 -- The place is one at which the kernel may have noted processor `p` in frame `k`. The processor is past the frame, or
--- it has halted and does not restart up to that frame.
+-- the processor has halted and does not restart up to that frame.
 abbrev pub Noted : Flight → ℕ → ℕ → Place → Type 0
 Noted m k p (At f n) = k < f
 Noted m k p (Halted h) = (r : ℕ) → m.restart p ≡ Some r → h < r → k < r

@@ -1,5 +1,5 @@
--- A step of a processor changes only its own place and its own words. These lemmas derive the invariant after the
--- step from facts on that place and these words.
+-- A step of a processor changes only its own place and its own words. These lemmas derive the invariant `Kept` after
+-- the step from facts on that place and these words.
 use Rattle.std.proofs.Common.{◌≡◌, ◌≢◌, ℕ, ◌<◌, true, false, refl, sym, ap, ◌∙◌, arith}
 use Rattle.std.specs.Prelude.{Option, Some, None, nat_eq}
 use Rattle.std.proofs.lemmas.Bool.Decides.{nat_tests}
@@ -89,8 +89,8 @@ nat_eq_self p = grind (arith, nat_tests)
 pub nat_eq_other : (q p : ℕ) → q ≢ p → nat_eq q p ≡ false
 nat_eq_other q p n = grind (arith, nat_tests)
 
--- If an event of processor `p` from place `y` leaves the words of `p` as its new place requires, then it keeps the
--- invariant.
+-- If an event of processor `p` from place `y` leaves the words of `p` as the new place of `p` requires, then the
+-- event keeps the invariant.
 pub by_actor : (m : Flight) (at : Places) (words : Word → ℕ) (e : Event) (at2 : Places) (words2 : Word → ℕ) (p : ℕ) (y x : Place)
     → Happens m at words e at2 words2 → Kept m at words → p < m.procs → at.proc p ≡ y
     → ((q : ℕ) → is_actor e q ≡ nat_eq q p) → moved m e p y ≡ x → frame_after at e ≡ at.frame → step_after at e ≡ at.step

@@ -1,4 +1,4 @@
--- Lemmas on what is known of an actor's place if its next event is given.
+-- Lemmas on the place of an actor whose next event is given.
 use Rattle.std.proofs.Common.{◌≡◌, ◌≢◌, ◌⊎◌, ℕ, zero, suc, ◌+◌, ◌-◌, ◌<◌, ◌≤◌, Bool, true, false, ◌&&◌, ap, refl, inl, inr, arith}
 use Rattle.std.specs.Prelude.{Option, Some, None, nat_lt, nat_eq, if◌then◌else◌}
 use Rattle.std.proofs.lemmas.Bool.Decides.{nat_tests}

@@ -147,8 +147,8 @@ progress_at m at words y bound k (no d) = goes_on m at words y k (omega arith) b
 pub progress : (m : Flight) (at : Places) (words : Word → ℕ) → Flies m → ((p r : ℕ) → m.restart p ≡ Some r → r < m.frames) → Kept m at words → IsOver m at ⊎ Goes m at words
 progress m at words y bound k = progress_at m at words y bound k (ℕ_discrete m.frames 0)
 
--- If processor `p` stores a word of a bank in frame `f`, then the bank holds the word that was stored last after the
--- frame.
+-- If processor `p` stores a word of a bank in frame `f`, then after frame `f` the bank holds the word that `p` stored
+-- last.
 last_new : (m : Flight) (p f b i old : ℕ) → Stores m p f b i → IsStoredLast m p (suc f) b i (laid m p f (stores_in m p f) b i old)
 last_new m p f b i old s = inl (f, omega arith, s, laid_new m p f (stores_in m p f) b i old s.0 s.1, (λ later a c d. omega arith))
 

@@ -39,7 +39,7 @@ untouched m q f n i h = laid_side m q f (stores_made m n) (side m q f) i (bank_b
 untouched_next : (m : Flight) (q f i : ℕ) → i < m.width → bank_before m q (suc f) (side m q f) i ≡ word_in (image_before m q f) i
 untouched_next m q f i h = bank_suc m q f (side m q f) i ∙ laid_side m q f (stores_in m q f) (side m q f) i (bank_before m q f (side m q f) i) refl ∙ bank_side m q f i h
 
--- Place `x` of processor `q` shows a reader in frame `k` the image of that frame.
+-- A reader in frame `k` finds the image of processor `q` as of the start of frame `k` if `q` is at place `x`.
 pub record Shows (m : Flight) (q k : ℕ) (x : Place) : Type 0 where
   pub picked : pick (mark_at m q x) k ≡ side m q k
   pub held : (i : ℕ) → i < m.width → bank_at m q x (side m q k) i ≡ word_in (image_before m q k) i
@@ -70,7 +70,7 @@ pub shows : (m : Flight) (q k j : ℕ) (x : Place) → Flies m → IsPlaced m k 
 shows m q k j (At f n) y r = shows_at m q k j f n r (dec_le f k)
 shows m q k j (Halted h) y s = shows_halted m q k j h y s (dec_le k h)
 
--- Place `x` of a processor that is noted in frame `k` has the mark and the image after the frame.
+-- If processor `p` is at place `x`, its mark and its marked bank are those after frame `k`.
 pub record Gives (m : Flight) (p k : ℕ) (x : Place) : Type 0 where
   pub mark : mark_at m p x ≡ mark_before m p (suc k)
   pub held : (i : ℕ) → i < m.width → bank_at m p x (side m p (suc k)) i ≡ word_in (image_before m p (suc k)) i

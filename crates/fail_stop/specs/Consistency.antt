@@ -1,11 +1,11 @@
--- The facts that hold in each state of each schedule.
+-- The facts on places and words that hold in each state of each schedule.
 use Rattle.std.specs.Prelude.{◌≡◌, ◌⊎◌, ℕ, suc, ◌+◌, ◌-◌, ◌%◌, ◌<◌, ◌≤◌, Some, if◌then◌else◌}
 use Rattle.bank_words.specs.Marks.{mark_word, pick}
 use Rattle.fail_stop.specs.Flights.{Flight, word_in, last_commit, commit_count, image_before, bank_before}
 use Rattle.fail_stop.specs.Events.{Place, At, Halted, Places, Word, ReleaseWord, KernelWord, MarkWord, BankWord}
 use Rattle.fail_stop.specs.Kept.{is_flipped, stores_made}
 
--- The number of frames that the mark of a processor covers, if the processor is at this place.
+-- The number `n` such that the mark of a processor at this place is the processor's mark after the first `n` frames.
 abbrev pub marked : Flight → Place → ℕ
 marked m (At f n) = if is_flipped m n then suc f else f
 marked m (Halted h) = suc h
@@ -14,7 +14,7 @@ marked m (Halted h) = suc h
 abbrev pub unmarked_bank : Flight → Places → ℕ → ℕ
 unmarked_bank m at p = 1 - commit_count m p (marked m (at.proc p)) % 2
 
--- Processor `p` is in frame `f` and has made `n` steps in it, at least the start.
+-- Processor `p` is in frame `f` and has made `n` steps in it. The start is one of these steps.
 abbrev pub Reads : Places → ℕ → ℕ → ℕ → Type 0
 Reads at p f n = (at.proc p ≡ At f n) × (0 < n)
 
@@ -22,8 +22,8 @@ Reads at p f n = (at.proc p ≡ At f n) × (0 < n)
 abbrev pub NoRestart : Flight → ℕ → ℕ → ℕ → Type 0
 NoRestart m p h k = (r : ℕ) → m.restart p ≡ Some r → h < r → k < r
 
--- The facts on marks and banks, the places of processors and kernel, notes, the kernel's words, and the words that a
--- reader sees.
+-- The places and words are consistent with the flight. The facts concern the marks and banks, the places of the
+-- processors, the release, the notes, the kernel's words, and the words that a reader finds.
 pub record IsConsistent (m : Flight) (at : Places) (words : Word → ℕ) : Type 0 where
   pub mark : (p : ℕ) → p < m.procs → words (MarkWord p) ≡ mark_word (last_commit m p (marked m (at.proc p))) (commit_count m p (marked m (at.proc p)) % 2)
   pub marked_bank : (p i : ℕ) → p < m.procs → i < m.width → words (BankWord p (commit_count m p (marked m (at.proc p)) % 2) i)

@@ -23,11 +23,11 @@ abbrev pub area_kept : List (List ℤ) → Option ProcId → ℕ → List ℤ
 area_kept images None a = zeros
 area_kept images (Some q) a = slot_in (image_in images q.0) a
 
--- The areas that a snapshot shows.
+-- The areas of all applications in a snapshot.
 abbrev pub areas_shown : Snapshot → List (List ℤ)
 areas_shown snap = eight (λ a. area_kept snap.images (keeper_at snap.kernel.keepers a) a)
 
--- The state before a snapshot's frame, as the snapshot shows it.
+-- The state before the frame of a snapshot, computed from the snapshot.
 abbrev pub state_shown : Snapshot → State
 state_shown snap = record { mode = snap.kernel.mode; arrived = false; areas = areas_shown snap; keepers = snap.kernel.keepers; world = snap.kernel.world }
 
@@ -51,8 +51,8 @@ draft_made spec snap p = image_of (slot_made
     (image_in snap.images p)
     p)
 
--- The snapshot shows frame `f` of a script: it has the kernel image of the frame and the images of all processors
--- before the frame.
+-- The snapshot is that of frame `f` of a script. It contains the kernel image of the frame and the images of all
+-- processors as of the start of the frame.
 pub record IsSnapshot (spec : Parts) (script : ScriptParts) (f : ℕ) (snap : Snapshot) : Type 0 where
   pub kernel : snap.kernel ≡ kernel_image spec script f
   pub images : (q : ℕ) → q < length spec.procs → image_in snap.images q ≡ image_after spec script q f

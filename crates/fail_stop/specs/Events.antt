@@ -27,8 +27,8 @@ pub data Word : Type 0 where
   EndWord : ℕ → Word
   BankWord : ℕ → ℕ → ℕ → Word
 
--- Whether the event of a processor after `n` steps of a frame is its halt, given the step of the halt, or `None`. The
--- halt comes after the start, the looks and the number of stores that this step gives.
+-- Whether the event of a processor after `n` steps of a frame is its halt, given the step of the halt, or `None`. A
+-- halt at step `s` comes after the start, the looks and `s` further steps.
 abbrev pub halts_at : Flight → ℕ → Option ℕ → Bool
 halts_at m n None = false
 halts_at m n (Some s) = nat_eq n (m.procs + 1 + s)
@@ -120,7 +120,9 @@ abbrev pub one_on : Place → Place
 one_on (At f n) = At f (suc n)
 one_on (Halted h) = Halted h
 
--- The place after a start: one step further, or in the frame of the restart if the processor had halted.
+-- The place after a start, given the frame of the restart, or `None`. A processor that has not halted is one step
+-- further. A halted processor has made one step of the frame of its restart. Without a restart its place does not
+-- change.
 abbrev pub started : Option ℕ → Place → Place
 started restart (At f n) = At f (suc n)
 started restart (Halted h) = back_at restart (Halted h)

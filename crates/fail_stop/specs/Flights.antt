@@ -3,9 +3,9 @@
 use Rattle.std.specs.Prelude.{◌≡◌, ℕ, zero, suc, ◌+◌, ◌-◌, ◌*◌, ◌<◌, ◌≤◌, min, Bool, true, false, ◌&&◌, List, get_or, Option, Some, None, if◌then◌else◌, nat_lt, nat_le, nat_eq}
 use Rattle.bank_words.specs.Marks.{mark_word}
 
--- A flight as functions. They give the numbers of frames, of processors and of words of an image, the processors that
--- are up, the step of each halt and the frame of each restart. They also give the start images, the drafts and the
--- kernel's words.
+-- A flight as numbers and functions. The numbers are those of frames, of processors and of words of an image. The
+-- functions return whether a processor is up in a frame, the step of a halt, the frame of a restart, the start image
+-- of a processor, its draft in a frame, and the kernel's words of a frame.
 pub record Flight : Type 0 where
   pub frames : ℕ
   pub procs : ℕ

@@ -23,7 +23,7 @@ abbrev pub unit_rack : {X : Type 0} {Y : X → Type 0} → HeldUnit X Y → Opti
 unit_rack (Up live) = Some live.rack
 unit_rack (Down halted) = None
 
--- A unit after a start. A halted unit becomes live again with its spare rack, if it has one.
+-- A unit after a start. A halted unit becomes live again with the spare rack, if there is one.
 abbrev pub unit_started : {X : Type 0} {Y : X → Type 0} → HeldUnit X Y → Option (Rack X Y) → HeldUnit X Y
 unit_started (Up live) spare = Up live
 unit_started (Down halted) None = Down halted
@@ -52,8 +52,8 @@ abbrev pub unit_frame : {X : Type 0} {Y : X → Type 0} → HeldUnit X Y → ℕ
 unit_frame (Up live) = 0
 unit_frame (Down halted) = halted.frame
 
--- The unit is that of processor `p` at the place. It has halted if and only if the place is that of a halted
--- processor, and then in the frame of the place.
+-- The unit is that of processor `p` at the place. The unit has halted if and only if the place is that of a halted
+-- processor. In that case it has halted in the frame of the place.
 pub record IsUnitAt {X : Type 0} {Y : X → Type 0} (p : ℕ) (place : Place) (unit : HeldUnit X Y) : Type 0 where
   pub number : unit_proc unit ≡ p
   pub down : is_down unit ≡ is_halted place

@@ -1,4 +1,4 @@
--- The invariant that holds in each state of each schedule.
+-- The invariant `Kept`, which holds in each state of each schedule.
 use Rattle.std.specs.Prelude.{◌≡◌, ℕ, suc, ◌+◌, ◌-◌, ◌*◌, ◌<◌, ◌≤◌, min, Bool, true, Option, Some, None, if◌then◌else◌, nat_lt, nat_eq}
 use Rattle.fail_stop.specs.Flights.{Flight, word_in, mark_before, end_before, laid, bank_before}
 use Rattle.fail_stop.specs.Events.{Place, At, Halted, Places, Word, ReleaseWord, KernelWord, MarkWord, EndWord, BankWord, IsStored}

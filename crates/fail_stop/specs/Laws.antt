@@ -1,5 +1,5 @@
--- The law of events: the invariant on places and words in each state of each schedule of a script that fits its
--- specification.
+-- The law of events. The invariant `Kept` on places and words holds in each state of each schedule of a script that
+-- fits its specification.
 use Rattle.std.specs.Prelude.{◌≡◌, ◌⊎◌, ℕ, suc, ◌<◌, List, length}
 use Rattle.scram_types.specs.Scripts.{ScriptParts}
 use Rattle.scram_types.specs.Specification.{IsSpec, Parts}
@@ -22,7 +22,8 @@ use Rattle.fail_stop.specs.Openings.{opening_list}
 use Rattle.fail_stop.specs.Schedules.{IsSchedule, Machine, opening}
 use Rattle.fail_stop.specs.ScriptFlights.{flight_of, image_words_after, kernel_words}
 
--- The flight of a script commits the frames that the one-thread trace commits, and has its marks and images.
+-- The flight of a script commits the frames that the one-thread trace commits, and has the marks and images of the
+-- one-thread trace.
 pub record IsOfTrace (spec : Parts) (script : ScriptParts) : Type 0 where
   pub flies : Flies (flight_of spec script)
   pub committed : (p f : ℕ) → is_committed (flight_of spec script) p f ≡ commits spec script p f
@@ -34,14 +35,14 @@ pub record IsOfTrace (spec : Parts) (script : ScriptParts) : Type 0 where
 abbrev pub FlightsAreOfTraces : Type 0
 FlightsAreOfTraces = (spec : Parts) (script : ScriptParts) → Fits spec script → IsOfTrace spec script
 
--- The opening state satisfies the invariant.
+-- The opening state satisfies `Kept`.
 abbrev pub OpeningKeeps : Type 0
 OpeningKeeps = (spec : Parts) (script : ScriptParts) → Fits spec script
     → Kept (flight_of spec script) opening_places (opening_words (flight_of spec script))
 
--- A list holds the words before the first event. The release is 1, or 0 if the flight has no frame. The kernel's words
--- are those of frame 0, and all marks and end words are 0. Bank 0 of each processor holds its image before frame 0, and
--- bank 1 holds zeros.
+-- A list holds the words before the first event. The release is 1, or 0 if the flight has no frame. The kernel's
+-- words are those of frame 0, and all marks and end words are 0. Bank 0 of each processor holds the processor's image
+-- before frame 0, and bank 1 holds zeros.
 pub record IsOpening (spec : Parts) (script : ScriptParts) (list : List ℕ) : Type 0 where
   pub long : length list ≡ word_index_count
   pub released : 0 < script.frames → stored_in list ReleaseWord ≡ 1
@@ -58,7 +59,7 @@ abbrev pub OpeningListsAreOfScripts : Type 0
 OpeningListsAreOfScripts = (spec : Parts) (script : ScriptParts) → IsSpec spec
     → IsOpening spec script (opening_list script.frames (kernel_words spec script 0) (state_after spec script 0).areas (state_after spec script 0).keepers)
 
--- An event that is the next of its actor preserves the invariant.
+-- An event that is the next of its actor preserves `Kept`.
 abbrev pub EventsKeep : Type 0
 EventsKeep = (spec : Parts) (script : ScriptParts) → Fits spec script
     → (at : Places) (words : Word → ℕ) (event : Event) (at_after : Places) (words_after : Word → ℕ)
@@ -66,7 +67,7 @@ EventsKeep = (spec : Parts) (script : ScriptParts) → Fits spec script
     → Happens (flight_of spec script) at words event at_after words_after
     → Kept (flight_of spec script) at_after words_after
 
--- An event that is the next of its actor preserves the invariant if the words are kept in one list.
+-- An event that is the next of its actor preserves `Kept` if the words are kept in one list.
 abbrev pub EventsKeepLists : Type 0
 EventsKeepLists = (spec : Parts) (script : ScriptParts) → IsSpec spec → Fits spec script
     → (at : Places) (list : List ℕ) (event : Event) (at_after : Places)
@@ -74,19 +75,20 @@ EventsKeepLists = (spec : Parts) (script : ScriptParts) → IsSpec spec → Fits
     → Moves (flight_of spec script) at event at_after
     → Kept (flight_of spec script) at_after (stored_in (list_after list (writes (flight_of spec script) at (stored_in list) event)))
 
--- The invariant implies each fact of `IsConsistent`.
+-- `Kept` implies `IsConsistent`.
 abbrev pub KeptIsConsistent : Type 0
 KeptIsConsistent = (spec : Parts) (script : ScriptParts) → Fits spec script → (at : Places) (words : Word → ℕ)
     → Kept (flight_of spec script) at words → IsConsistent (flight_of spec script) at words
 
--- Each state of each schedule satisfies the invariant.
+-- Each state of each schedule satisfies `Kept` and `IsConsistent`.
 abbrev pub SchedulesKeep : Type 0
 SchedulesKeep = (spec : Parts) (script : ScriptParts) → Fits spec script → (events : List Event) (state : Machine)
     → IsSchedule (flight_of spec script) (opening (flight_of spec script)) events state
     → Kept (flight_of spec script) state.at state.words × IsConsistent (flight_of spec script) state.at state.words
 
--- A processor that reads in frame `f` finds the words of that frame. The bank that it picks of processor `q` does not
--- change and holds the image of `q` after the first `f` frames. The kernel's words are those of frame `f`.
+-- A processor that reads in frame `f` finds the words of that frame. The bank that the reader picks of processor `q`
+-- does not change during the frame and holds the image of `q` after the first `f` frames. The kernel's words are
+-- those of frame `f`.
 pub record Finds (spec : Parts) (script : ScriptParts) (words : Word → ℕ) (f : ℕ) : Type 0 where
   pub picked : (q : ℕ) → q < length spec.procs → pick (words (MarkWord q)) f ≡ image_bank_after spec script q f
   pub held : (q i : ℕ) → q < length spec.procs → i < width_of spec
@@ -98,13 +100,14 @@ abbrev pub ReadersFind : Type 0
 ReadersFind = (spec : Parts) (script : ScriptParts) → Fits spec script → (at : Places) (words : Word → ℕ)
     → Kept (flight_of spec script) at words → (p f n : ℕ) → p < length spec.procs → Reads at p f n → Finds spec script words f
 
--- The mark of processor `p` is its mark after frame `k`, and the marked bank holds the image of `p` after that frame.
+-- The mark of processor `p` is the mark of `p` after frame `k`, and the marked bank holds the image of `p` after that
+-- frame.
 pub record IsNoted (spec : Parts) (script : ScriptParts) (words : Word → ℕ) (k p : ℕ) : Type 0 where
   pub mark : words (MarkWord p) ≡ mark_after spec script p (suc k)
   pub held : (i : ℕ) → i < width_of spec
       → words (BankWord p (image_bank_after spec script p (suc k)) i) ≡ word_in (image_words_after spec script p (suc k)) i
 
--- A processor that the kernel has noted shows its mark and its image at the end of the frame.
+-- If the kernel has noted a processor, the mark and the image of the processor are those after the kernel's frame.
 abbrev pub NotesFix : Type 0
 NotesFix = (spec : Parts) (script : ScriptParts) → Fits spec script → (at : Places) (words : Word → ℕ)
     → Kept (flight_of spec script) at words → (p : ℕ) → p < length spec.procs → p < at.step → IsNoted spec script words at.frame p

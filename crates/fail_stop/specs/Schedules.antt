@@ -47,7 +47,7 @@ is_up_after None restart f = true
 is_up_after (Some h) restart f = back_by restart h f
 
 -- The halts and restarts of a flight decide which processors are up. Each halt comes after at most all stores of its
--- frame, or after the mark.
+-- frame, or after the flip.
 pub record IsUpBy (m : Flight) : Type 0 where
   pub up : (p f : ℕ) → m.up p f ≡ is_up_after (latest (m.halt p) f) (m.restart p) f
   pub steps : (p f s : ℕ) → m.halt p f ≡ Some s → s ≤ m.width + 1

@@ -1,4 +1,5 @@
--- The flight that a script makes of a specification. The event machine meets scripts and specifications only here.
+-- The flight of a specification and a script. Only this file connects the event machine with scripts and
+-- specifications.
 use Rattle.std.specs.Prelude.{ℕ, ℤ, List, length, map, Option, option_map}
 use Rattle.scram_types.specs.declared.scripts.HaltAt.{HaltAt}
 use Rattle.scram_types.specs.Scripts.{ScriptParts}
@@ -31,7 +32,7 @@ abbrev pub kernel_words : Parts → ScriptParts → ℕ → List ℕ
 kernel_words spec script f = kernel_encode (kernel_image spec script f)
 
 -- The flight of a script. Processors are up, halt and restart as the script states. Images and drafts are those of
--- the frames.
+-- the one-thread trace.
 abbrev pub flight_of : Parts → ScriptParts → Flight
 flight_of spec script = record {
   frames = script.frames;

@@ -12,8 +12,8 @@ use frame_model::Task;
 use frame_model::sights::{show_in, slot_in};
 use scram_types::{AppId, Area, Image, ProcId, Spec};
 
-/// The data that all applications of a frame share: their tasks, and the snapshot that shows their areas before the
-/// frame.
+/// The data that all applications of a frame share: the specification, the tasks, and the snapshot with the areas as
+/// of the start of the frame.
 #[derive(Clone, Copy)]
 pub(crate) struct Setting<'a> {
     pub(crate) spec: &'a Spec,
@@ -21,7 +21,7 @@ pub(crate) struct Setting<'a> {
     pub(crate) snap: &'a Snapshot,
 }
 
-/// Returns the areas that a snapshot shows.
+/// Returns the areas of all applications in a snapshot.
 pub(crate) fn areas_shown(snap: &Snapshot) -> [Area; 8]
     ensures { result ≡ areas_shown snap.now }
 {
@@ -50,8 +50,9 @@ fn area_kept(snap: &Snapshot, a: u8) -> Area
     }
 }
 
-/// Replaces, in the image of processor `proc` before the frame, the slot of each application that the processor
-/// hosts, by one call of the application's box. Afterwards `seen` is as the last of these applications saw it.
+/// Replaces the slot of each application that processor `proc` hosts in the frame. `image` is the image of the
+/// processor as of the start of the frame. Each new slot is the result of one call of the application's box.
+/// Afterwards `seen` is what the last of these applications saw, or unchanged if there is none.
 pub(crate) fn make_slots(
     proc: ProcId,
     rack: &mut Rack,
@@ -69,7 +70,7 @@ pub(crate) fn make_slots(
     }
 }
 
-// Returns the area of an application after the frame, by a call of its box.
+// Returns the area of an application after the frame, computed by a call of the application's box.
 fn area_drafted(rack: &mut Rack, setting: &Setting<'_>, seen: &mut Seen, a: u8) -> Area
     requires a { a < 8 }
     ensures area { let s = setting.now in result ≡ area_drafted s.spec.now s.tasks seen.old (areas_shown s.snap.now) a }

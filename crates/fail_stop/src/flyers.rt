@@ -1,4 +1,4 @@
-//! Processors in flight. The fields are public so that clauses can name them.
+//! Processors in flight. The fields are public because contracts refer to them.
 
 ghost use Rattle.std.specs.Prelude.{◌≡◌, ◌<◌, ◌+◌, ◌∷◌, IfOk, ℕ, None, Some, false, length, map};
 ghost use Rattle.std.specs.Vec.Iter.{into_iter_items, into_iter_len};

@@ -1,6 +1,6 @@
-//! The law of events: the invariant on places and words in each state of each schedule of a script that fits its
-//! specification, under all halts and restarts. Each function states a part of the law by its contract and does
-//! nothing.
+//! The law of events. The invariant `Kept` on places and words holds in each state of each schedule of a script that
+//! fits its specification, under all halts and restarts. Each function states a part of the law by its contract and
+//! does nothing.
 
 ghost use Rattle.fail_stop.specs.Laws.{BanksHoldTheLastStores, DraftsAreOfTraces, EventsKeep, EventsKeepLists, FlightsAreOfTraces, KernelImagesComeBack, KeptIsConsistent, MachineGoesOn, NotesFix, OpeningKeeps, OpeningListsAreOfScripts, ReadersFind, SchedulesKeep};
 
@@ -9,7 +9,7 @@ pub fn flights_are_of_traces()
     ensures { FlightsAreOfTraces }
 {}
 
-/// States that the opening state satisfies the invariant.
+/// States that the opening state satisfies the invariant `Kept`.
 pub fn opening_keeps()
     ensures { OpeningKeeps }
 {}
@@ -20,35 +20,37 @@ pub fn opening_lists_are_of_scripts()
     ensures { OpeningListsAreOfScripts }
 {}
 
-/// States that an event that is the next of its actor preserves the invariant, whatever the other actors did meanwhile.
+/// States that an event that is the next of its actor preserves the invariant `Kept`, whatever the other actors did
+/// meanwhile.
 pub fn events_keep()
     ensures { EventsKeep }
 {}
 
-/// States that an event that is the next of its actor preserves the invariant if the words are kept in one list. The
-/// event writes at most one entry of the list.
+/// States that an event that is the next of its actor preserves the invariant `Kept` if the words are kept in one
+/// list. The event writes at most one entry of the list.
 pub fn events_keep_lists()
     ensures { EventsKeepLists }
 {}
 
-/// States that the invariant implies the facts on marks, banks, places, the release, notes, the kernel's words and the
-/// words that a reader sees.
+/// States that the invariant `Kept` implies the facts on marks, banks, places, the release, notes, the kernel's words
+/// and the words that a reader finds.
 pub fn kept_is_consistent()
     ensures { KeptIsConsistent }
 {}
 
-/// States that each state of each schedule satisfies the invariant.
+/// States that each state of each schedule satisfies the invariant `Kept`.
 pub fn schedules_keep()
     ensures { SchedulesKeep }
 {}
 
-/// States that a processor that reads in a frame finds the images and the kernel's words of that frame. The banks that
-/// it chooses do not change meanwhile.
+/// States that a processor that reads in a frame finds the images and the kernel's words of that frame. The banks
+/// that the processor chooses do not change meanwhile.
 pub fn readers_find()
     ensures { ReadersFind }
 {}
 
-/// States that a processor that the kernel has noted shows its mark and its image at the end of the frame.
+/// States that, if the kernel has noted a processor, the mark and the image of the processor are those after the
+/// kernel's frame.
 pub fn notes_fix()
     ensures { NotesFix }
 {}

@@ -3,8 +3,8 @@
 use bank_words::KernelImage;
 use scram_types::Image;
 
-/// The view of a processor in a frame: the kernel image of the frame, and the image of each processor at the start of
-/// the frame. Entries past the last processor are arbitrary.
+/// The view that a processor has in a frame: the kernel image of the frame, and the image of each processor at the
+/// start of the frame. Entries past the last processor are arbitrary.
 #[derive(Clone, Copy, Debug)]
 pub struct Snapshot {
     pub kernel: KernelImage,

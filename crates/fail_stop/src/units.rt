@@ -1,4 +1,4 @@
-//! Processors, live and halted. The fields are public so that clauses can name them.
+//! Processors, live and halted. The fields are public because contracts refer to them.
 
 ghost use Rattle.std.specs.Prelude.{◌≡◌, ◌<◌, length, ℕ};
 ghost use Rattle.scram_types.specs.Scripts.{ScriptParts};
@@ -30,8 +30,8 @@ pub struct Halted {
 
 impl Live {
     /// Returns the processor of this number, with these boxes.
-    // No clause depends on the precondition. Without a precondition, a function that returns boxes counts as one that
-    // may make boxes, and so does each function that calls it without a precondition.
+    // No postcondition depends on the precondition. Without a precondition, a function that returns boxes counts as
+    // one that may make boxes, and so does each function that calls it without a precondition.
     pub fn new(proc: ProcId, rack: Rack) -> Live
         requires proc { proc.0 < 8 }
         ensures proc { result.proc ≡ proc }
@@ -48,9 +48,9 @@ impl Live {
     }
 
     /// Sets `image` to the image of this processor after the snapshot's frame. The area of each application that the
-    /// processor hosts there is the answer of one call of its rack. The other words are those of its image in the
-    /// snapshot. If the snapshot is that of a frame of a script, the image is the draft of the one-thread trace in
-    /// that frame.
+    /// processor hosts in that frame is the result of one call of the processor's rack. The other words are those of
+    /// the processor's image in the snapshot. If the snapshot is that of a frame of a script, the image is the
+    /// processor's draft in that frame of the one-thread trace.
     pub fn draft(&mut self, spec: &Spec, snap: &Snapshot, image: &mut Image)
         requires proc { self.old.proc.0 < 8 }
         ensures image { image.new ≡ draft_made spec.now snap.now self.old.proc.0 }

@@ -1,5 +1,5 @@
--- Lemmas on a next event of a pair: its numbers are bounded, there is room for it, and the events with it appended
--- are a schedule again.
+-- Lemmas on a next event of a pair. The numbers of the event are bounded, and the list of events has space for it.
+-- The events with the next event appended are a schedule again.
 use Rattle.std.proofs.Common.{◌≡◌, ℕ, ◌+◌, ◌<◌, ◌≤◌, refl, ap, subst, arith, List, [], ◌∷◌, ◌++◌, length}
 use Rattle.std.specs.Prelude.{Option, Some}
 use Rattle.scram_types.specs.Scripts.{ScriptParts}

@@ -64,7 +64,7 @@ module _ {X : Type 0} {Y : X → Type 0} (old new : PairParts) where
     flyers = flyers_go old new (Fly p u) step flyers2 are;
   }
 
-  -- After a note of the first unit, its kernel agrees with the unit, and the second unit's kernel is unchanged.
+  -- After a note of unit 0, the kernel of unit 0 agrees with the unit, and the kernel of unit 1 is unchanged.
   pub first_notes : (u : ℕ) (p : ProcId) → u ≡ 0 → IsPairStep old (Note u p) new → (first first2 second : KernelParts) (flyers : List (Flyer X Y)) → PairCoreKeeps old first second flyers → IsKernelOf new u first2 → PairCoreKeeps new first2 second flyers
   first_notes u p zero step first first2 second flyers k is =
       let own : IsPairStep old (Note 0 p) new = subst (λ (v : ℕ). IsPairStep old (Note v p) new) zero step in record {

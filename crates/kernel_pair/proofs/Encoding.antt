@@ -1,4 +1,4 @@
--- Lemmas that a list of words that is written one by one holds the words of an image.
+-- If the words of a list are written one by one, the list contains the words of an image.
 use Rattle.std.proofs.Common.{◌≡◌, ◌∙◌, ℕ, zero, suc, ℤ, pos, ◌+◌, ◌<◌, ◌≤◌, refl, sym, ap, arith, Bool, true, false, List, [], ◌∷◌, length}
 use Rattle.std.specs.Prelude.{nat_eq, slice_index_or, slice_set, if◌then◌else◌}
 use Rattle.std.proofs.lemmas.Bool.Decides.{nat_tests}
@@ -25,7 +25,8 @@ past_end [] i d l = refl
 past_end (x ∷ xs) zero d l = absurd (omega (arith, l))
 past_end (x ∷ xs) (suc i) d l = past_end xs i d (omega (arith, l))
 
--- If each of 64 words is the encoding of a number of an image, then the words are those of the image at each index.
+-- If each of 64 words is the encoding of the number of an image at the same index, then the words are those of the
+-- image.
 pub words_at : (words : List ℕ) (image : List ℤ) → length words ≡ 64 → length image ≡ 64 → ((i : ℕ) → i < 64 → slice_index_or words i 0 ≡ encode (slice_index_or image i (pos 0)))
     → (i : ℕ) → slice_index_or words i 0 ≡ word_in (image_words image) i
 words_at words image long wide each i = by_place (dec_le (suc i) 64)

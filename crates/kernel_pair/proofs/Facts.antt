@@ -1,4 +1,5 @@
--- If a unit has released frame `k + 1`, then both units have noted frame `k`, unless the other unit has halted.
+-- If a unit has released frame `k + 1`, then both units have noted every processor in frame `k`, unless the other
+-- unit has halted.
 use Rattle.std.proofs.Common.{◌≡◌, ◌≢◌, inl, inr, ℕ, suc, ◌+◌, ◌<◌, ◌≤◌, subst, arith}
 use Rattle.std.specs.Prelude.{Option, None, nat_le, nat_lt, if◌then◌else◌}
 use Rattle.std.proofs.lemmas.Bool.Decides.{nat_tests}

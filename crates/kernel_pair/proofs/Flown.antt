@@ -1,5 +1,5 @@
--- Lemmas that a processor in flight is at its next place after the frame that it makes, with a spare rack for a
--- restart to come.
+-- After a processor in flight has made a frame, it is at its next place. It has a spare rack if a restart is still to
+-- come.
 use Rattle.std.proofs.Common.{◌≡◌, ◌∙◌, ℕ, suc, ◌<◌, refl, ap, sym, subst, arith, Bool, true, false, List}
 use Rattle.std.specs.Prelude.{Option, Some, None, is_some, slice_set, if◌then◌else◌}
 use Rattle.app_model.specs.declared.racks.Rack.{Rack}
@@ -28,8 +28,8 @@ module _ {X : Type 0} {Y : X → Type 0} (m : Flight) (p f : ℕ) where
   pub begun_at : (place : Place) (flyer : Flyer X Y) → IsFlyerAt m p place flyer → frame_to_make (m.restart p) place ≡ Some f → IsUnitAt p (At f 0) (unit_started flyer.unit flyer.spare)
   begun_at place flyer is makes = unit_begun p place flyer.unit flyer.spare f 0 is.unit (has_spare place flyer is makes)
 
-  -- After a start, the processor has the spare rack for any restart that is still to come. No restart follows that of
-  -- a processor that had halted.
+  -- After a start, the processor has the spare rack for any restart that is still to come. A processor that had
+  -- halted has no later restart.
   pub spare_begun : (place : Place) (flyer : Flyer X Y) → IsFlyerAt m p place flyer → frame_to_make (m.restart p) place ≡ Some f → HasSpare m p f (spare_started flyer.unit flyer.spare)
   spare_begun (At g n) flyer is makes = by_unit flyer.unit refl
     where
@@ -47,7 +47,7 @@ module _ {X : Type 0} {Y : X → Type 0} (m : Flight) (p f : ℕ) where
   flown_by None flyer up is has = record { unit = unit_up p (At (suc f) 0) flyer.unit refl up is; spare = λ r e low. has r e (omega arith) }
   flown_by (Some s) flyer up is has = record { unit = unit_stopped p (At f 0) flyer.unit (unit_up p (At f 0) flyer.unit refl up is) refl; spare = has }
 
-  -- After its start and its draft, a processor is at the next frame or has halted in this one.
+  -- After its start and its draft, a processor is at the beginning of the next frame or has halted in frame `f`.
   pub flown : (place : Place) (old begun drafted new : Flyer X Y) → IsFlyerAt m p place old → frame_to_make (m.restart p) place ≡ Some f → begun ≡ flyer_started old
       → is_down drafted.unit ≡ false → unit_proc drafted.unit ≡ unit_proc begun.unit → drafted.spare ≡ begun.spare → new ≡ flyer_after (m.halt p f) f drafted → IsFlyerAt m p (after_frame f (m.halt p f)) new
   flown place old begun drafted new is makes begins up same spare ends =

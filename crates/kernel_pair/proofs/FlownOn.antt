@@ -1,4 +1,4 @@
--- Lemmas on a pair whose flight goes on, event by event: fewer events remain, or the state has not changed.
+-- Lemmas on `IsFlownOn`: fewer events remain, or the state has not changed.
 use Rattle.std.proofs.Common.{◌≡◌, ◌∙◌, ◌⊎◌, ℕ, ◌+◌, ◌<◌, ◌≤◌, ap, sym, subst, arith, inl, inr, length}
 use Rattle.std.specs.Prelude.{Option, Some, None}
 use native.Mathlib.Decide.{ℕ_discrete}
@@ -64,7 +64,8 @@ next_of_unit m halt s u e l i = by_event e i (goes m halt u (s.unit u) (s.unit (
     by_event (Release v) i of = own v (Release v) i of
     by_event (Stop v) i of = own v (Stop v) i of
 
--- If `e` is a next event, and the flight goes on unless `e` is not a next event, then fewer events remain.
+-- If `e` is a next event, and `IsFlownOn` holds with the claim that `e` is not a next event, then fewer events
+-- remain.
 pub attempted : (old new : PairParts) (e : PairEvent) → IsPairNext (pair_flight old) old.halt (pair_in old) e → IsFlownOn old new (IsPairNext (pair_flight old) old.halt (pair_in old) e → ⊥) → left_in new < left_in old
 attempted old new e next on = by_left (ℕ_discrete (left_in new) (left_in old))
   where
@@ -103,8 +104,8 @@ round_fewer old new few (inr next) going on = by_left (ℕ_discrete (left_in new
     by_left (yes same) = absurd (none_next old (on.stuck same).1 few next)
     by_left (no other) = let most = on.fewer in omega arith
 
--- If no processor below `n` makes its frame next, and processor `n` does not either, then no processor below `n + 1`
--- does.
+-- If no processor below `n` has a next event, and processor `n` has none either, then no processor below `n + 1` has
+-- one.
 pub below_more : (k : PairParts) (n : ℕ) → ((q : ProcId) (u : ℕ) → q.0 < n → u < 2 → IsPairNext (pair_flight k) k.halt (pair_in k) (Fly q u) → ⊥)
     → ((u : ℕ) → u < 2 → IsPairNext (pair_flight k) k.halt (pair_in k) (Fly (proc_id n) u) → ⊥)
     → (q : ProcId) (u : ℕ) → q.0 < n + 1 → u < 2 → IsPairNext (pair_flight k) k.halt (pair_in k) (Fly q u) → ⊥
@@ -114,12 +115,12 @@ below_more k n before here q u low l next = by_place (ℕ_discrete q.0 n)
     by_place (yes e) = here u l (subst (λ (i : ℕ). IsPairNext (pair_flight k) k.halt (pair_in k) (Fly (proc_id i) u)) e next)
     by_place (no d) = before q u (omega arith) l next
 
--- No processor makes its frame next.
+-- No processor has a next event.
 abbrev Processors : PairParts → Type 0
 Processors k = (q : ProcId) (u : ℕ) → q.0 < 8 → u < 2 → IsPairNext (pair_flight k) k.halt (pair_in k) (Fly q u) → ⊥
 
--- If the flight goes on with all processors and then with unit 0 and unit 1, then it goes on with the whole round:
--- fewer events remain, or no actor has a next event.
+-- If `IsFlownOn` holds for the turns of all processors, then for those of unit 0 and then for those of unit 1, then
+-- it holds for the whole round. Fewer events remain, or no actor has a next event.
 pub round_on : (old mid mid2 new : PairParts) → IsFlownOn old mid ((q : ProcId) (u : ℕ) → q.0 < 8 → u < 2 → IsPairNext (pair_flight old) old.halt (pair_in old) (Fly q u) → ⊥)
     → IsFlownOn mid mid2 (next_unit (pair_flight mid) mid.halt (pair_in mid) 0 ≡ None) → IsFlownOn mid2 new (next_unit (pair_flight mid2) mid2.halt (pair_in mid2) 1 ≡ None) → IsFlownOn old new (NoneNext old)
 round_on old mid mid2 new one two_ three =

@@ -1,4 +1,4 @@
--- In each state with the invariant `PairKept` the facts of `PairHolds` hold.
+-- Each state with the invariant `PairKept` satisfies `PairHolds`.
 use Rattle.std.proofs.Common.{ap, ◌∙◌, ℕ, suc, ◌<◌, List, length}
 use Rattle.std.specs.Prelude.{Option}
 use Rattle.scram_types.specs.declared.ids.ProcId.{ProcId}

@@ -1,5 +1,5 @@
--- Lemmas that the invariant of a pair holds in its opening, and in each state that a schedule reaches from a state in
--- which it holds.
+-- The opening of a pair satisfies the invariant `PairKept`. A schedule from a state that satisfies the invariant
+-- leads only to states that satisfy the invariant.
 use Rattle.std.proofs.Common.{◌≡◌, ℕ, refl, sym, ◌∙◌, arith, List, [], ◌∷◌}
 use Rattle.std.specs.Prelude.{Option}
 use Rattle.fail_stop.specs.Flights.{Flight, Flies, last_commit, side, end_before, bank_before}

@@ -1,4 +1,5 @@
--- Lemmas that a flight has its invariant at its opening, and that its kernels have ended all frames at its end.
+-- A flight on two units satisfies `PairCoreKeeps` at the opening. Once the flight is over, the kernel of each unit
+-- that has not halted has ended all frames.
 use Rattle.std.proofs.Common.{◌≡◌, ◌∙◌, ◌⊎◌, ℕ, suc, ◌<◌, refl, ap, sym, subst, arith, Bool, true, false, inl, inr, List, [], ◌∷◌, ◌++◌, length}
 use Rattle.std.specs.Prelude.{Option, Some, None, drop, is_some, nat_le, slice_index_or, take, if◌then◌else◌}
 use Rattle.std.proofs.lemmas.Bool.Decides.{nat_tests}
@@ -47,7 +48,7 @@ all_ended k u kernel holds over l going is =
     let stays : OneUnitStays (pair_flight k) (pair_in k) = holds.one_stays in
     ap (λ (x : KernelParts). x.past) is ∙ stays.noted_all over u l going ∙ sym (ap (λ (x : KernelParts). x.script.frames) is)
 
--- A list that is written back to the front of a longer list can be taken from it again.
+-- If a list replaces the front of a longer list, it is the front of the result.
 pub written_back : {A : Type 0} (xs ys : List A) (n : ℕ) → n ≡ length ys → take n (ys ++ drop (length ys) xs) ≡ ys
 written_back {A} xs ys n is = ap (λ (m : ℕ). take m (ys ++ drop (length ys) xs)) is ∙ front ys (drop (length ys) xs)
   where

@@ -1,4 +1,5 @@
--- An event changes one actor. These lemmas derive the invariant after the event from facts about that actor.
+-- An event changes one actor. These lemmas derive the invariant `PairKept` after the event from facts about that
+-- actor.
 use Rattle.std.proofs.Common.{◌≡◌, ℕ, zero, suc, ◌<◌, ◌≤◌, arith}
 use Rattle.std.specs.Prelude.{Option}
 use native.Mathlib.Decide.{ℕ_discrete}
@@ -20,7 +21,7 @@ both zero l P a b = two P a b
 both (suc zero) l P a b = two P b a
 both (suc (suc u)) l P a b = absurd (omega arith)
 
--- The facts from which the invariant follows if unit `u` becomes `x`.
+-- Unit `x` satisfies the facts from which the invariant follows if `x` replaces unit `u`.
 pub record UnitMoves (m : Flight) (halt : Option UnitHalt) (s : Pair) (u : ℕ) (x : KernelUnit) : Type 0 where
   pub own : IsUnit m halt u x
   pub ahead : (p : ℕ) → p < m.procs → IsAhead m p (s.proc p).place x

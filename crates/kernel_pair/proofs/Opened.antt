@@ -1,4 +1,5 @@
--- A state whose actors are those of the opening is an opening, and has the invariant of a pair.
+-- A state whose actors are those of the opening is an opening. A pair in such a state, with no event and enough room,
+-- satisfies `PairKeeps`.
 use Rattle.std.proofs.Common.{◌≡◌, ◌∙◌, ℕ, zero, suc, ◌+◌, ◌*◌, ◌<◌, ◌≤◌, refl, ap, arith, List, [], length}
 use Rattle.std.specs.Prelude.{Option, nat_eq, slice_index_or, if◌then◌else◌}
 use Rattle.scram_types.specs.Scripts.{ScriptParts}
@@ -55,7 +56,7 @@ module _ (spec : Parts) (script : ScriptParts) (facts : IsSpec spec) (list : Lis
     units = λ u l. first_unit first (slice_index_or state.units u blank_unit) is (units u l);
   }
 
--- A pair at its opening satisfies the invariant.
+-- A pair at its opening satisfies `PairKeeps` if its list has room for every event.
 pub open_keeps : (spec : Parts) (script : ScriptParts) (halt : Option UnitHalt) (state : PairState) (events : List PairEvent) (room count : ℕ) → IsSpec spec → Fits spec script
     → IsPairOpening (flight_of spec script) (pair_of state) → events ≡ [] → script.frames * (3 * length spec.procs + 46) + 1 ≤ room → count ≡ 0 → PairKeeps spec script halt state events room count
 open_keeps spec script halt state events room count facts fits opening none enough count_is = record {

@@ -18,7 +18,8 @@ use Rattle.kernel_pair.specs.Kept.{HasMet, IsProcessor, IsStanding, IsUnit, Pair
 use Rattle.kernel_pair.proofs.Frames.{restart_past_is, restart_past_some}
 use Rattle.kernel_pair.proofs.Moving.{both, two}
 
--- While no unit is ahead of frame `k`, a processor has the same place as with one kernel in frame `k`.
+-- If no unit is ahead of frame `k`, the place of a processor is one that `IsPlaced` allows for a single kernel in
+-- frame `k`.
 pub placed_by : (m : Flight) (k j p : ℕ) (place : Place) → IsStanding m p place → ((f : ℕ) → frame_to_make (m.restart p) place ≡ Some f → NotBelow k j p f) → frames_past place ≤ suc k → IsPlaced m k j p place
 placed_by m k j p (At f n) w a b = record { up = w.up; low = (a f refl).0; high = b; fresh = λ g. w.fresh; within = rw w.fresh (omega arith); noted = (a f refl).1; done = λ g. w.done }
 placed_by m k j p (Halted h) d a b = record {
@@ -30,7 +31,7 @@ placed_by m k j p (Halted h) d a b = record {
   noted = λ g r e l. (a r (restart_past_some (m.restart p) h r e l)).1 g;
 }
 
--- A processor that may be noted in frame `k` makes a later frame next.
+-- If a processor that may be noted in frame `k` makes a further frame, that frame is later than frame `k`.
 noted_ahead : (m : Flight) (k p f : ℕ) (place : Place) → Noted m k p place → frame_to_make (m.restart p) place ≡ Some f → k < f
 noted_ahead m k p f (At g n) l e = let same : g ≡ f = cc in subst (λ (x : ℕ). k < x) same l
 noted_ahead m k p f (Halted h) l e = let r = restart_past_is (m.restart p) h f e in l f r.0 r.1
@@ -57,7 +58,8 @@ pub released : (m : Flight) (k f : ℕ) → f < release_at m k → (f ≤ k) × 
 released m k f l = let a : f ≤ k = grind (arith, nat_tests) in let b : 0 < m.frames = grind (arith, nat_tests) in (a, b)
 
 module _ (m : Flight) (halt : Option UnitHalt) (s : Pair) (y : Flies m) (k : PairKept m halt s) where
-  -- Unless unit `u` has halted, the other unit has met it in no more frames than `u` has been ready in.
+  -- Unless unit `u` has halted, the number of frames in which the other unit has met `u` is at most the number of
+  -- frames in which `u` has been ready.
   pub met_other : (u : ℕ) → u < 2 → HasMet m (s.unit (other_unit u)) (s.unit u)
   met_other u l = two (λ v. HasMet m (s.unit (other_unit v)) (s.unit v)) (k.met 1 (omega arith)) (k.met 0 (omega arith)) u l
 

@@ -12,7 +12,7 @@ use Rattle.kernel_pair.specs.declared.events.PairEvent.TheVariants.{Fly, Note, S
 use Rattle.kernel_pair.specs.Pairs.{KernelUnit, is_at_halt, halts_below, may_meet, next_by, next_going, plan_noted, plan_unit, stops_at}
 use Rattle.kernel_pair.specs.Kept.{IsNamed}
 
--- The unit is `n` steps after its notes, in a frame that is not the last.
+-- A unit in frame `k` after `j` steps has made `n` steps after its notes. Frame `k` is not the last frame.
 pub record Behind (m : Flight) (k j n : ℕ) : Type 0 where
   pub at : j ≡ m.procs + n
   pub more : suc k < m.frames

@@ -164,7 +164,7 @@ module _ (m : Flight) (halt : Option UnitHalt) (s : Pair) (y : Flies m) (k : Pai
   late : (u : ℕ) → u < 2 → Meeting m (s.unit u) (s.unit (other_unit u)).ready → Late m (s.unit u) (s.unit (other_unit u))
   late u l w = let z : IsUnit m halt (other_unit u) (s.unit (other_unit u)) = k.units (other_unit u) (other_less u) in late_by m (s.unit u) (s.unit (other_unit u)) (s.unit (other_unit u)).stopped refl (z.ready) w.waits
 
-  -- If a unit has made its last note, then all processors are done.
+  -- If a unit has made its last note, then each processor has made all frames or has halted for good.
   all_done : (u : ℕ) → u < 2 → IsAtEnd m (s.unit u) → ((p r : ℕ) → m.restart p ≡ Some r → suc r ≤ m.frames) → (p : ℕ) → p < m.procs → IsDone m p (s.proc p).place
   all_done u l end within p lp = by_place (s.proc p).place (let o : IsProcessor m p (s.proc p) = k.processors p lp in o.place) (λ f e. (k.ahead u p l lp f e).1 (let n = end.noted_all in omega arith))
     where
@@ -183,7 +183,8 @@ module _ (m : Flight) (halt : Option UnitHalt) (s : Pair) (y : Flies m) (k : Pai
   over_if : (u : ℕ) → u < 2 → IsAtEnd m (s.unit u) → ((s.unit (other_unit u)).stopped ≡ None → IsAtEnd m (s.unit (other_unit u))) → ((p r : ℕ) → m.restart p ≡ Some r → suc r ≤ m.frames) → IsPairOver m s
   over_if u l a b within = inr (all_done u l a within, both u l (λ v. (s.unit v).stopped ≡ None → IsAtEnd m (s.unit v)) (λ n. a) b)
 
-  -- If the other unit has been ready in a unit's frame, then the unit does not wait for it.
+  -- If unit `u` has been ready in the frame of the other unit, and the other unit has not halted, then the other unit
+  -- does not wait for `u`. Some actor has a next event, or the other unit has made its last note.
   other_goes : (u : ℕ) → u < 2 → (s.unit (other_unit u)).stopped ≡ None → ((s.unit (other_unit u)).frame < readies m (s.unit u).frame (s.unit u).step ⊎ IsAtEnd m (s.unit (other_unit u)))
       → HasNext m halt s ⊎ IsAtEnd m (s.unit (other_unit u))
   other_goes u l going c = sorted (unit_goes (other_unit u) (other_less u) going)
@@ -251,7 +252,8 @@ module _ (m : Flight) (halt : Option UnitHalt) (s : Pair) (y : Flies m) (k : Pai
   one_goes within (inl i) = going_on 0 (omega arith) i within
   one_goes within (inr i) = going_on 1 (omega arith) i within
 
-  -- If each unit that has not halted has made its last note, then all processors are done.
+  -- If at least one unit has not halted, and each unit that has not halted has made its last note, then the pair is
+  -- over.
   units_over : ((p r : ℕ) → m.restart p ≡ Some r → suc r ≤ m.frames) → ((u : ℕ) → u < 2 → (s.unit u).stopped ≡ None → IsAtEnd m (s.unit u)) → ((s.unit 0).stopped ≡ None) ⊎ ((s.unit 1).stopped ≡ None) → IsPairOver m s
   units_over within ends_are (inl i) = over_if 0 (omega arith) (ends_are 0 (omega arith) i) (ends_are 1 (omega arith)) within
   units_over within ends_are (inr i) = over_if 1 (omega arith) (ends_are 1 (omega arith) i) (ends_are 0 (omega arith)) within

@@ -1,4 +1,4 @@
--- The words of a unit and the picked banks give the snapshot of the frame.
+-- The words of a unit and the banks that a reader in a frame picks are the snapshot of the frame.
 use Rattle.std.proofs.Common.{◌≡◌, ◌∙◌, ℕ, suc, ℤ, pos, ◌<◌, true, false, refl, ap, arith, List, [], ◌∷◌, length}
 use Rattle.std.specs.Prelude.{nat_lt, slice_index_or}
 use Rattle.std.proofs.lemmas.Bool.Decides.{nat_tests}

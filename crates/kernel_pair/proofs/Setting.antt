@@ -1,5 +1,5 @@
--- If a state has another unit or another processor at an index of its lists, then it represents the pair with that
--- unit or processor.
+-- If a unit or a processor is replaced at an index of the lists of a state, then the new state represents the pair
+-- with that unit or processor.
 use Rattle.std.proofs.Common.{◌≡◌, ◌∙◌, ℕ, ◌<◌, Bool, true, false, refl, ap, arith, List, length}
 use Rattle.std.specs.Prelude.{nat_eq, slice_index_or, slice_set, if◌then◌else◌}
 use Rattle.std.proofs.lemmas.Bool.Decides.{nat_tests}

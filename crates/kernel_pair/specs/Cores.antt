@@ -1,4 +1,5 @@
--- The relation of the kernels and processors in flight of a flight on two units to the state of its pair.
+-- The relation between a flight on two units and the state of its pair. It concerns the kernel of each unit and the
+-- processors in flight.
 use Rattle.std.specs.Prelude.{◌≡◌, ℕ, List, Option, Some, None}
 use Rattle.scram_kernel.specs.Kernels.{KernelParts, kernel_after}
 use Rattle.fail_stop.specs.declared.flyers.Flyer.{Flyer}
@@ -25,13 +26,13 @@ pub record PairCoreKeeps {X : Type 0} {Y : X → Type 0} (pair : PairParts) (ker
   pub second : IsKernelOf pair 1 other
   pub flyers : AreFlyersAt (pair_flight pair) (places_in (pair_in pair)) crew
 
--- A processor in flight after its draft of frame `f`, given the step of its halt in the frame, or `None`. With a halt
--- it has halted, and otherwise it is unchanged.
+-- A processor in flight after its draft of frame `f`, given the step of its halt in the frame. The processor is
+-- unchanged if the step is `None`. Otherwise it has halted.
 abbrev pub flyer_after : {X : Type 0} {Y : X → Type 0} → Option ℕ → ℕ → Flyer X Y → Flyer X Y
 flyer_after None f flyer = flyer
 flyer_after (Some s) f flyer = flyer_halted f flyer
 
--- The event is one of a unit that involves neither a processor nor a word: `Ready`, `Meet`, `Release` or `Stop`.
+-- The event is `Ready`, `Meet`, `Release` or `Stop`. Such an event of a unit involves neither a processor nor a word.
 abbrev pub IsTurn : PairEvent → Type 0
 IsTurn (Fly p u) = ⊥
 IsTurn (Note u p) = ⊥

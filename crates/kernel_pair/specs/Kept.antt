@@ -7,21 +7,21 @@ use Rattle.fail_stop.specs.Kept.{mark_at, end_at, bank_at, kernel_at, release_at
 use Rattle.kernel_pair.specs.declared.events.UnitHalt.{UnitHalt}
 use Rattle.kernel_pair.specs.Pairs.{Processor, KernelUnit, Pair, other_unit, frame_to_make}
 
--- Processor `p` may be at the beginning of frame `f`, after `n` = 0 steps. The frame is at most the last one. The
--- processor is up in it and is done with the preceding frame.
+-- Processor `p` may be at the beginning of frame `f`. The number `n` of its steps is 0, and `f` is at most the number
+-- of frames. The processor is up in frame `f` and is done with the preceding frame.
 pub record Waiting (m : Flight) (p f n : ℕ) : Type 0 where
   pub fresh : n ≡ 0
   pub within : f ≤ m.frames
   pub up : m.up p f ≡ true
   pub done : end_before m p f ≡ 2 * f
 
--- Processor `p` may have halted in frame `h`, since it is up and has a halt in that frame.
+-- Processor `p` may have halted in frame `h`: it is up and has a halt in that frame.
 pub record Down (m : Flight) (p h : ℕ) : Type 0 where
   pub step : ℕ
   pub up : m.up p h ≡ true
   pub halts : m.halt p h ≡ Some step
 
--- Processor `p` may be at the place.
+-- Processor `p` may be at the place. It is at the beginning of a frame (`Waiting`) or has halted in one (`Down`).
 abbrev pub IsStanding : Flight → ℕ → Place → Type 0
 IsStanding m p (At f n) = Waiting m p f n
 IsStanding m p (Halted h) = Down m p h
@@ -41,8 +41,8 @@ readies m k j = if nat_lt (m.procs + 20) j then suc k else k
 abbrev pub meetings : Flight → ℕ → ℕ → ℕ
 meetings m k j = if nat_lt (m.procs + 21) j then suc k else k
 
--- The ready word of a unit in frame `k` after `j` steps. It is twice the number of frames in which the unit has been
--- ready, or `2 * t + 1` if the unit has halted in frame `t`.
+-- The ready word of a unit in frame `k` after `j` steps, given the frame of its halt. It is `2 * t + 1` if the unit
+-- has halted in frame `t`. Otherwise it is twice the number of frames in which the unit has been ready.
 abbrev pub ready_at : Flight → Option ℕ → ℕ → ℕ → ℕ
 ready_at m None k j = 2 * readies m k j
 ready_at m (Some t) k j = 2 * t + 1
@@ -53,8 +53,8 @@ pub record IsNamed (halt : Option UnitHalt) (u : ℕ) : Type 0 where
   pub is : halt ≡ Some named
   pub unit : u ≡ named.unit
 
--- The words of unit `u`, and the marks and images that it has noted, are those of its frame and step. Only the unit
--- that the halt names has halted. If the flight has no frame, the unit makes no step.
+-- The words of unit `u`, and the marks and images that the unit has noted, are those of the unit's frame and step.
+-- Only the unit that the halt names has halted. If the flight has no frame, the unit makes no step.
 pub record IsUnit (m : Flight) (halt : Option UnitHalt) (u : ℕ) (x : KernelUnit) : Type 0 where
   pub below : 0 < m.frames → x.frame < m.frames
   pub still : m.frames ≡ 0 → (x.frame ≡ 0) × (x.step ≡ 0)
@@ -72,27 +72,29 @@ pub record IsUnit (m : Flight) (halt : Option UnitHalt) (u : ℕ) (x : KernelUni
 abbrev pub NotBelow : ℕ → ℕ → ℕ → ℕ → Type 0
 NotBelow k j p f = (k ≤ f) × (p < j → k < f)
 
--- The frame that processor `p` makes next is at least the frame of a unit, and above it if the unit has noted `p`.
+-- The frame that processor `p` makes next is at least the frame of a unit. If the unit has noted `p`, it is above the
+-- frame of the unit.
 abbrev pub IsAhead : Flight → ℕ → Place → KernelUnit → Type 0
 IsAhead m p place x = (f : ℕ) → frame_to_make (m.restart p) place ≡ Some f → NotBelow x.frame x.step p f
 
--- The number of frames that a processor at a place has left behind, including a frame in which it has halted.
+-- The number of frames that are past for a processor at a place. A frame in which the processor has halted is past.
 abbrev pub frames_past : Place → ℕ
 frames_past (At f n) = f
 frames_past (Halted h) = suc h
 
--- Some unit has released every frame that a processor at this place has left behind.
+-- Some unit has released every frame that is past for a processor at this place.
 pub record IsReached (units : ℕ → KernelUnit) (place : Place) : Type 0 where
   pub unit : ℕ
   pub there : unit < 2
   pub high : frames_past place ≤ suc (units unit).frame
 
--- Unless unit `y` has halted, the number of frames in which unit `x` has met it is at most the number of frames in
--- which `y` has been ready.
+-- Unless unit `y` has halted, the number of frames in which unit `x` has met unit `y` is at most the number of frames
+-- in which `y` has been ready.
 abbrev pub HasMet : Flight → KernelUnit → KernelUnit → Type 0
 HasMet m x y = y.stopped ≡ None → meetings m x.frame x.step ≤ readies m y.frame y.step
 
--- The invariant of a state of a pair.
+-- The invariant of a state of a pair. `IsUnit` holds for each unit, `IsProcessor` and `IsReached` for each processor,
+-- `IsAhead` for each processor and each unit, and `HasMet` for each unit and the other unit.
 pub record PairKept (m : Flight) (halt : Option UnitHalt) (s : Pair) : Type 0 where
   pub units : (u : ℕ) → u < 2 → IsUnit m halt u (s.unit u)
   pub processors : (p : ℕ) → p < m.procs → IsProcessor m p (s.proc p)

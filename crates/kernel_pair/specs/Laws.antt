@@ -20,13 +20,14 @@ use Rattle.kernel_pair.specs.Kept.{PairKept}
 abbrev pub noted_frames : Flight → KernelUnit → ℕ
 noted_frames m x = if nat_le m.procs x.step then suc x.frame else x.frame
 
--- If a unit has released frame `k + 1`, then both units have noted frame `k`, unless the other unit has halted.
+-- If a unit has released frame `k + 1`, then it has noted every processor in frame `k`. The other unit has noted
+-- every processor in frame `k` too, unless the other unit has halted.
 abbrev pub BothHaveNoted : Flight → Pair → Type 0
 BothHaveNoted m s = (u k : ℕ) → u < 2 → suc k < (s.unit u).release
     → (k < noted_frames m (s.unit u)) × ((s.unit (other_unit u)).stopped ≡ None → k < noted_frames m (s.unit (other_unit u)))
 
--- The words of unit `u` are the kernel image of frame `f`. The bank that a reader in the frame picks of each
--- processor holds the processor's image before the frame.
+-- The words of unit `u` are the kernel image of frame `f`. For each processor, the bank that a reader in frame `f`
+-- picks contains the processor's image as of the start of the frame.
 pub record FindsBy (spec : Parts) (script : ScriptParts) (s : Pair) (u f : ℕ) : Type 0 where
   pub kernel : (i : ℕ) → i < 20 → (s.unit u).kernel i ≡ word_in (kernel_words spec script f) i
   pub picked : (q : ℕ) → q < length spec.procs → pick (s.proc q).mark f ≡ image_bank_after spec script q f
@@ -56,7 +57,8 @@ pub record OneUnitStays (m : Flight) (s : Pair) : Type 0 where
 abbrev pub HasNext : Flight → Option UnitHalt → Pair → Type 0
 HasNext m halt s = (event : PairEvent) × IsPairNext m halt s event
 
--- The facts that hold in each state of a pair.
+-- The laws of a state of a pair. `BothHaveNoted`, `ProcessorsFind`, `UnitsHaveNoted` and `OneUnitStays` hold. The
+-- pair is over, or some processor or some unit has a next event.
 pub record PairHolds (spec : Parts) (script : ScriptParts) (halt : Option UnitHalt) (s : Pair) : Type 0 where
   pub both_noted : BothHaveNoted (flight_of spec script) s
   pub found : ProcessorsFind spec script halt s
@@ -64,7 +66,7 @@ pub record PairHolds (spec : Parts) (script : ScriptParts) (halt : Option UnitHa
   pub one_stays : OneUnitStays (flight_of spec script) s
   pub goes_on : IsPairOver (flight_of spec script) s ⊎ HasNext (flight_of spec script) halt s
 
--- The facts of `PairHolds` hold in each state that a schedule reaches from an opening, for every halt of one unit.
+-- `PairHolds` holds in each state that a schedule reaches from an opening, for every halt of one unit.
 abbrev pub PairsHold : Type 0
 PairsHold = (spec : Parts) (script : ScriptParts) → IsSpec spec → Fits spec script
     → (halt : Option UnitHalt) (first : Pair) (events : List PairEvent) (state : Pair)

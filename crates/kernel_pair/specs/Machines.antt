@@ -37,8 +37,8 @@ pair_in k = pair_of k.state
 abbrev pub pair_with : PairParts → PairEvent → Pair
 pair_with k event = pair_after (pair_flight k) k.halt (pair_in k) event
 
--- The invariant of a pair whose list holds `count` events and has room for `room`. The events are a schedule from the
--- opening to the state, and there is room for every remaining event.
+-- The invariant of a pair whose list contains `count` events and has a capacity of `room` events. The events are a
+-- schedule from the opening to the state, and the list has space for every remaining event.
 pub record PairKeeps (spec : Parts) (script : ScriptParts) (halt : Option UnitHalt) (state : PairState) (events : List PairEvent)
     (room count : ℕ) : Type 0 where
   pub facts : IsSpec spec
@@ -46,8 +46,8 @@ pub record PairKeeps (spec : Parts) (script : ScriptParts) (halt : Option UnitHa
   pub replay : IsPairReplay (flight_of spec script) halt events (pair_of state)
   pub room_left : count + pair_left (flight_of spec script) halt (pair_of state) ≤ room
 
--- If the event is a `Fly`, `draft` holds the words of the draft of the processor's next frame. If it is a `Store`,
--- `word` is the word to store.
+-- If the event is a `Fly`, `draft` holds the words of the draft of the processor's next frame. If the event is a
+-- `Store`, `word` is the word to store.
 abbrev pub AreEventWords : Flight → Pair → PairEvent → List ℕ → ℕ → Type 0
 AreEventWords m s (Fly p u) draft word =
     (f : ℕ) → frame_to_make (m.restart p.0) (s.proc p.0).place ≡ Some f → (i : ℕ) → slice_index_or draft i 0 ≡ word_in (m.draft p.0 f) i

@@ -41,8 +41,8 @@ abbrev pub restart_past : ℕ → Option ℕ → Option ℕ
 restart_past h None = None
 restart_past h (Some r) = if nat_lt h r then Some r else None
 
--- The frame that a processor makes next, or `None` if it has halted for good. It is the frame at whose beginning the
--- processor is, or the frame of its restart.
+-- The frame that a processor makes next, or `None` if it has halted for good. This is the frame at the beginning of
+-- which the processor is, or the frame of its restart.
 abbrev pub frame_to_make : Option ℕ → Place → Option ℕ
 frame_to_make restart (At f n) = Some f
 frame_to_make restart (Halted h) = restart_past h restart
@@ -52,7 +52,7 @@ abbrev pub MakesReleased : Option ℕ → Place → ℕ → Type 0
 MakesReleased restart place release = (f : ℕ) × (frame_to_make restart place ≡ Some f) × (f < release)
 
 -- The exclusive upper limit of the number of steps after which a unit may halt in frame `f`. A halt may follow all
--- steps of a frame. In the last frame it must come before the last note.
+-- steps of a frame. In the last frame the halt must come before the last note.
 abbrev pub halts_below : Flight → ℕ → ℕ
 halts_below m f = if nat_lt (suc f) m.frames then m.procs + 24 else m.procs
 
@@ -76,8 +76,8 @@ halt_frame (Some h) = h.frame
 abbrev pub may_meet : ℕ → ℕ → Bool
 may_meet k ready = nat_le (2 * suc k) ready || nat_eq (ready % 2) 1
 
--- The event of unit `u` in frame `k` after `j` steps, once it has noted all processors, or `None` if it waits.
--- `ready` is the other unit's ready word.
+-- The event of unit `u` in frame `k` after `j` steps, once the unit has noted all processors, or `None` if the unit
+-- waits. `ready` is the other unit's ready word.
 abbrev pub plan_noted : Flight → ℕ → ℕ → ℕ → ℕ → Option PairEvent
 plan_noted m u k j ready =
     if nat_lt j (m.procs + 20) then Some (Store u (j - m.procs))
@@ -109,7 +109,8 @@ next_by m halt u x ready ends =
 abbrev pub next_unit : Flight → Option UnitHalt → Pair → ℕ → Option PairEvent
 next_unit m halt s u = next_by m halt u (s.unit u) (s.unit (other_unit u)).ready (λ p. (s.proc p).end)
 
--- An event is a next event of its actor. A processor may have two, which are its frame by the words of either unit.
+-- An event is a next event of its actor. A processor may have two next events: its next frame by the words of unit 0,
+-- and the same frame by the words of unit 1.
 abbrev pub IsPairNext : Flight → Option UnitHalt → Pair → PairEvent → Type 0
 IsPairNext m halt s (Fly p u) = (p.0 < m.procs) × (u < 2) × MakesReleased (m.restart p.0) (s.proc p.0).place (s.unit u).release
 IsPairNext m halt s (Note u p) = (u < 2) × (next_unit m halt s u ≡ Some (Note u p))
@@ -119,8 +120,8 @@ IsPairNext m halt s (Meet u) = (u < 2) × (next_unit m halt s u ≡ Some (Meet u
 IsPairNext m halt s (Release u) = (u < 2) × (next_unit m halt s u ≡ Some (Release u))
 IsPairNext m halt s (Stop u) = (u < 2) × (next_unit m halt s u ≡ Some (Stop u))
 
--- Processor `p` with state `x` after it has made frame `f`. Its draft is in the bank that its mark did not name, whole
--- or up to its halt.
+-- Processor `p` with state `x` after it has made frame `f`. The bank that its mark did not name contains its draft,
+-- whole or up to its halt.
 abbrev pub frame_made : Flight → ℕ → ℕ → Processor → Processor
 frame_made m p f x = record {
   place = after_frame f (m.halt p f);
@@ -251,7 +252,8 @@ pub record IsFirstUnit (m : Flight) (x : KernelUnit) : Type 0 where
   pub ready : x.ready ≡ 0
   pub kernel : (i : ℕ) → i < 20 → x.kernel i ≡ word_in (m.kernel_image 0) i
 
--- The state is an opening. Entries past the last processor, the last unit and the last word are arbitrary.
+-- Each processor and each unit of the state is at the opening. Entries past the last processor, the last unit and the
+-- last word are arbitrary.
 pub record IsPairOpening (m : Flight) (s : Pair) : Type 0 where
   pub processors : (p : ℕ) → p < m.procs → IsFirstProcessor m p (s.proc p)
   pub units : (u : ℕ) → u < 2 → IsFirstUnit m (s.unit u)
@@ -272,8 +274,8 @@ pub record IsAtEnd (m : Flight) (x : KernelUnit) : Type 0 where
   pub last : suc x.frame ≡ m.frames
   pub noted_all : m.procs ≤ x.step
 
--- The pair is over. The flight has no frame, or each processor is done and each unit that has not halted has made its
--- last note.
+-- The pair is over. The flight has no frame, or each processor has made all frames or has halted for good and each
+-- unit that has not halted has made its last note.
 abbrev pub IsPairOver : Flight → Pair → Type 0
 IsPairOver m s = (m.frames ≡ 0)
     ⊎ (((p : ℕ) → p < m.procs → IsDone m p (s.proc p).place) × ((u : ℕ) → u < 2 → (s.unit u).stopped ≡ None → IsAtEnd m (s.unit u)))

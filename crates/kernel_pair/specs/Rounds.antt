@@ -3,7 +3,7 @@ use Rattle.std.specs.Prelude.{◌≡◌, ◌≤◌, ℕ}
 use Rattle.kernel_pair.specs.Machines.{PairParts, pair_flight, pair_in}
 use Rattle.kernel_pair.specs.Rooms.{pair_left}
 
--- The number of events of a pair that remain.
+-- The maximum number of events of a pair that remain.
 abbrev pub left_in : PairParts → ℕ
 left_in k = pair_left (pair_flight k) k.halt (pair_in k)
 

@@ -1,4 +1,4 @@
--- The state of a pair, as the definitions have it, that a value of `PairState` represents.
+-- The state of a pair that a value of `PairState` represents.
 use Rattle.std.specs.Prelude.{ℕ, ℤ, pos, List, [], None, nat_lt, slice_index_or, if◌then◌else◌}
 use Rattle.scram_types.specs.Specification.{Parts}
 use Rattle.bank_words.specs.Numbers.{decode}
@@ -20,11 +20,11 @@ abbrev pub stand_place : Stand → Place
 stand_place (stand.Before f) = At f 0
 stand_place (stand.Halted h) = Halted h
 
--- Word `i` of bank `b`.
+-- Word `i` of bank `b`, or 0 if there is no such word.
 abbrev pub bank_word : List (List ℕ) → ℕ → ℕ → ℕ
 bank_word banks b i = slice_index_or (slice_index_or banks b []) i 0
 
--- Word `i` of bank `b`, or 0 if there is no such word.
+-- The processor of the machine that a processor's state represents.
 abbrev pub processor_of : ProcessorState → Processor
 processor_of x = record { place = stand_place x.stand; mark = x.mark; end = x.end; bank = λ b i. bank_word x.banks b i }
 

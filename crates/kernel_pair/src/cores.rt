@@ -188,8 +188,8 @@ impl<'a> PairCore<'a> {
         self.kernel(unit).rows()
     }
 
-    /// Returns the snapshot of processor `p`, which may make frame `frame` by the words of unit `unit`. It holds the
-    /// kernel image of that frame, and every processor's image before the frame.
+    /// Returns the snapshot of processor `p`, which may make frame `frame` by the words of unit `unit`. The snapshot
+    /// contains the kernel image of that frame and the image of every processor as of the start of the frame.
     pub fn snapshot(&self, p: ProcId, unit: u8, frame: u32) -> Snapshot
         requires next { IsPairNext (pair_flight self.now) self.now.halt (pair_in self.now) (Fly p unit) }
         requires frame { frame_to_make (restart_of self.now.script p.0) ((pair_in self.now).proc p.0).place ≡ Some frame }
@@ -198,9 +198,10 @@ impl<'a> PairCore<'a> {
         self.machine.snapshot(p, unit, frame)
     }
 
-    /// States the facts that hold in each state of a flight, and has no effect. Both units have noted a frame before
-    /// either releases the next, unless one has halted. Each processor finds the words and the images of its frame. At
-    /// least one unit has not halted. If the pair is not over, some processor or unit has a next event.
+    /// States the facts that hold in each state of a flight, and has no effect. Both units have noted every processor
+    /// in a frame before either unit releases the next frame, unless one unit has halted. Each processor finds the
+    /// words and the images of its frame. At least one unit has not halted. If the pair is not over, some processor
+    /// or unit has a next event.
     pub fn holds(&self)
         ensures facts { IsSpec self.now.spec }
         ensures holds { PairHolds self.now.spec self.now.script self.now.halt (pair_in self.now) }

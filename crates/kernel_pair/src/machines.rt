@@ -111,7 +111,7 @@ impl<'a> PairMachine<'a> {
         is_next(&self.setup, &self.state, event)
     }
 
-    /// Makes `event`, a next event of its actor. For a `Fly`, `draft` holds the words of the frame's draft, and for a
+    /// Makes `event`, a next event of its actor. For a `Fly`, `draft` holds the words of the frame's draft. For a
     /// `Store`, `word` is the word to store. Other events use neither.
     pub(crate) fn make(&mut self, event: PairEvent, draft: &[u64; 64], word: u64)
         requires next { IsPairNext (pair_flight self.old) self.old.halt (pair_in self.old) event }

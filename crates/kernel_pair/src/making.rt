@@ -18,7 +18,7 @@ use crate::states::PairState;
 use crate::units::UnitState;
 use scram_types::{ProcId, Script, Spec};
 
-/// Makes `event`, a next event of its actor. For a `Fly`, `draft` holds the words of the frame's draft, and for a
+/// Makes `event`, a next event of its actor. For a `Fly`, `draft` holds the words of the frame's draft. For a
 /// `Store`, `word` is the word to store. Other events use neither.
 pub(crate) fn make(
     setup: &Setup,

@@ -14,7 +14,8 @@ use bank_words::words;
 use fault_script::halt_in;
 use scram_types::{HaltAt, ProcId};
 
-/// The state of a processor between two of its frames. It is at the beginning of a frame or has halted in one.
+/// The state of a processor between two of its frames. The processor is at the beginning of a frame (`Before`) or has
+/// halted in a frame (`Halted`).
 #[derive(Clone, Copy, Debug, PartialEq, Eq)]
 pub enum Stand {
     Before(u32),
@@ -31,7 +32,8 @@ pub struct ProcessorState {
 }
 
 impl ProcessorState {
-    /// Makes a frame of the processor with the words of `draft`, up to its halt if it has one in the frame.
+    /// Makes frame `frame` of processor `p` with the words of `draft`. If the processor has a halt in the frame, the
+    /// frame ends with the halt.
     #[tactic(auto, using(crate::proofs::Flying::made_as))]
     pub(crate) fn fly(&mut self, setup: &Setup, p: ProcId, frame: u32, draft: &[u64; 64])
         requires narrow { 8 * length setup.now.spec.now.apps ≤ 64 }

@@ -10,8 +10,8 @@ use crate::cores::PairCore;
 use crate::events::PairEvent;
 use scram_types::ProcId;
 
-/// Makes all remaining events in rounds. In a round, each processor makes its next frame if it can. Then unit 0 makes
-/// events until it has no next event, and then unit 1 does the same.
+/// Makes all remaining events in rounds. In a round, each processor makes its next frame if some unit has released
+/// that frame. Then unit 0 makes events until it has no next event, and then unit 1 does the same.
 pub fn fly_on(core: &mut PairCore)
     ensures spec { core.new.spec ≡ core.old.spec }
     ensures script { core.new.script ≡ core.old.script }

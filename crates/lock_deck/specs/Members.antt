@@ -5,8 +5,8 @@ use Rattle.fail_stop.specs.Flyers.{unit_proc}
 use Rattle.lock_deck.specs.declared.members.Member.{Member}
 use Rattle.lock_deck.specs.SharedCores.{IsDraftOf}
 
--- The processor exists in the mission. Its last draft, if there is one, is the draft that the processor makes in that
--- frame of the mission.
+-- The processor exists in the mission. Its last draft, if there is one, is the draft that the processor makes in the
+-- draft's frame of the mission.
 pub record MemberFits {X : Type 0} {Y : X → Type 0} (mission : MissionParts) (member : Member X Y) : Type 0 where
   pub known : unit_proc member.flyer.unit < length mission.spec.procs
   pub drafted : IfSome member.drafted (IsDraftOf mission (unit_proc member.flyer.unit))

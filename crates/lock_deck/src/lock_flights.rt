@@ -25,8 +25,8 @@ use std::thread;
 use std::thread::{Scope, Threads};
 use trace_props::missions::reconfigurations_are_assured;
 
-/// A flight of a mission before its first step, with all memory that the flight needs. Clauses state that its
-/// processors belong to the mission. Two fields are public so that clauses can name them.
+/// A flight of a mission before its first step, with all memory that the flight needs. Contracts state that the
+/// processors belong to the mission. The fields `mission` and `members` are public because contracts refer to them.
 #[derive(Drop)]
 pub struct LockFlight<'a> {
     pub mission: &'a Mission,
@@ -64,8 +64,9 @@ impl<'a> LockFlight<'a> {
         })
     }
 
-    /// Flies the mission until the flight is over, with a thread for each processor and the kernel on the caller's
-    /// thread. The caller flies the processors whose threads cannot be started, round-robin. The call may block.
+    /// Flies the mission until the flight is over, and returns the core of the flight. Each processor has a thread,
+    /// and the kernel runs on the caller's thread. The caller flies, round-robin, the processors whose threads cannot
+    /// be started. This method may block.
     pub fn run<R: Threads + Wait + Sync>(self, rt: &R) -> Core<'a>
         requires fits { All (λ member. MemberFits self.mission.now member.value) self.members.items }
         ensures spec { result.spec ≡ self.entry.mission.now.spec }
@@ -76,8 +77,8 @@ impl<'a> LockFlight<'a> {
         self.run_on(rt, [true; 8])
     }
 
-    /// Flies the mission like `run`, but with threads only for the processors that `asked` selects. The caller flies
-    /// the others round-robin.
+    /// Flies the mission as `run` does, but asks for a thread for processor `p` only if `asked[p]` is `true`. The
+    /// caller flies the other processors round-robin.
     pub fn run_on<R: Threads + Wait + Sync>(self, rt: &R, asked: [bool; 8]) -> Core<'a>
         requires fits { All (λ member. MemberFits self.mission.now member.value) self.members.items }
         ensures spec { result.spec ≡ self.entry.mission.now.spec }
@@ -96,8 +97,8 @@ impl<'a> LockFlight<'a> {
     }
 }
 
-// The processors that wait for a thread, the processors that the caller flies, and the numbers of those for which
-// threads are requested.
+// The processors that wait for a thread, the processors that the caller flies, and for each processor whether a
+// thread is requested for it.
 #[derive(Drop)]
 struct Roster {
     members: Vec<CachePadded<Member>>,
@@ -105,7 +106,8 @@ struct Roster {
     asked: [bool; 8],
 }
 
-// Returns the processors of a mission with their racks, from the last processor down.
+// Returns the processors of a mission with their racks, from the last processor down. The only error is that memory
+// runs out.
 fn make_members(
     alloc: Global,
     mission: &Mission,
@@ -125,8 +127,8 @@ fn make_members(
     Ok(members)
 }
 
-// Takes the last rack and the last spare rack, and adds the processor with these racks if the mission has it. Its
-// number is the number of racks that remain.
+// Takes the last rack and the last spare rack, and adds the processor with these racks if the mission has it. The
+// number of the processor is the number of racks that remain. The only error is that memory runs out.
 fn add_next(
     mission: &Mission,
     racks: &mut Vec<Rack>,
@@ -144,8 +146,9 @@ fn add_next(
     }
 }
 
-// Takes the last rack and the last spare rack, and returns the processor with these racks. Its number is the number
-// of racks that remain. Returns `None` if a rack is missing or the mission has no processor of that number.
+// Takes the last rack and the last spare rack, and returns the processor with these racks. The number of the
+// processor is the number of racks that remain. Returns `None` if a rack is missing or the mission has no processor
+// of that number.
 fn next_member(mission: &Mission, racks: &mut Vec<Rack>, spares: &mut Vec<Rack>) -> Option<Member>
     requires few { vec_len racks.old ≤ 8 }
     ensures few { vec_len racks.new ≤ 8 }
@@ -169,7 +172,7 @@ fn take_rack(racks: &mut Vec<Rack>) -> Option<Rack>
     racks.pop()
 }
 
-// Adds a processor to the processors that wait for a thread.
+// Adds a processor to the processors that wait for a thread. The only error is that memory runs out.
 fn add_member(members: &mut Vec<CachePadded<Member>>, member: Member) -> Result<(), NoMemory>
     ensures { OnOk result ((mission : MissionParts) → MemberFits mission member → All (λ member. MemberFits mission member.value) members.old.items
         → All (λ member. MemberFits mission member.value) members.new.items) }
@@ -197,7 +200,7 @@ fn fly<'a, J: FlightOf + Send + Sync, R: Threads + Wait + Sync>(
     finish(rt, shared.into_inner().into_core())
 }
 
-// Makes the remaining steps of the flight. If all threads have flown to its end, there are none.
+// Makes the remaining steps of the flight. No step remains if all threads have flown to the end of the flight.
 fn finish<'a, R: Wait>(rt: &R, core: Core<'a>) -> Core<'a>
     ensures spec { result.spec ≡ core.entry.spec }
     ensures script { result.script ≡ core.entry.script }

@@ -1,4 +1,4 @@
-//! Processors with their last drafts. The fields are public so that clauses can name them.
+//! Processors with their last drafts. The fields are public because contracts refer to them.
 
 ghost use Rattle.std.specs.Prelude.{◌≡◌, ◌<◌, false, length, true, None, Some, ℕ};
 ghost use Rattle.fail_stop.specs.declared.flyers.Unit.TheVariants.{Up};
@@ -43,8 +43,8 @@ impl Member {
         self.flyer.proc()
     }
 
-    /// Acts on the result of a turn at the lock. The processor drafts from a returned snapshot and halts if the turn
-    /// was its halt. With the start of its restart it becomes live again in its spare rack.
+    /// Acts on the result of a turn at the lock. The processor makes a draft of a returned snapshot, and halts if the
+    /// turn was its halt. A start after a halt makes the processor live again with its spare rack.
     pub(crate) fn follow(&mut self, mission: &Mission, made: &Made)
         requires saw { IfSaw made.now (IsSnapshotOf mission.now) }
         requires fits { MemberFits mission.now self.old }

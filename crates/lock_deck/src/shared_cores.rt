@@ -1,4 +1,4 @@
-//! The core of a flight under its lock. The type of a value taken out of a lock is all that is known of the value, so
+//! The core of a flight under its lock. Nothing but the type is known about a value taken out of a lock. Therefore
 //! the type names the mission.
 
 ghost use Rattle.std.specs.Prelude.{◌≡◌, IfSome, None, Option, Some};
@@ -14,7 +14,7 @@ use fail_stop::Draft;
 use scram_types::ProcId;
 use std::marker::{Brand, PhantomData};
 
-/// The mission of a flight, as a type. Each call that flies chooses its own.
+/// The mission of a flight, as a type. Each call that flies a mission chooses a type of its own.
 pub(crate) trait FlightOf {
     ghost mission: { Option MissionParts };
 }

@@ -86,8 +86,8 @@ fn make_turn_of_each<'a, J: FlightOf, R: Wait>(
     }
 }
 
-// Makes a step of a processor under the lock, if one is next, and acts on its result outside the lock. Returns
-// `false` if no step was next.
+// Makes a step of a processor under the lock, if one is next, and acts on the result of the step outside the lock.
+// Returns `false` if no step was next.
 fn make_turn<'a, J: FlightOf>(
     mission: &Mission,
     shared: MutexGuard<'_, SharedCore<'a, J>>,

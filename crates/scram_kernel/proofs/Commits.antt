@@ -1,4 +1,4 @@
--- The marks after a frame show which processors committed the frame.
+-- The marks after a frame determine which processors committed the frame.
 use Rattle.std.proofs.Common.{◌≡◌, ◌∙◌, ℕ, zero, suc, ◌-◌, ◌/◌, ◌<◌, ◌≤◌, ap, arith, length, Bool, true, false, List}
 use Rattle.std.specs.Prelude.{◌==◌, if◌then◌else◌}
 use Rattle.std.proofs.lemmas.Bool.Decides.{nat_tests}
@@ -28,7 +28,7 @@ told : (b : Bool) (last bank n : ℕ) → last ≤ n → bank ≤ 1 → (mark_wo
 told true last bank n low small = let half : mark_word (suc n) bank / 2 ≡ suc n = grind arith in grind (arith, nat_tests, half)
 told false last bank n low small = let half : mark_word last bank / 2 ≡ last = grind arith in grind (arith, nat_tests, half)
 
--- The mark after frame `n` shows whether the processor committed frame `n`.
+-- Half of the mark after frame `n` is `n + 1` if and only if the processor committed frame `n`.
 pub mark_tells : (spec : Parts) (script : ScriptParts) (p n : ℕ) → (mark_after spec script p (suc n) / 2 == suc n) ≡ commits spec script p n
 mark_tells spec script p n =
     told (commits spec script p n) (last_count spec script p n) (image_bank_after spec script p (suc n)) n (last_low spec script p n) (bank_low spec script p (suc n))

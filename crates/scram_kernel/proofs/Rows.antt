@@ -1,4 +1,4 @@
--- The row that is drawn is the row of the frame.
+-- The row that `row_drawn` computes is the row of the frame in the one-thread trace.
 use Rattle.std.proofs.Common.{◌≡◌, ◌∙◌, ℕ, suc, ◌<◌, refl, ap, arith, length, Bool, true, false, List}
 use Rattle.std.specs.Prelude.{ℤ, ◌==◌, Option, Some, None, IfSome, if◌then◌else◌}
 use Rattle.std.proofs.lemmas.Bool.Decides.{nat_tests}
@@ -20,7 +20,8 @@ use Rattle.frame_model.specs.Storage.{kernel_image}
 use Rattle.scram_kernel.specs.Marks.{AreImages, AreMarks}
 use Rattle.scram_kernel.proofs.Commits.{committed_told}
 
--- If a processor commits a frame and hosts an application in it, its slot holds the area that the law gives.
+-- If a processor commits a frame and hosts an application in it, the application's slot holds the area that the law
+-- of its kind computes.
 slot_made : (spec : Parts) (script : ScriptParts) (f a : ℕ) (proc : ProcId) → commits spec script proc.0 f ≡ true → (task_given spec script f a).proc ≡ Some proc
     → slot_after spec script proc.0 (suc f) a ≡ law_of spec (env_at spec script f) (state_after spec script f) (task_given spec script f a) a
 slot_made spec script f a proc commits_it hosts = let itself : (proc.0 == proc.0) ≡ true = grind (arith, nat_tests) in rw (commits_it, hosts, itself) refl

@@ -17,8 +17,8 @@ use Rattle.scram_kernel.specs.Marks.{mark_in}
 abbrev pub has_committed : List ℕ → ℕ → ℕ → Bool
 has_committed marks f p = mark_in marks p / 2 == suc f
 
--- The area of application `a` after a frame: zeros if the application is off, its slot if its processor has committed
--- the frame, or else the old area.
+-- The area of application `a` after a frame: zeros if the application is off, the application's slot if the
+-- application's processor has committed the frame, or else the old area.
 abbrev pub area_from : (ℕ → Bool) → List (List ℤ) → ℕ → List ℤ → Option ProcId → List ℤ
 area_from committed images a old None = zeros
 area_from committed images a old (Some proc) = if committed proc.0 then slot_in (image_in images proc.0) a else old

@@ -29,7 +29,8 @@ abbrev pub rows_below : Parts → ScriptParts → ℕ → List Row
 rows_below spec script f = listed_below (row_at spec script) f
 
 -- The values are those of a kernel after `f` frames: the image of frame `f` and the areas before that frame. The rows
--- are those of the first `f` frames, with their reading and the reports of the reconfigurations that ended in them.
+-- are those of the first `f` frames. `reading` is the reading of these rows, and `reports` are the reports of the
+-- reconfigurations that ended in these rows.
 pub record HoldsFlight (spec : Parts) (script : ScriptParts) (f : ℕ) (image : KernelImage) (areas : List (List ℤ))
     (reading : Reading) (rows : List Row) (reports : List Report) : Type 0 where
   pub image_is : image ≡ kernel_image spec script f
@@ -38,8 +39,8 @@ pub record HoldsFlight (spec : Parts) (script : ScriptParts) (f : ℕ) (image : 
   pub reading_is : reading ≡ reading_of spec (rows_below spec script f)
   pub reports_are : reports ≡ ended spec (rows_below spec script f)
 
--- After `f` frames there is room for the rest of the flight. It needs a row for each frame, and a report for each frame
--- and one at the end.
+-- After `f` frames there is room for the rest of the flight. The flight needs a row for each frame, a report for each
+-- frame, and one report at the end.
 pub record HasRoomForFlight (frames f room_of_rows room_of_reports count_of_rows count_of_reports : ℕ) : Type 0 where
   pub within : f ≤ frames
   pub rows_fit : frames ≤ room_of_rows
@@ -47,8 +48,8 @@ pub record HasRoomForFlight (frames f room_of_rows room_of_reports count_of_rows
   pub rows_told : count_of_rows ≡ f
   pub reports_few : count_of_reports ≤ f
 
--- The invariant of a kernel. Its image is the image of the running frame, which is also the frame of its walk.
--- Therefore the image gives the number of frames that have ended.
+-- The invariant of a kernel. The kernel's image is the image of the running frame, which is also the frame of the
+-- walk. Therefore the frame of the image is the number of frames that have ended.
 pub record KernelKeeps (spec : Parts) (script : ScriptParts) (walk : Walk) (image : KernelImage) (areas : List (List ℤ))
     (reading : Reading) (rows : List Row) (reports : List Report) (room_of_rows room_of_reports count_of_rows count_of_reports : ℕ) : Type 0 where
   pub facts : IsSpec spec

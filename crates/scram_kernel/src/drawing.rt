@@ -105,8 +105,8 @@ fn act_after(task: &Task, marks: &[u64; 8], frame: u32) -> Act
     }
 }
 
-// Sets the area of application `a` before the frame to its area after the frame: zeros if the application is off, its
-// slot if its processor has committed the frame, or else the old area.
+// Sets the area of application `a` before the frame to its area after the frame: zeros if the application is off, the
+// application's slot if the application's processor has committed the frame, or else the old area.
 fn draw_area(task: &Task, stored: &Stored<'_>, frame: u32, a: u8, area: &mut Area)
     requires { a < 8 }
     ensures { area.new ≡ area_from (has_committed stored.now.marks.now frame) stored.now.images.now a area.old task.now.proc }

@@ -33,7 +33,7 @@ pub(crate) fn image_next(
     ensures { result ≡ image_next spec.now row.now keepers env }
 {
     let phase = phase_at(spec, &row.mode, row.frame);
-    // The areas are not read by a decision.
+    // A decision does not read the areas.
     let sys = Sys {
         frame: row.frame + 1,
         mode: row.mode,

@@ -9,9 +9,9 @@ use scram_types::{Area, Flown, Image, List, NoMemory, Report, Row, Script, Spec}
 use std::alloc::Global;
 
 /// The kernel of a flight, given by a specification and a script, after a number of frames. The kernel calls no
-/// application. It takes the acts of a frame from the marks and the images of the processors after the frame. It
-/// takes the environment of the next frame from the script, along which it walks. It keeps the image of the running
-/// frame, the areas before that frame, and the rows and the reconfigurations of the frames that have ended.
+/// application. It computes the acts of a frame from the marks and the images of the processors after the frame. It
+/// reads the environment of the next frame from the script. It has the image of the running frame, the areas before
+/// that frame, and the rows and the reconfigurations of the frames that have ended.
 #[derive(Drop)]
 pub struct Kernel<'a> {
     spec: &'a Spec,
@@ -95,7 +95,7 @@ impl<'a> Kernel<'a> {
 
     /// Ends the running frame, given the processors' marks and images after it. Appends the frame's row, continues
     /// the reading of reconfigurations, and walks on to the next frame. Returns the kernel image of the next frame,
-    /// even after the last frame. Not all frames may have ended before the call.
+    /// even after the last frame. At least one frame of the script must not have ended before the call.
     pub fn tick(&mut self, marks: &[u64; 8], images: &[Image; 8]) -> KernelImage
         requires frames { self.old.past < self.old.script.frames }
         requires marks { AreMarks self.old.spec self.old.script (self.old.past + 1) marks.now }

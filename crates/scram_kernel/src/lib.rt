@@ -1,5 +1,5 @@
 //! The kernel of a flight. From the marks and the images of the processors after each frame it writes the frame's row
-//! and logs reconfigurations. It then gives the image of the next frame, exactly as in the one-thread trace.
+//! and logs reconfigurations. It then returns the image of the next frame, exactly as in the one-thread trace.
 #![tactic(auto)]
 
 mod drawing;

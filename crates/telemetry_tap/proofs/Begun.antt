@@ -1,4 +1,4 @@
--- The number of reconfigurations that have begun in the first frames.
+-- Lemmas on the number of reconfigurations that begin in the first `m` frames.
 use Rattle.std.proofs.Common.{◌≡◌, ◌∙◌, ℕ, zero, suc, ◌+◌, ◌-◌, ◌<◌, ◌≤◌, ap, sym, subst, refl, inl, inr, arith, Bool, true, false, List, [], ◌∷◌, ◌++◌, length, append_assoc}
 use Rattle.std.specs.Prelude.{Option, Some, None, filter, map, slice_get, take, if◌then◌else◌}
 use Rattle.std.proofs.Math.Seq.{take-append_seam}
@@ -79,7 +79,7 @@ one_more spec rows row =
     omega (arith, parts, a, b, d, e)
 
 -- The number of reconfigurations that begin in the first `m` frames is the number of reconfigurations read from the
--- first `m` rows. It is at most `m`.
+-- first `m` rows. The number is at most `m`.
 pub begun_as_read : BeginningsAreRead → (mission : MissionParts) (m : ℕ) → m ≤ mission.script.frames → summary_begun mission m ≡ length (reports mission.spec (first_rows mission m))
 begun_as_read law mission m le =
     let rows = listed_below (row_at mission.spec mission.script) m in
@@ -121,8 +121,8 @@ begun_few law mission (suc m) le =
 pub none_begun : BeginningsAreRead → (mission : MissionParts) → 0 ≡ summary_begun mission 0
 none_begun law mission = let few = begun_few law mission 0 (omega arith) in omega (arith, few)
 
--- From one summary to a later one, the number of reconfigurations that have begun does not fall, and rises by at most
--- 1 with each frame.
+-- From one summary to a later one, the number of reconfigurations that have begun does not decrease, and rises by at
+-- most 1 with each frame.
 goes_on : BeginningsAreRead → (mission : MissionParts) (m k : ℕ) → m + k ≤ mission.script.frames
     → (summary_begun mission m ≤ summary_begun mission (m + k)) × (summary_begun mission (m + k) ≤ summary_begun mission m + k)
 goes_on law mission m zero le = let e : m + 0 ≡ m = omega arith in rw e (omega arith, omega arith)

@@ -17,7 +17,7 @@ use Rattle.telemetry_tap.specs.declared.summaries.Summary.{Summary}
 use Rattle.telemetry_tap.specs.Summaries.{summary_begun, begun_with, first_rows, summary_running, running_number, summary_after, summary_up}
 use Rattle.telemetry_tap.proofs.Begun.{begun_as_read, begun_next, first_listed, reading_next, row_is, within}
 
--- The last row shows which configuration runs and which processors are up.
+-- `last_running` and `last_up` of a list depend on the last row of the list only.
 running_last : (spec : Parts) (before : ℕ) (rows : List Row) (row : Row) → last_running spec before (rows ++ row ∷ []) ≡ running_number (running spec row.acts)
 running_last spec before [] row = refl
 running_last spec before (x ∷ xs) row = running_last spec (running_number (running spec x.acts)) xs row

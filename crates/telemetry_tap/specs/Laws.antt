@@ -1,4 +1,4 @@
--- Laws of the definitions in this crate's contracts.
+-- Laws of summaries: the rows of a summary, the number of reconfigurations that have begun, and the encoding.
 use Rattle.std.specs.Prelude.{◌≡◌, ℕ, ◌+◌, ◌-◌, ◌<◌, ◌≤◌, ◌^◌, List, [], ◌∷◌, length}
 use Rattle.scram_types.specs.Specification.{Parts}
 use Rattle.scram_types.specs.declared.rows.Row.{Row}
@@ -32,7 +32,7 @@ abbrev pub SummariesTellRows : Type 0
 SummariesTellRows = (mission : MissionParts) (m : ℕ) → m ≤ mission.script.frames
     → summary_after mission m ≡ summary_of mission.spec (summary_up mission 0) (first_rows mission m)
 
--- The number of reconfigurations that have begun never falls, and rises by at most 1 with each frame.
+-- The number of reconfigurations that have begun never decreases, and rises by at most 1 with each frame.
 abbrev pub SummariesGoOn : Type 0
 SummariesGoOn = (mission : MissionParts) (m n : ℕ) → m ≤ n → n ≤ mission.script.frames
     → (summary_begun mission m ≤ summary_begun mission n) × (summary_begun mission n ≤ summary_begun mission m + (n - m))

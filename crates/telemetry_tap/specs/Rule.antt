@@ -8,16 +8,16 @@ use Rattle.telemetry_tap.specs.declared.views.TapView.{TapView}
 use Rattle.telemetry_tap.specs.Summaries.{summary_after}
 use Rattle.telemetry_tap.specs.Words.{FitsWord, summary_encode}
 
--- View `v`, which has number `j`, keeps the rule of a table whose writer has view `writer` and has published `m`
--- rows. It knows the mission. If it is a writer's view, `j` is `writer` and it counts `m` rows, and otherwise it
--- counts at most `m` rows.
+-- View `v` with number `j` satisfies the rule of the tap's table. The writer has view `writer` and has published `m`
+-- rows. View `v` knows the mission. If `v` is the writer's view, `j` is `writer` and `v` counts `m` rows. Otherwise
+-- `v` counts at most `m` rows.
 pub record IsTapView (mission : MissionParts) (m writer j : ℕ) (v : TapView) : Type 0 where
   pub planned : v.mission ≡ Some mission
   pub writing : v.writes ≡ true → (j ≡ writer) × (v.seen ≡ m)
   pub reading : v.writes ≡ false → v.seen ≤ m
 
 -- Exactly one view is the writer's, and the word is the encoded summary of the rows that the writer has published. No
--- reader has seen more rows than that.
+-- reader has seen more rows than the writer has published.
 pub record IsTapState (mission : MissionParts) (s : State (Unit {0}) TapView) : Type 0 where
   pub m : ℕ
   pub writer : ℕ
@@ -34,7 +34,7 @@ pub record IsTapState (mission : MissionParts) (s : State (Unit {0}) TapView) : 
 abbrev pub writer_view : MissionParts → TapView
 writer_view mission = record { mission = Some mission; writes = true; seen = 0; loads = 0 }
 
--- A seat in the table, which has a view and no slots.
+-- A seat in the table. A seat has a view and no slots.
 abbrev pub TapSeat : Type 0
 TapSeat = Me (Unit {0}) TapView
 

@@ -7,7 +7,7 @@ use Rattle.telemetry_tap.specs.declared.taps.Tap.{Tap}
 use Rattle.telemetry_tap.specs.declared.taps.Writer.{Writer}
 use Rattle.telemetry_tap.specs.Summaries.{summary_begun, first_rows}
 
--- The mission whose flight a tap shows.
+-- The mission of a tap.
 abbrev pub tap_mission : Tap → MissionParts
 tap_mission tap = tap.table.shared.key
 
@@ -23,8 +23,8 @@ rows_seen reader = reader.inner.me.0.seen
 abbrev pub loads_of : Reader → ℕ
 loads_of reader = reader.inner.me.0.loads
 
--- A writer belongs to the tap. It keeps the number of rows that it has published, the number of reconfigurations
--- begun in them, and the reading of these rows.
+-- A writer belongs to the tap. It records the number of rows that it has published, the number of reconfigurations
+-- that begin in these rows, and the reading of these rows.
 pub record IsWriterOf (tap : Tap) (writer : Writer) : Type 0 where
   pub table : writer.inner.table_id ≡ tap.table.shared.table_id
   pub mission : writer.inner.me.0.mission ≡ Some (tap_mission tap)

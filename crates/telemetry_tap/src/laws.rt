@@ -1,4 +1,4 @@
-//! Laws of the definitions in this crate's contracts. Each function states a law by its contract.
+//! Laws of summaries. Each function states a law by its contract.
 
 ghost use Rattle.telemetry_tap.specs.Laws.{SummariesComeBack, SummariesGoOn, SummariesTellRows};
 
@@ -11,7 +11,8 @@ pub fn summaries_tell_rows()
     beginnings_are_read();
 }
 
-/// States that the number of reconfigurations that have begun never falls, and rises by at most 1 with each frame.
+/// States that the number of reconfigurations that have begun never decreases, and rises by at most 1 with each
+/// frame.
 pub fn summaries_go_on()
     ensures { SummariesGoOn }
 {

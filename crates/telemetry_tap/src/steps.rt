@@ -16,7 +16,7 @@ use frame_model::{read_row, running};
 use scram_types::Row;
 
 impl<'a> Tap<'a> {
-    /// Returns the mission whose flight the tap shows.
+    /// Returns the mission of the tap.
     pub fn mission(&self) -> &Mission
         ensures { result.now ≡ tap_mission self.now }
     {
@@ -49,8 +49,8 @@ impl<'a> Tap<'a> {
         writer.reading = reading;
     }
 
-    /// Loads the word and returns its summary, which has at least as many rows as the last one that this reader has
-    /// seen. This method does not allocate and does not block.
+    /// Loads the word and returns the summary that the word encodes. The summary has at least as many rows as the
+    /// last summary that this reader has seen. This method does not allocate and does not block.
     pub fn read(&self, reader: &mut Reader) -> Summary
         requires reader { IsReaderOf self.now reader.old }
         ensures reader { IsReaderOf self.now reader.new }

@@ -36,8 +36,8 @@ impl Summary {
     }
 }
 
-/// Returns the word that encodes a summary. It has `frames` in bits 0 to 15, `begun` in bits 16 to 31, `running` in
-/// bits 32 to 39 and `up` in bits 40 to 47.
+/// Returns the word that encodes a summary. The word has `frames` in bits 0 to 15, `begun` in bits 16 to 31,
+/// `running` in bits 32 to 39 and `up` in bits 40 to 47.
 pub fn summary_encode(summary: &Summary) -> u64
     ensures { result ≡ summary_encode summary.now }
 {

@@ -1,4 +1,4 @@
-//! Taps, which show the summaries of a flight. A writer publishes them and readers load them.
+//! Taps. A writer publishes the summaries of a flight at a tap, and readers load them.
 
 ghost use Rattle.std.specs.Prelude.{◌≡◌};
 
@@ -8,7 +8,7 @@ use coverage_check::Mission;
 use frame_model::Reading;
 use std::alloc::Global;
 
-/// The word of a flight's summary, with the flight's mission. Threads share it by reference.
+/// The word of a flight's summary, with the flight's mission. Threads share a tap by reference.
 #[derive(Drop)]
 pub struct Tap<'a> {
     pub(crate) mission: &'a Mission,
@@ -18,8 +18,8 @@ pub struct Tap<'a> {
     ghost slots: { table.shared.table_id.slots ≡ 0 },
 }
 
-/// The only writer of a tap. For the next summary it keeps the number of rows published so far, the number of
-/// reconfigurations begun in them, and their reading.
+/// The only writer of a tap. For the next summary it records the number of rows published so far, the number of
+/// reconfigurations that begin in these rows, and the reading of these rows.
 #[derive(Drop)]
 pub struct Writer {
     pub(crate) published: u32,

@@ -1,4 +1,5 @@
-//! The views of seats at the table, the rule that every step keeps, and the steps. No value of these types is made.
+//! The views of seats at the table, the rule that every step keeps, and the steps. No value of these types is
+//! created.
 
 use atomic_table::{Play, Split, TableRule};
 use coverage_check::Mission;
@@ -13,7 +14,7 @@ pub struct TapView {
 }
 
 /// The rule of the table. Exactly one view is the writer's, and the word encodes the summary of the rows that the
-/// writer has published. No reader has seen more rows than that.
+/// writer has published. No reader has seen more rows than the writer has published.
 pub struct TapRule;
 
 impl TableRule<(), TapView, Mission> for TapRule {

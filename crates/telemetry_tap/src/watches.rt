@@ -7,7 +7,7 @@ ghost use Rattle.telemetry_tap.specs.Taps.{IsWriterOf};
 use crate::taps::{Tap, Writer};
 use scram_types::Row;
 
-/// A receiver of the rows of a mission while it is flown. It takes each row once and in order.
+/// A receiver of the rows of a mission while the mission is flown. A watch takes each row once and in order.
 pub trait Watch: Drop {
     ghost use Rattle.std.specs.Prelude.{ℕ};
     ghost use Rattle.coverage_check.specs.Missions.{MissionParts};

@@ -40,7 +40,8 @@ target_known n c v [] to known = known
 target_known n c v (rule ∷ rules) to known =
     by_test (λ (t : ConfId). t.0 < n) (rule_fits c v rule) _ _ (λ e. to 0 rule refl) (λ e. target_known n c v rules (λ k other there. to (suc k) other there) known)
 
--- If a property holds for the frames of each bound in a list, then it holds for the bound that the list gives.
+-- If a property holds for the frames of each bound in a list, then it holds for the bound that the list has for a
+-- change from `i` to `j`.
 pub bound_each : (P : ℕ → Type 0) (i j t : ℕ) (bounds : List Bound) → ((k : ℕ) (bound : Bound) → slice_get bounds k ≡ Some bound → P bound.frames) → bound_in bounds i j ≡ Some t → P t
 bound_each P i j t [] each is = cc
 bound_each P i j t (bound ∷ bounds) each is =
@@ -85,7 +86,7 @@ app_known spec sound c a p h =
     let at = (sound.confs c.0 t.conf t.there).places a p t.place in
     slice_get_within spec.apps a at.app at.there
 
--- The test that an environment belongs to the specification decides whether it belongs.
+-- Lemmas that `is_env` decides whether an environment belongs to the specification.
 value_of : (spec : Parts) (v : Env) (x : ℕ) (o : Option Factor) → slice_get spec.factors x ≡ o → has_value spec v x ≡ true → nat_lt (factor_in v x) (option_map_or (λ (factor : Factor). length factor.values) o 1) ≡ true
 value_of spec v x o e h = rw e at h
 

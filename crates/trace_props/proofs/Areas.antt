@@ -107,7 +107,7 @@ abbrev pub source_of : CourseReading → ℕ
 source_of (Steady c) = c
 source_of (Leaving c s) = c
 
--- A reading that has left `c` since row `s`: its source is `c` in each frame from `s` to `e`.
+-- Frame `s` is before frame `e`, and the source of the reading is `c` in each frame from `s` to `e`.
 pub record SinceLeft (plan : Plan) (course : Course) (e c s : ℕ) : Type 0 where
   pub before : s < e
   pub sources : (g : ℕ) → s ≤ g → g ≤ e → source_of (course_reading_before plan course g) ≡ c
@@ -288,7 +288,8 @@ module _ (plan : Plan) (build : Build) (course : Course) (commits : ℕ → ℕ 
         let was : acts g a ≡ WasOff = act ∙ (rw off refl) in
         rw next at (rw was at (filled.writes g a (omega arith) known))
 
--- Facts on the reading, and on the row in which a reported reconfiguration ends.
+-- Report `r` is that of a reconfiguration that ends in row `f`. Before the row, the reading has left the report's
+-- source in the report's begin. The row runs the report's target.
 pub record Reported (course : Course) (f : ℕ) (rd : CourseReading) (r : CourseReport) : Type 0 where
   pub reading : rd ≡ Leaving r.from r.begin
   pub row : course.running f ≡ Some r.to

@@ -1,4 +1,5 @@
--- Each reconfiguration that the rows of a script show keeps its invariants, and its target's preconditions hold before its end.
+-- Each reconfiguration that is read off the rows of a script keeps its invariants, and its target's preconditions
+-- hold before its end.
 use Rattle.std.proofs.Common.{◌≡◌, ℕ, suc, ◌<◌, true, refl, arith, ap, sym, ◌∙◌, subst, length}
 use Rattle.std.specs.Prelude.{Some, None, slice_get}
 use Rattle.std.proofs.lemmas.Option.{slice_get_within}

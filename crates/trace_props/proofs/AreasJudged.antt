@@ -1,5 +1,4 @@
--- The judging of SP4 gives the first frame in which a reconfiguration breaks SP4, or a proof that the reconfiguration
--- keeps SP4.
+-- `unkept_at` is the first frame in which a reconfiguration breaks SP4, or `None` if the reconfiguration keeps SP4.
 use Rattle.std.proofs.Common.{◌≡◌, ℕ, zero, suc, ◌+◌, ◌-◌, ◌≤◌, true, false, refl, arith, ap, sym, ◌∙◌, List, [], ◌∷◌, ◌⊎◌}
 use mathlib.Core.Logic.{inl, inr}
 use Rattle.std.specs.Prelude.{Option, Some, None, ℤ, slice_get, not, option_and_then, if◌then◌else◌}

@@ -41,7 +41,7 @@ pub least_none : (test : ℕ → Bool) (i n : ℕ) → least_from test i n ≡ N
 least_none test i zero h j from below = absurd (omega arith)
 least_none test i (suc n) h j from below = least_none_in test i n j (test i) refl h from (λ e k. least_none test (suc i) n e j k (omega arith))
 
--- The order neither runs an application nor has it off. The act of such an order fits no place.
+-- The order is neither `Run` nor `Off`. The act of such an order fits no place.
 abbrev pub Idle : CourseOrder → Type 0
 Idle (Run p) = ⊥
 Idle (Halt k n p) = Unit {0}
@@ -95,7 +95,8 @@ place_same p q h = place_made p.mode.0 p.proc.0 q.mode.0 q.proc.0 (equal p.mode.
 pub place_self : (p : Place) → place_eq p p ≡ true
 place_self p = and_true _ _ (equal_test p.mode.0 p.mode.0 refl) (equal_test p.proc.0 p.proc.0 refl)
 
--- Lemmas that the act of a run order fits no place but the order's own, and fits that place if it was committed.
+-- Lemmas on the act of a run order. The act fits no place but the order's place. It fits the order's place if the
+-- processor of that place commits.
 ran_none : (b : Bool) (p : Place) → course_is_off (if b then Ran p else Lost) ≡ true → ⊥
 ran_none true p h = true_false false h refl
 ran_none false p h = true_false false h refl
@@ -119,8 +120,8 @@ lost_running : (commits : ℕ → Bool) (there : Option Place) → course_fits_p
 lost_running commits None h = absurd (true_false true refl h)
 lost_running commits (Some p) h = (p, refl, ran_not (commits p.proc.0) p h)
 
--- The phase agrees with the mode in frame `f`. It is the running phase if and only if the mode is to run its target,
--- its configuration exists, and the running phase has the mode's target.
+-- The phase agrees with the mode in frame `f`. The phase is the running phase if and only if the mode is to run its
+-- target. The configuration of the phase exists, and in the running phase it is the mode's target.
 abbrev pub InPhase : Plan → CourseMode → ℕ → CoursePhase → Type 0
 InPhase plan mode f ph = (runs_in ph ≡ course_is_running plan mode f) × (conf_of ph < plan.configurations) × (runs_in ph ≡ true → conf_of ph ≡ course_target mode)
 

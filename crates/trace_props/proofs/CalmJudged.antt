@@ -1,4 +1,4 @@
--- The judging of SP6 gives the first calm row that does not satisfy the demands, or a proof that SP6 holds.
+-- `unsatisfied_at` is the frame of the first calm row that does not satisfy the demands, or `None` if SP6 holds.
 use Rattle.std.proofs.Common.{◌≡◌, ℕ, zero, suc, ◌-◌, ◌<◌, ◌≤◌, Bool, true, false, not, refl, arith, ap, sym, ◌∙◌, List, [], ◌∷◌, length}
 use mathlib.Core.Logic.{inl, inr}
 use Rattle.std.specs.Prelude.{Option, Some, None, slice_get, option_map, nat_le}

@@ -1,4 +1,5 @@
--- Each calm row of a mission is settled: the mode is stable in it, and since nothing is lost, the row runs its target.
+-- Each calm row of a mission satisfies `IsSettled`. The mode is stable in the row. Since no application is lost in
+-- the row, the row runs the configuration of the mode.
 use Rattle.std.proofs.Common.{◌≡◌, ℕ, suc, ◌+◌, ◌-◌, ◌<◌, ◌≤◌, Bool, true, false, not, refl, arith, ◌≢◌, ap, sym, ◌∙◌, subst, List, length}
 use Rattle.std.specs.Prelude.{Option, Some, None, option_map, slice_get, ◌&&◌, ◌||◌}
 use Rattle.std.proofs.lemmas.Option.{same_Some, slice_get_within}

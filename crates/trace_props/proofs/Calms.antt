@@ -12,8 +12,8 @@ use Rattle.trace_props.proofs.Counting.{count_changed, count_le, count_same}
 use Rattle.trace_props.proofs.Deadlines.{Deadlines, bound_of, in_bound, kept_in, further_cases}
 use Rattle.trace_props.proofs.Coupling.{Coupled, changed_when, coupled}
 
--- The facts on the mode of frame `f` that do not depend on the rows. The configuration of a stable mode is chosen
--- again, and a moving mode keeps its deadlines.
+-- In frame `f`, the configuration of a stable mode is chosen again, and a moving mode satisfies `Deadlines`. These
+-- facts do not depend on the rows.
 abbrev pub TimedIn : Plan → Course → ℕ → CourseMode → Type 0
 TimedIn plan course f (Stable c) = (plan.choose c (course.env f) ≡ c) × (c < plan.configurations)
 TimedIn plan course f (Moving from halting to since) = (first : ℕ) × Deadlines plan course first f from halting to since
@@ -24,15 +24,15 @@ timed_in plan course f (Steady c) (Moving from halting to since) h = (f, h.deadl
 timed_in plan course f (Leaving c s) (Stable k) h = absurd h.moves
 timed_in plan course f (Leaving c s) (Moving from halting to since) h = (h.first, h.moves.1)
 
--- A reconfiguration under way began with a change of the environment and has seen no other, and its target is chosen
--- again. This holds if a window has at most one change.
+-- In a moving mode, frame `since` is a change frame, no later frame up to frame `f` is a change frame, and the target
+-- is chosen again in frame `f`. A stable mode always satisfies the condition.
 abbrev pub SeesOneChange : Plan → Course → ℕ → CourseMode → Type 0
 SeesOneChange plan course f (Stable c) = Unit {0}
 SeesOneChange plan course f (Moving from halting to since) =
     (p : ℕ) × (since ≡ suc p) × (course_changes_at plan course.env (suc p) ≡ true) × (course_changes_upto plan course.env f ≡ course_changes_upto plan course.env since) × (plan.choose to (course.env f) ≡ to)
 
 module _ (plan : Plan) (course : Course) (accepted : IsAcceptedPlan plan) (within : IsCourseWithin plan course) where
-  -- If a decision keeps the target, then a moving mode either arrives in it or continues.
+  -- If a decision keeps the target, then a moving mode either arrives in the target or continues.
   by_decision : (good : CourseMode → Type 0) (f from : ℕ) (halting : Option ℕ) (to since : ℕ)
       → course_wanted plan from to (course.env (suc f)) ≡ to
       → good (course_stable_decision (suc f) to (plan.choose to (course.env (suc f))))
@@ -53,8 +53,8 @@ module _ (plan : Plan) (course : Course) (accepted : IsAcceptedPlan plan) (withi
   stays_stable : (good : CourseMode → Type 0) (f c : ℕ) → good (Stable c) → plan.choose c (course.env (suc f)) ≡ c → good (course_stable_decision (suc f) c (plan.choose c (course.env (suc f))))
   stays_stable good f c stable rests = by_test good (nat_eq (plan.choose c (course.env (suc f))) c) _ _ (λ e. stable) (λ e. absurd (differ _ _ e rests))
 
-  -- If a window has at most one change, and the reconfiguration began with it, then the next frame is not a change
-  -- frame.
+  -- If a window has at most one change, and the reconfiguration began with a change, then the next frame is not a
+  -- change frame.
   no_other : (first f p from : ℕ) (halting : Option ℕ) (to since : ℕ) → suc f ≤ course.frames → plan.changes ≡ 0 → Deadlines plan course first f from halting to since
       → since ≡ suc p → course_changes_at plan course.env (suc p) ≡ true → course_changes_upto plan course.env f ≡ course_changes_upto plan course.env since → course_changes_at plan course.env (suc f) ≡ false
   no_other first f p from halting to since inside none d is began counted = not_true (course_changes_at plan course.env (suc f)) (λ changed.
@@ -91,8 +91,8 @@ module _ (plan : Plan) (course : Course) (accepted : IsAcceptedPlan plan) (withi
   alone flown none (suc f) inside =
       alone_step f inside none (course_mode_at plan course f) (timed flown f (omega arith)) (alone flown none f (omega arith))
 
-  -- If the target of a moving mode is not what the table chooses now, then the bounds allow for two further changes
-  -- or more.
+  -- If the table does not choose the target of a moving mode again, then the bounds allow for two further changes or
+  -- more.
   put_off : IsCourseFlown plan course → (f first from : ℕ) (halting : Option ℕ) (to since : ℕ) → f ≤ course.frames → Deadlines plan course first f from halting to since
       → course_mode_at plan course f ≡ Moving from halting to since → plan.choose to (course.env f) ≢ to → 2 ≤ plan_further plan
   put_off flown f first from halting to since inside d moded away = elim (further_cases plan) [
@@ -108,7 +108,8 @@ module _ (plan : Plan) (course : Course) (accepted : IsAcceptedPlan plan) (withi
       none_or_more : (n : ℕ) → (n ≡ 0) ⊎ (1 ≤ n)
       none_or_more n = grind arith
 
--- The arithmetic for a reconfiguration that follows another one: it is over less than `b` frames after `s`.
+-- The arithmetic for a reconfiguration that follows another one. The reconfiguration is over less than `b` frames
+-- after `s`.
 followed : (f since halted p i h pj ij q x t b s : ℕ) → f ≤ since + halted + p + i → since ≤ s → halted + 2 ≤ q → p + i + 1 + h ≤ q → 2 ≤ x → 1 + h + x * q + pj + ij ≤ t → t ≤ b
     → suc f + h + pj + ij < s + b
 followed f since halted p i h pj ij q x t b s settled old short slow twice enough most = let m : 2 * q ≤ x * q = grind arith in omega arith
@@ -143,7 +144,8 @@ module _ (plan : Plan) (course : Course) (accepted : IsAcceptedPlan plan) (withi
     soon_at f (Stable c) is h = tt
     soon_at f (Moving from halting to since) is h = let now = h.1.now in inl (omega arith)
 
-    -- If a reconfiguration ends in a target that is not chosen again, then the next reconfiguration ends in time.
+    -- If a reconfiguration ends in a target that is not chosen again, then the next reconfiguration satisfies
+    -- `EndsSoon`.
     follows_soon : (f first from : ℕ) (halting : Option ℕ) (to since : ℕ) → suc f ≤ course.frames → course.env f ≡ course.env (suc f) → course_mode_at plan course f ≡ Moving from halting to since
         → Deadlines plan course first f from halting to since → since ≤ s → plan.choose to (course.env (suc f)) ≢ to
         → EndsSoon plan course s b (suc f) (Moving to (Some to) (plan.choose to (course.env (suc f))) (suc f))

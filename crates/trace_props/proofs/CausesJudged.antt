@@ -1,5 +1,5 @@
--- The judging of SP5 gives the frame in which a reconfiguration breaks SP5, or a proof that the reconfiguration keeps
--- SP5.
+-- `causeless_at` is the frame in which a reconfiguration breaks SP5, given the reconfiguration just before, or `None`
+-- if the reconfiguration keeps SP5.
 use Rattle.std.proofs.Common.{◌≡◌, ℕ, zero, suc, ◌+◌, ◌-◌, ◌<◌, ◌≤◌, true, false, refl, arith, ap, sym, ◌∙◌, List, [], ◌∷◌, length, ◌⊎◌, subst}
 use mathlib.Core.Logic.{inl, inr}
 use Rattle.std.specs.Prelude.{Option, Some, None, slice_get, ◌==◌, ◌&&◌, ◌||◌, nat_le, is_some, option_map}

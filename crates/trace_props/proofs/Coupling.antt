@@ -110,7 +110,8 @@ module _ (plan : Plan) (course : Course) (accepted : IsAcceptedPlan plan) (withi
       (λ arrived. absurd (true_false _ (and_right _ _ arrived) (left (and_left _ _ arrived))))
       (λ e. moves_on first f from halting to since inside d moded (λ running. row.lost running (left running) d.runnable))
 
-  -- If the reading is steady before the first moving frame, then after that frame it agrees with the next mode.
+  -- If the reading is steady before the first moving frame, then after that frame the reading agrees with the next
+  -- mode.
   pub after_start : (f c from : ℕ) (halting : Option ℕ) (to since : ℕ) → suc f ≤ course.frames → Starts plan course f c from halting to since
       → CourseRowUnder plan course f (Moving from halting to since) → course_mode_at plan course f ≡ Moving from halting to since
       → Coupled plan course (suc f) (course_read_row course f (Steady c)) (course_decision_after plan course f (Moving from halting to since))
@@ -134,8 +135,8 @@ module _ (plan : Plan) (course : Course) (accepted : IsAcceptedPlan plan) (withi
           let new = st.new in
           omega arith)
 
-  -- If the reading has left a configuration before a moving frame, then after that frame it agrees with the next
-  -- mode.
+  -- If the reading has left a configuration before a moving frame, then after that frame the reading agrees with the
+  -- next mode.
   pub after_leaving : (f c s first from : ℕ) (halting : Option ℕ) (to since : ℕ) → suc f ≤ course.frames → s ≤ first → first ≤ suc s → first ≡ course_first_moving plan course s → from ≡ c → Deadlines plan course first f from halting to since → CourseHasCause plan course s
       → CourseRowUnder plan course f (Moving from halting to since) → course_mode_at plan course f ≡ Moving from halting to since
       → course_report_at plan course f ≡ course_report_of course f (Leaving c s)
@@ -191,7 +192,7 @@ module _ (plan : Plan) (course : Course) (accepted : IsAcceptedPlan plan) (withi
           change_next)
           (λ e. true_false _ ran_to (and_false _ _ e o.0)))
 
-  -- If the reading agrees with the mode in a frame, then it agrees with it in the next one.
+  -- If the reading agrees with the mode in a frame, then the next reading agrees with the next mode.
   pub coupled_step : (f : ℕ) → suc f ≤ course.frames → (r : CourseReading) (m : CourseMode) → Coupled plan course f r m → CourseRowUnder plan course f m
       → course_report_at plan course f ≡ course_report_of course f r → course_mode_at plan course f ≡ m → Coupled plan course (suc f) (course_read_row course f r) (course_decision_after plan course f m)
   coupled_step f inside (Steady c) (Stable k) h row reported moded =

@@ -34,8 +34,8 @@ abbrev pub written_by : (ℕ → CourseAct) → Written → ℕ → Written
 written_by acts w zero = w
 written_by acts w (suc f) = written_after (acts f) (written_by acts w f)
 
--- The laws of areas. `lies a w v` states that area `v` of application `a` lies in the ranges of its writer `w`, and
--- `initialised a p v` that it lies in the ranges after a whole initialisation at `p`.
+-- The laws of areas. `lies a w v` states that area `v` of application `a` lies in the ranges of its writer `w`.
+-- `initialised a p v` states that area `v` of application `a` lies in the ranges after a whole initialisation at `p`.
 pub record AreaLaws : Type 0 where
   pub lies : ℕ → Written → CourseArea → Bool
   pub initialised : ℕ → Place → CourseArea → Bool
@@ -49,7 +49,8 @@ IsAreaFilled laws a (Initialised k n p) old new = (laws.lies a (DidInit p) new �
 IsAreaFilled laws a WasOff old new = laws.lies a Zeros new ≡ true
 IsAreaFilled laws a Lost old new = new ≡ old
 
--- The areas open and are filled by the laws. `area f a` is the area of application `a` after `f` frames.
+-- The start areas lie in the ranges of their first writers, and each act fills its area as the laws require. `area f
+-- a` is the area of application `a` after `f` frames.
 pub record AreAreasFilled (plan : Plan) (build : Build) (course : Course) (commits : ℕ → ℕ → Bool) (laws : AreaLaws) (area : ℕ → ℕ → CourseArea) : Type 0 where
   pub opens : (a : ℕ) → a < build.apps → laws.lies a (opening_written (build.place plan.start a)) (area 0 a) ≡ true
   pub writes : (f a : ℕ) → f < course.frames → a < build.apps → IsAreaFilled laws a (course_acts_at plan build course commits f a) (area f a) (area (suc f) a)

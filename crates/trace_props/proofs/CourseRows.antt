@@ -118,7 +118,10 @@ course_runs build acts c = all_below (λ a. course_fits_place (build.place c a) 
 abbrev pub course_acts_at : Plan → Build → Course → (ℕ → ℕ → Bool) → ℕ → ℕ → CourseAct
 course_acts_at plan build course commits f a = course_act_of (commits f) (course_order_in build (course_phase plan (course_mode_at plan course f) f) a)
 
--- The facts on the build of an accepted specification.
+-- The build agrees with the plan of an accepted specification. A configuration in which an application has a place
+-- exists. In each configuration some application halts first. Each initialisation takes at least one frame and ends
+-- within the initialising phase. Configurations with the same places are equal. Each processor that a runnable
+-- configuration uses is up.
 pub record IsBuilt (plan : Plan) (build : Build) : Type 0 where
   pub placed_in : (c a : ℕ) (p : Place) → build.place c a ≡ Some p → c < plan.configurations
   pub first_halts : (c : ℕ) → c < plan.configurations → (a : ℕ) × (p : Place) × (a < build.apps) × (build.place c a ≡ Some p) × (build.halt_offset c a ≡ 0)
@@ -126,8 +129,8 @@ pub record IsBuilt (plan : Plan) (build : Build) : Type 0 where
   pub differ : (i j : ℕ) → i < plan.configurations → j < plan.configurations → ((a : ℕ) → a < build.apps → build.place i a ≡ build.place j a) → i ≡ j
   pub needs_up : (c a : ℕ) (p : Place) (v : Env) → a < build.apps → build.place c a ≡ Some p → plan.is_runnable c v ≡ true → build.is_up p.proc.0 v ≡ true
 
--- The rows of the course result from the orders and the processors that commit. A processor that does not commit is
--- down in this frame's environment or in the next.
+-- The rows of the course result from the orders and the processors that commit. A processor that does not commit a
+-- frame is down in the environment of that frame or of the next frame.
 pub record IsRun (plan : Plan) (build : Build) (course : Course) (commits : ℕ → ℕ → Bool) : Type 0 where
   pub runs_is : (f j : ℕ) → f < course.frames → course.runs f j ≡ course_runs build (course_acts_at plan build course commits f) j
   pub running_is : (f : ℕ) → f < course.frames → course.running f ≡ least_from (course.runs f) 0 plan.configurations

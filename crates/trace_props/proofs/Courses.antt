@@ -1,5 +1,5 @@
--- Definitions of a course, which gives environments and rows as functions of the frame, and of its modes, the reading
--- of its rows and its reports.
+-- Definitions of a course, its modes, the reading of its rows, and its reports. A course consists of environments and
+-- rows as functions of the frame.
 use Rattle.std.specs.Prelude.{◌≡◌, ℕ, zero, suc, ◌+◌, ◌-◌, ◌<◌, ◌≤◌, Bool, true, false, ◌&&◌, Option, Some, None, if◌then◌else◌}
 use Rattle.scram_types.specs.declared.rows.Env.{Env}
 use Rattle.trace_props.proofs.Plans.{Plan}
@@ -68,8 +68,9 @@ pub record IsCourseWithin (plan : Plan) (course : Course) : Type 0 where
   pub scope : (f : ℕ) → f ≤ course.frames → plan.in_scope (course.env f) ≡ true
   pub few : (f : ℕ) → f ≤ course.frames → course_changes_upto plan course.env f ≤ course_changes_upto plan course.env (f - plan.window) + plan.changes + 1
 
--- Row `f` agrees with a mode. It runs no configuration but the mode's target, and that only if the mode is to run it.
--- If it is to run the target and does not, the target cannot run in this frame's environment or in the next.
+-- Row `f` agrees with a mode. The row runs no configuration but the mode's target, and runs the target only if the
+-- orders of the frame are to run it. If the row does not run a target that it is to run, then the target cannot run
+-- in the environment of frame `f` or of the next frame.
 pub record CourseRowUnder (plan : Plan) (course : Course) (f : ℕ) (mode : CourseMode) : Type 0 where
   pub only : (j : ℕ) → course.runs f j ≡ true → (course_is_running plan mode f ≡ true) × (course_target mode ≡ j)
   pub lost : course_is_running plan mode f ≡ true → course.runs f (course_target mode) ≡ false → plan.is_runnable (course_target mode) (course.env f) ≡ true → plan.is_runnable (course_target mode) (course.env (suc f)) ≡ false

@@ -10,13 +10,16 @@ use Rattle.trace_props.proofs.CourseModes.{CourseMode.Moving, course_wanted}
 use Rattle.trace_props.proofs.Courses.{Course, IsCourseWithin, course_changes_at, course_changes_upto, course_mode_at}
 use Rattle.trace_props.proofs.Counting.{count_changed, count_grows, count_le}
 
--- Frame `g` has this mode, and the processors that the target uses are up in it and in the next frame.
+-- Frame `g` has the mode `Moving from halting to since`. The processors that the target uses are up in frame `g` and
+-- in the next frame.
 pub record IsWhole (plan : Plan) (course : Course) (g from : ℕ) (halting : Option ℕ) (to since : ℕ) : Type 0 where
   pub moded : course_mode_at plan course g ≡ Moving from halting to since
   pub before : plan.is_runnable to (course.env g) ≡ true
   pub behind : plan.is_runnable to (course.env (suc g)) ≡ true
 
--- Facts on frame `f` in a mode `Moving from halting to since` whose first moving frame is `first`.
+-- Frame `f` has the mode `Moving from halting to since`, its reconfiguration has the first moving frame `first`, and
+-- the frame is within the deadlines of the reconfiguration. The target can run, and was chosen from the source in
+-- frame `first` or later.
 pub record Deadlines (plan : Plan) (course : Course) (first f from : ℕ) (halting : Option ℕ) (to since : ℕ) : Type 0 where
   pub from_in : from < plan.configurations
   pub to_in : to < plan.configurations
@@ -251,7 +254,7 @@ module _ (plan : Plan) (course : Course) (accepted : IsAcceptedPlan plan) (withi
       (next_count first f from halting to since inside d).changed
       (not_false (course_changes_at plan course.env (suc f)) (λ calm. other (kept_in first f from halting to since d calm)))
 
-  -- If the policy chooses another target while the halting phase goes on, then the deadlines hold in the next frame.
+  -- If the policy chooses another target before the halting phase is over, then the deadlines hold in the next frame.
   pub turns_early : (first f from : ℕ) (halting : Option ℕ) (to since : ℕ) → suc f ≤ course.frames → Deadlines plan course first f from halting to since
       → course_wanted plan from to (course.env (suc f)) ≢ to → suc f - since < plan_halting plan halting
       → Deadlines plan course first (suc f) from halting (course_wanted plan from to (course.env (suc f))) since

@@ -1,5 +1,4 @@
--- The comparison of the reports with the reconfigurations that are read gives the frame in which SP1 is broken, or a
--- proof that SP1 holds.
+-- `difference` is the frame in which SP1 is broken, or `None` if SP1 holds.
 use Rattle.std.proofs.Common.{◌≡◌, ℕ, zero, suc, ◌+◌, ◌-◌, ◌<◌, ◌≤◌, true, false, refl, arith, ap, sym, ◌∙◌, List, [], ◌∷◌, length, ◌⊎◌}
 use mathlib.Core.Logic.{inl, inr}
 use Rattle.std.specs.Prelude.{Option, Some, None, min, slice_get, ◌==◌, ◌&&◌}

@@ -1,4 +1,4 @@
--- Worked examples: a mission that meets the theorem's premises, and traces that break each property.
+-- Worked examples: a specification with two configurations, and traces that keep or break each property.
 use Rattle.std.proofs.Common.{◌≡◌, ◌+◌, refl, ℕ, List, [], ◌∷◌, pos}
 use Rattle.std.specs.Prelude.{Option, Some, None, replicate}
 use Rattle.scram_types.specs.declared.ids.ConfId.{ConfId}
@@ -84,8 +84,8 @@ before = env 1 0
 abbrev after : Env
 after = env 1 1
 
--- An environment with another set of processors that are up. The table does not depend on this set, so that a change
--- of it is quiet.
+-- An environment with another set of processors that are up. The table does not depend on this set. Therefore a
+-- change of the set does not change the choice.
 abbrev other : Env
 other = env 0 0
 
@@ -203,8 +203,8 @@ caused_next = refl
 not_asked : first_break spec (row before (ran 1) 1 10 ∷ row before act.Lost 1 10 ∷ []) (cut_off 1 2 ∷ []) ≡ None
 not_asked = refl
 
--- A reconfiguration that begins in the row after the end of another one, which saw a change. If targets are settled,
--- that change is its cause.
+-- A reconfiguration that begins in the row after the end of another one, which saw a change. Under `Settle`, that
+-- change is its cause.
 abbrev followed : List Row
 followed =
     row before (ran 1) 1 10 ∷ row after act.Held 1 10 ∷ row before act.Held 4 10 ∷ row before (ran 2) 1 10 ∷ row before act.Held 1 10 ∷ row before act.Held 4 10 ∷ row before (ran 1) 1 10 ∷ []

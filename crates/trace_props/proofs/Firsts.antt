@@ -105,7 +105,7 @@ first_earlier A B (Some a) (Some b) h k = by_test {A = Option Broken} (IsFirstOf
       ],
     ))
 
--- Lemmas that the first frame in which one property is broken gives the first break of that property.
+-- Lemmas that the break in the first frame in which one property is broken is the first break of that property.
 alone : (p q : Property) (f g : ℕ) → q ≡ p → f ≤ g → ComesBefore p f q g
 alone p q f g e h = elim (same_or_less f g h) [
   | inl less ↦ inl less

@@ -1,4 +1,4 @@
--- Lemmas on the first frame from which the environment has held, from one row to the next.
+-- Lemmas on `held_since` from one row to the next.
 use Rattle.std.proofs.Common.{◌≡◌, ℕ, zero, suc, ◌+◌, refl, arith, List}
 use Rattle.scram_types.specs.declared.rows.Row.{Row}
 use Rattle.trace_props.specs.Judging.{held_by, held_since}

@@ -25,7 +25,7 @@ use Rattle.trace_props.proofs.Products.{build_of, is_env, halting_number, plan_o
 use Rattle.trace_props.specs.Judging.{lies_in}
 use Rattle.trace_props.proofs.Ranging.{area_of, area_test, laws_of, lies_held, range_of}
 
--- The invariant over a course that an invariant of a specification gives.
+-- The invariant over a course for an invariant of a specification.
 abbrev pub invariant_of : told_invariants.Invariant → CourseInvariant
 invariant_of inv = record { source = halting_number inv.from; app = inv.app.0; holds = λ v. lies_in inv.least inv.greatest (word v inv.variable) }
 
@@ -86,7 +86,7 @@ module _ (spec : Parts) (sound : IsSpec spec) (accepts : Accepts spec) where
       kept = accepts.kept k inv there (conf_id i) known (source_is inv.from i speaks)
 
       -- If the application has this place in `i` or in a possible target of `i`, then the invariant holds the ranges
-      -- in which it is left.
+      -- in which the place is left.
       left_at : (o : Option Place) → IsPlacedInEither (plan_of spec) (build_of spec) i inv.app.0 o → holds_leaving spec inv o ≡ true
       left_at o site = elim site [
         | inl here ↦ rw here at kept.leaving

@@ -1,4 +1,4 @@
--- Lemmas that the loop, which judges the reconfigurations row by row, ends with the final judgement.
+-- Lemmas on the loop that judges the reconfigurations row by row. The loop ends with the final judgement.
 use Rattle.std.proofs.Common.{◌≡◌, ◌∙◌, ℕ, suc, ◌+◌, ◌<◌, ◌≤◌, ap, arith, drop, length, refl, sym, List, [], ◌∷◌, ◌++◌}
 use Rattle.std.specs.Prelude.{Option, Some, None, get_or}
 use Rattle.std.proofs.Math.Seq.{drop-cons}

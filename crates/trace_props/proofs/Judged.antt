@@ -1,4 +1,4 @@
--- The judgement of all reconfigurations gives the first break, or a proof that all six properties hold.
+-- `first_break` is the first break of a trace, or `None` if SP1 to SP6 hold.
 use Rattle.std.proofs.Common.{◌≡◌, ℕ, suc, ◌+◌, ◌<◌, ◌≤◌, refl, arith, ap, sym, ◌∙◌, List, [], ◌∷◌, ◌⊎◌, subst}
 use mathlib.Core.Logic.{inl, inr}
 use Rattle.std.specs.Prelude.{Option, Some, None, slice_get, ◌↔◌}
@@ -91,7 +91,7 @@ record BreaksBelow (spec : Parts) (rows : List Row) (all : List Report) (n : ℕ
   there : slice_get all place ≡ Some r
   broken : BreaksIn spec rows r p g
 
--- The facts after the first `n` reconfigurations are judged. The last of them ended before frame `low`.
+-- `s` is the judgement after the first `n` reconfigurations of `all`. The last of these ended before frame `low`.
 record IsJudged (spec : Parts) (rows : List Row) (all : List Report) (n low : ℕ) (s : Judgement) : Type 0 where
   first : IsFirstOf (BreaksBelow spec rows all n) s.broken
   kept : s.broken ≡ None → (k : ℕ) (x : Report) → k < n → slice_get all k ≡ Some x → Keeps spec rows x

@@ -38,7 +38,9 @@ pub record IsPlanTarget (plan : Plan) (i j : ℕ) : Type 0 where
   pub scope : plan.in_scope seen ≡ true
   pub chosen : plan.choose i seen ≡ j
 
--- The facts on the plan of an accepted specification.
+-- The plan is that of an accepted specification. Chosen configurations exist, can run in each environment in scope
+-- and are chosen again there. The start is chosen at the opening. Each change that may come has a bound that
+-- suffices, and the window is longer than each bound.
 pub record IsAcceptedPlan (plan : Plan) : Type 0 where
   pub start_in : plan.start < plan.configurations
   pub choose_in : (c : ℕ) (v : Env) → c < plan.configurations → plan.choose c v < plan.configurations

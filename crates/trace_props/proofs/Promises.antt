@@ -5,7 +5,8 @@ use Rattle.trace_props.proofs.Plans.{Plan, IsAcceptedPlan, plan_further, plan_ha
 use Rattle.trace_props.proofs.CourseModes.{CourseMode, CourseMode.Stable, CourseMode.Moving}
 use Rattle.trace_props.proofs.Courses.{Course, CourseReading, CourseReading.Steady, CourseReading.Leaving, CourseReport, course_reading_before, course_report_at, course_changes_at, course_changes_upto, course_mode_at, IsCourseWithin, IsCourseFlown}
 
--- A reconfiguration that begins in frame `s` follows another one, which saw a change after its begin.
+-- A reconfiguration that begins in frame `s` follows another one. The environment changed during that other one after
+-- its begin.
 pub record CourseFollows (plan : Plan) (course : Course) (s : ℕ) : Type 0 where
   pub settles : plan.settles ≡ true
   pub before : CourseReport
@@ -19,7 +20,7 @@ pub record CourseFollows (plan : Plan) (course : Course) (s : ℕ) : Type 0 wher
 abbrev pub CourseHasCause : Plan → Course → ℕ → Type 0
 CourseHasCause plan course s = (course_changes_at plan course.env s ≡ true) ⊎ (course_changes_at plan course.env (suc s) ≡ true) ⊎ CourseFollows plan course s
 
--- SP2, SP3 and SP5 of a finished reconfiguration.
+-- A finished reconfiguration satisfies SP2, SP3 and SP5.
 pub record IsCourseAssured (plan : Plan) (course : Course) (r : CourseReport) : Type 0 where
   pub chosen_at : ℕ
   pub chosen_from : r.begin ≤ chosen_at
@@ -30,7 +31,7 @@ pub record IsCourseAssured (plan : Plan) (course : Course) (r : CourseReport) : 
   pub in_time : r.end ≤ r.begin + bound
   pub cause : CourseHasCause plan course r.begin
 
--- SP3 and SP5 of a reconfiguration that the course's end cuts off.
+-- A reconfiguration that the end of the course cuts off satisfies SP3 and SP5.
 pub record IsCourseCutOff (plan : Plan) (course : Course) (c s : ℕ) : Type 0 where
   pub to : ℕ
   pub bound : ℕ
@@ -63,7 +64,8 @@ course_begin_of (Leaving c s) f = s
 abbrev pub course_further_changes : Plan → Course → ℕ → ℕ → ℕ
 course_further_changes plan course s f = course_changes_upto plan course.env f - course_changes_upto plan course.env (course_first_moving plan course s)
 
--- The central facts on a moving frame `f` in a reconfiguration that began in frame `s`.
+-- In a moving frame `f` of a reconfiguration that began in frame `s`, the target can run, and was chosen from the
+-- source in the first moving frame or later. The phases and the number of further changes are within their limits.
 pub record CentralFacts (plan : Plan) (course : Course) (s f from : ℕ) (halting : Option ℕ) (to since : ℕ) : Type 0 where
   pub runnable : plan.is_runnable to (course.env f) ≡ true
   pub chosen_at : ℕ

@@ -152,7 +152,8 @@ task_same spec (told.Halting c age) a = halting_task (halt_offset spec c a) (hal
 task_same spec (told.Preparing c age) a = preparing_task (prepare_time spec c a) age (place_of spec c a)
 task_same spec (told.Initialising c age) a = init_task (init_offset spec c a) (init_time spec c a) age (place_of spec c a)
 
--- The facts on the laws of the kinds.
+-- The laws of the kinds keep areas in their ranges: during each act, after an initialisation and at the start. All
+-- tables are narrow.
 pub record KindsLie : Type 0 where
   pub during : LawLiesDuring
   pub initialised : LawLiesAfterInit
@@ -193,7 +194,7 @@ module _ (spec : Parts) (sound : IsSpec spec) (kinds : KindsLie) where
   init_by a k n p true old new h last = (h, last)
   init_by a k n p false old new h last = refl
 
-  -- The area that an order leaves is filled as the order's act requires.
+  -- The area after an order is filled as the order's act requires.
   filled_order : (v : Env) (state : State) (commits : ℕ → Bool) (a : ℕ) (x : CourseOrder) → IsAreaFilled (laws_of spec) a (course_act_of commits x) (area_at state.areas a) (area_after spec v commits state (task_of_order x) a)
   filled_order v state commits a (Run p) =
       ran_by a p (commits p.proc.0) (area_at state.areas a) (law_of spec v state (tasks.task_at order.Run p) a)

@@ -27,7 +27,7 @@ use Rattle.trace_props.proofs.CourseRows.{CoursePhase, CourseOrder, CourseAct, C
 use Rattle.trace_props.proofs.Products.{build_of, course_of, course_mode_of, course_phase_of, plan_of, runs_in_row}
 use Rattle.trace_props.proofs.SameModes.{same_mode}
 
--- The act that a row shows for an act of a course.
+-- The act in a row that corresponds to an act of a course.
 abbrev pub shown : CourseAct → told_acts.Act
 shown (Ran p) = act.Ran p.mode p.proc
 shown (Halted k n p) = act.Halting k n p.proc
@@ -60,7 +60,8 @@ shown_if false x y = refl
 abbrev made : Bool → told_orders.Order → Place → told_acts.Act
 made committed o p = if committed then act_of_order o p.mode p.proc else act.Lost
 
--- If three orders of a course show the acts of three orders of the kernel, then so do the orders that two tests pick.
+-- If three orders of a course correspond to three orders of the kernel, then the orders that two tests pick from them
+-- correspond too.
 two_tests : (commits : ℕ → Bool) (a b : Bool) (p : Place) (x y z : CourseOrder) (q r s : told_orders.Order)
     → shown (course_act_of commits x) ≡ made (commits p.proc.0) q p → shown (course_act_of commits y) ≡ made (commits p.proc.0) r p → shown (course_act_of commits z) ≡ made (commits p.proc.0) s p
     → shown (course_act_of commits (if a then x else (if b then y else z))) ≡ made (commits p.proc.0) (if a then q else (if b then r else s)) p
@@ -136,7 +137,7 @@ eight_at value (suc (suc (suc (suc (suc (suc (suc (suc a)))))))) h = absurd (ome
 abbrev pub committed : Parts → ScriptParts → ℕ → ℕ → Bool
 committed spec script f p = commits spec script p f
 
--- The act of each application in a row is the one that its act in the course shows.
+-- The act of each application in a row corresponds to the act of the application in the course.
 pub row_act : (spec : Parts) (script : ScriptParts) (f a : ℕ) → a < 8
     → act_at (row_at spec script f).acts a ≡ shown (course_acts_at (plan_of spec) (build_of spec) (course_of spec script) (committed spec script) f a)
 row_act spec script f a below =

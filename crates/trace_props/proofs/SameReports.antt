@@ -60,8 +60,8 @@ module _ (spec : Parts) (script : ScriptParts) where
         ∙ ap (λ rd. readings.read_row spec rd n (row_at spec script n).acts) (reading_same n)
         ∙ read_same n (course_reading_before (plan_of spec) (course_of spec script) n)
 
-    -- With a further row, the list of ended reconfigurations grows by the report of the course in its frame, if there
-    -- is one.
+    -- With a further row, the list of ended reconfigurations grows by the report of the course in the frame of that
+    -- row, if there is one.
     pub ended_more : (n : ℕ) → readings.ended spec (rows_below spec script (suc n))
         ≡ readings.ended spec (rows_below spec script n) ++ readings.as_list (option_map told_report (course_report_at (plan_of spec) (course_of spec script) n))
     ended_more n =

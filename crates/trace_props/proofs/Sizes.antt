@@ -1,4 +1,4 @@
--- The number of reconfigurations that rows show is at most the number of rows.
+-- The number of reconfigurations that are read off rows is at most the number of rows.
 use Rattle.std.proofs.Common.{ℕ, suc, ◌+◌, ◌≤◌, Bool, true, false, arith, List, [], ◌∷◌, length}
 use Rattle.std.specs.Prelude.{Option, Some, None, if◌then◌else◌}
 use Rattle.std.proofs.Math.ListN.{length-append}

@@ -1,5 +1,5 @@
--- The judging of SP2 and SP3 gives the frame in which a reconfiguration breaks them, or a proof that the
--- reconfiguration keeps them.
+-- `unchosen_at` and `late_at` are the frames in which a reconfiguration breaks SP2 and SP3. Each is `None` if the
+-- reconfiguration keeps the property.
 use Rattle.std.proofs.Common.{◌≡◌, ℕ, ◌+◌, ◌-◌, ◌<◌, ◌≤◌, Bool, true, false, refl, arith, ap, sym, ◌∙◌, List}
 use Rattle.std.specs.Prelude.{Option, Some, None, slice_get, ◌==◌, nat_le, option_map}
 use Rattle.scram_types.specs.declared.ids.ConfId.{ConfId}

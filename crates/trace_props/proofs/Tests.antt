@@ -1,4 +1,4 @@
--- A fact on an `if` that follows from the facts on its branches.
+-- If a property holds for each branch of an `if` under the condition of the branch, then it holds for the `if`.
 use Rattle.std.proofs.Common.{◌≡◌, Bool, true, false, refl}
 use Rattle.std.specs.Prelude.{if◌then◌else◌}
 

@@ -1,5 +1,4 @@
--- The theorems that all properties hold for every mission, and that the central facts hold in each of its moving
--- frames.
+-- The theorems that SP1 to SP6 hold for every mission, and that the central facts hold in each of its moving frames.
 use Rattle.std.proofs.Common.{◌≡◌, ℕ, ◌+◌, ◌*◌, ◌≤◌, false, refl, ap, sym, ◌∙◌}
 use Rattle.std.specs.Prelude.{Option}
 use Rattle.scram_types.specs.declared.ids.ConfId.{ConfId}

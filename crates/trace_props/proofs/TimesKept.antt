@@ -1,4 +1,4 @@
--- Each reconfiguration that the rows of a script show keeps SP2, SP3 and SP5.
+-- Each reconfiguration that is read off the rows of a script keeps SP2, SP3 and SP5.
 use Rattle.std.proofs.Common.{◌≡◌, ℕ, zero, suc, ◌<◌, true, false, not, refl, arith, ap, sym, ◌∙◌, length}
 use mathlib.Core.Logic.{inl, inr}
 use Rattle.std.specs.Prelude.{Some, None, slice_get, option_map, ◌==◌}

@@ -1,5 +1,5 @@
--- A mission that meets the premises of the theorem: the environment changes in frame 3, and the second
--- configuration runs from frame 6 on.
+-- A worked mission that meets the premises of `ReconfigurationsAreAssured` and `CalmSettles`. The environment changes
+-- in frame 3, and the second configuration runs from frame 6 on.
 use Rattle.std.proofs.Common.{rules, ◌≡◌, ℕ, true, zero, suc, ◌+◌, ◌<◌, ◌≤◌, List, [], ◌∷◌, refl, ap, arith, subst}
 use Rattle.std.specs.Prelude.{IsSome, Option, Some, None, option_and_then, replicate, slice_get, slice_index_or}
 use Rattle.std.proofs.lemmas.Option.{same_Some, slice_get_within}

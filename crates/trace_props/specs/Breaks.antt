@@ -1,4 +1,4 @@
--- The frames in which the six properties are broken.
+-- Breaks of the properties SP1 to SP6, and the frames in which the properties are broken.
 use Rattle.std.specs.Prelude.{◌≡◌, ◌≢◌, ◌⊎◌, ◌↔◌, ℕ, suc, ◌<◌, ◌≤◌, ◌-◌, min, true, false, List, slice_get, Option, Some, None}
 use Rattle.scram_types.specs.declared.ids.ConfId.{ConfId}
 use Rattle.scram_types.specs.declared.rows.Report.{Report}
@@ -33,20 +33,22 @@ lesser_begin (Some one) None = Some one.begin
 lesser_begin None (Some other) = Some other.begin
 lesser_begin (Some one) (Some other) = Some (min one.begin other.begin)
 
--- SP1 is broken in `frame`: the reports differ from the reconfigurations that are read off the rows. The frame is the
--- smaller begin of the two at the first index at which they differ, or the begin of the only one if one list has ended.
+-- SP1 is broken in `frame`: the reports differ from the reconfigurations that are read off the rows. At the first
+-- index at which the two lists differ, `frame` is the smaller begin of the two reconfigurations there. If one list
+-- has ended, `frame` is the begin of the reconfiguration in the other list.
 pub record BreaksSp1 (told read : List Report) (frame : ℕ) : Type 0 where
   pub place : ℕ
   pub alike : (k : ℕ) → k < place → slice_get told k ≡ slice_get read k
   pub differ : slice_get told place ≢ slice_get read place
   pub began : lesser_begin (slice_get told place) (slice_get read place) ≡ Some frame
 
--- The last frame of a reconfiguration, given its target: its end, or the last row if the reconfiguration is unfinished.
+-- The last frame of a reconfiguration, given its target and its end. It is the end, or the frame before the end if
+-- there is no target.
 abbrev pub last_frame_to : Option ConfId → ℕ → ℕ
 last_frame_to None end = end - 1
 last_frame_to (Some j) end = end
 
--- The last frame of a reconfiguration, as far as the rows show it.
+-- The last frame of a reconfiguration: its end, or the last row if the reconfiguration is unfinished.
 abbrev pub last_frame : Report → ℕ
 last_frame r = last_frame_to r.to r.end
 
@@ -90,13 +92,13 @@ pub record BreaksSomewhere (spec : Parts) (rows : List Row) (property : Property
   pub there : slice_get (reports spec rows) place ≡ Some reconfiguration
   pub broken : BreaksIn spec rows reconfiguration property frame
 
--- SP6 is broken in `frame`: its row is calm, and the configuration that runs there does not satisfy the demands.
+-- SP6 is broken in `frame`: the row of the frame is calm, and `is_satisfied` is `false` for it.
 pub record BreaksSp6 (spec : Parts) (rows : List Row) (frame : ℕ) : Type 0 where
   pub row : Row
   pub calm : IsCalm spec rows frame row
   pub broken : is_satisfied spec row ≡ false
 
--- A property is broken in a frame.
+-- A property is broken in a frame of a trace with the given rows and reports.
 abbrev pub BreaksAt : Parts → List Row → List Report → Property → ℕ → Type 0
 BreaksAt spec rows told Sp1 frame = BreaksSp1 told (reports spec rows) frame
 BreaksAt spec rows told Sp2 frame = BreaksSomewhere spec rows Sp2 frame
@@ -105,8 +107,8 @@ BreaksAt spec rows told Sp4 frame = BreaksSomewhere spec rows Sp4 frame
 BreaksAt spec rows told Sp5 frame = BreaksSomewhere spec rows Sp5 frame
 BreaksAt spec rows told Sp6 frame = BreaksSp6 spec rows frame
 
--- A break comes before another if its frame is earlier, or if the frame is the same and its property's number is not
--- greater.
+-- The break of `one` in frame `f` does not come after the break of `other` in frame `g`. Frame `f` is earlier, or the
+-- frames are equal and the number of `one` is not greater than that of `other`.
 abbrev pub ComesBefore : Property → ℕ → Property → ℕ → Type 0
 ComesBefore one f other g = (f < g) ⊎ ((f ≡ g) × (property_number one ≤ property_number other))
 

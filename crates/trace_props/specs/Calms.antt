@@ -17,7 +17,7 @@ pub record IsSettled (spec : Parts) (row : Row) : Type 0 where
   pub runs : running spec row.acts ≡ Some conf
   pub stays : choose spec conf row.env ≡ conf
 
--- Each calm row of a mission is settled.
+-- Each calm row of a mission satisfies `IsSettled`.
 abbrev pub CalmSettles : Type 0
 CalmSettles = (spec : Parts) (script : ScriptParts) → IsSpec spec → IsMission (mission_of spec script)
     → (t : ℕ) (row : Row) → IsCalm spec (rows_of spec script) t row → IsSettled spec row

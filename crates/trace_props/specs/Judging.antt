@@ -1,4 +1,4 @@
--- The search for the first break.
+-- The search for the first break of a trace.
 use Rattle.std.specs.Prelude.{ℕ, zero, suc, ◌+◌, ◌-◌, ℤ, int_le, min, Bool, true, false, not, ◌&&◌, ◌||◌, ◌==◌, nat_le, nat_lt, List, [], ◌∷◌, length, slice_get, Option, Some, None, is_some, option_and_then, if◌then◌else◌}
 use Rattle.std.specs.List.{list_any}
 use Rattle.scram_types.specs.declared.ids.ConfId.{ConfId}
@@ -100,8 +100,8 @@ abbrev pub unchosen_to : Parts → List Row → Report → Option ConfId → Opt
 unchosen_to spec rows r None = None
 unchosen_to spec rows r (Some to) = unless_chosen (least_from (chooses spec rows r.from to) r.begin (r.end + 1 - r.begin)) r.end
 
--- The frame in which SP2 is broken: the end of the reconfiguration if the table does not choose the target in any of
--- its rows, or `None` if SP2 is kept.
+-- The frame in which SP2 is broken, or `None` if SP2 is kept. SP2 is broken in the end of the reconfiguration if the
+-- table does not choose the target in the environment of any row of the reconfiguration.
 abbrev pub unchosen_at : Parts → List Row → Report → Option ℕ
 unchosen_at spec rows r = unchosen_to spec rows r r.to
 
@@ -165,13 +165,13 @@ breaks_target_precondition row to pre = goes_to to pre.conf && breaks_preconditi
 abbrev pub unmet_in : Parts → Row → Option ConfId → Bool
 unmet_in spec row to = list_any (breaks_target_precondition row to) spec.preconditions
 
--- The frame before a given end if it has a row that does not meet some precondition of the target, or `None`
+-- The frame before a given end if its row exists and does not meet some precondition of the target, or `None`
 -- otherwise.
 abbrev pub unmet_before : Parts → List Row → Option ConfId → ℕ → Option ℕ
 unmet_before spec rows to zero = None
 unmet_before spec rows to (suc f) = option_and_then (λ (row : Row). if unmet_in spec row to then Some f else None) (slice_get rows f)
 
--- The frame before the end of a reconfiguration if it has a row that does not meet some precondition of the target,
+-- The frame before the end of a reconfiguration if its row exists and does not meet some precondition of the target,
 -- or `None` otherwise.
 abbrev pub unmet_at : Parts → List Row → Report → Option ℕ
 unmet_at spec rows r = unmet_before spec rows r.to r.end
@@ -180,7 +180,8 @@ unmet_at spec rows r = unmet_before spec rows r.to r.end
 abbrev pub unkept_at : Parts → List Row → Report → Option ℕ
 unkept_at spec rows r = least_unkept rows r (unmet_at spec rows r) spec.invariants
 
--- Whether an environment is present and differs from the preceding one, if that is present (SP5).
+-- Whether an environment is present and differs from the preceding one (SP5). An environment differs if there is no
+-- preceding one.
 abbrev pub is_another_env : Option Env → Option Env → Bool
 is_another_env None before = false
 is_another_env (Some env) None = true
@@ -195,15 +196,15 @@ abbrev pub settles : Policy → Bool
 settles Retarget = false
 settles Settle = true
 
--- Whether targets are settled, and the preceding reconfiguration ended in the row before the begin of `r` and saw a
--- change of the environment after its own begin.
+-- Whether the policy is `Settle`, the preceding reconfiguration ended in the row before the begin of `r`, and the
+-- environment changed during the preceding reconfiguration after its begin.
 abbrev pub follows : Parts → List Row → Option Report → Report → Bool
 follows spec rows None r = false
 follows spec rows (Some before) r =
     settles spec.policy && before.end + 1 == r.begin && is_some (least_from (changes_in spec rows) (before.begin + 1) (before.end + 1 - (before.begin + 1)))
 
--- Whether a reconfiguration has a cause: the environment changes in its begin, in the row after it, or during the
--- reconfiguration just before.
+-- Whether a reconfiguration has a cause: the environment changes in its begin, in the row after its begin, or, under
+-- `Settle`, during the reconfiguration just before (`follows`).
 abbrev pub has_cause : Parts → List Row → Option Report → Report → Bool
 has_cause spec rows before r = changes_in spec rows r.begin || changes_in spec rows (r.begin + 1) || follows spec rows before r
 
@@ -212,8 +213,8 @@ has_cause spec rows before r = changes_in spec rows r.begin || changes_in spec r
 abbrev pub causeless_at : Parts → List Row → Option Report → Report → Option ℕ
 causeless_at spec rows before r = if nat_le (length rows) (r.begin + 1) || has_cause spec rows before r then None else Some r.begin
 
--- The first break of SP2 to SP5 by a reconfiguration, or `None` if it keeps them. `before` is the reconfiguration
--- that was read just before.
+-- The first break of SP2 to SP5 by a reconfiguration, or `None` if the reconfiguration keeps them. `before` is the
+-- reconfiguration that was read just before.
 abbrev pub broken_in : Parts → List Row → Option Report → Report → Option Broken
 broken_in spec rows before r = earlier
     (earlier (broken_at Sp2 (unchosen_at spec rows r)) (broken_at Sp3 (late_at spec r)))
@@ -241,13 +242,13 @@ opening_judgement = record { agreement = Alike 0; broken = None; before = None }
 abbrev pub conclusion : List Report → Judgement → Option Broken
 conclusion told judgement = earlier (broken_at Sp1 (difference told judgement.agreement)) judgement.broken
 
--- The first frame from which the environment has stayed that of row `f`, given this frame for the preceding row
--- (SP6).
+-- The frame since which the environment has been that of row `f`, without a change, given this frame for the
+-- preceding row (SP6).
 abbrev pub held_by : List Row → ℕ → ℕ → ℕ
 held_by rows zero since = 0
 held_by rows (suc f) since = if is_another_env (env_in rows (suc f)) (env_in rows f) then suc f else since
 
--- The first frame from which the environment has stayed that of row `f`.
+-- The frame since which the environment has been that of row `f`, without a change.
 abbrev pub held_since : List Row → ℕ → ℕ
 held_since rows zero = 0
 held_since rows (suc f) = held_by rows (suc f) (held_since rows f)
@@ -266,21 +267,21 @@ is_lost act.Lost = true
 abbrev pub loses_some : Row → Bool
 loses_some row = list_any is_lost row.acts
 
--- Whether no application is lost in a row, and the configuration that runs there does not satisfy the demands.
+-- Whether no application is lost in a row, and the row does not satisfy the demands (`is_satisfied`).
 abbrev pub is_unsatisfied : Parts → Row → Bool
 is_unsatisfied spec row = not (loses_some row) && not (is_satisfied spec row)
 
--- Whether a row exists, loses no application, and does not satisfy the demands.
+-- Whether a row exists, no application is lost in it, and it does not satisfy the demands.
 abbrev pub unsatisfied_in : Parts → Option Row → Bool
 unsatisfied_in spec None = false
 unsatisfied_in spec (Some row) = is_unsatisfied spec row
 
--- Whether row `f` loses no application and does not satisfy the demands, and its environment has held from frame
--- `since` for at least `frames` frames.
+-- Whether no application is lost in row `f`, the row does not satisfy the demands, and its environment has held from
+-- frame `since` for at least `frames` frames.
 abbrev pub breaks_after : Parts → List Row → ℕ → ℕ → ℕ → Bool
 breaks_after spec rows frames f since = nat_le frames (f - since) && unsatisfied_in spec (slice_get rows f)
 
--- Whether row `f` is calm, and the configuration that runs there does not satisfy the demands.
+-- Whether row `f` is calm and does not satisfy the demands.
 abbrev pub breaks_calm : Parts → List Row → ℕ → Bool
 breaks_calm spec rows f = breaks_after spec rows (greatest_bound spec.bounds) f (held_since rows f)
 

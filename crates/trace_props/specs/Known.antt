@@ -1,11 +1,11 @@
--- The facts from other crates on which the theorems rest.
+-- The facts from other crates on which the theorems on missions rest.
 use Rattle.choice_table.specs.Laws.{RunsWherePlacesAreUp}
 use Rattle.dep_order.specs.Timetables.{PhasesEndInTime}
 use Rattle.app_model.specs.Areas.{AllTablesNarrow, LawLiesAfterInit, LawLiesDuring, StartLiesAfterInit}
 use Rattle.fault_script.specs.Laws.{EnvironmentsShow, LossesShow}
 use Rattle.frame_model.specs.Laws.{ReadsRowByRow}
 
--- The facts on choice, time, scripts, rows and kinds, together.
+-- The laws of the other crates hold: those on choices, phase times, scripts, rows and the kinds of applications.
 pub record IsKnown : Type 0 where
   pub runs_up : RunsWherePlacesAreUp
   pub timed : PhasesEndInTime

@@ -1,5 +1,5 @@
--- Theorems on missions. A mission is an accepted specification and a script that fits it and keeps to its failure
--- assumption.
+-- Theorems on missions. A mission is an accepted specification and a script that fits the specification and keeps to
+-- its failure assumption.
 use Rattle.std.specs.Prelude.{◌≡◌, ℕ, suc, ◌+◌, ◌-◌, ◌*◌, ◌≤◌, true, length, Option}
 use Rattle.scram_types.specs.declared.ids.ConfId.{ConfId}
 use Rattle.scram_types.specs.declared.orders.KMode.{KMode}
@@ -33,12 +33,13 @@ abbrev pub begin_in : Reading → ℕ → ℕ
 begin_in (Steady c) f = f
 begin_in (Leaving c begin) f = begin
 
--- The begin of the reconfiguration to which frame `f` of a mission belongs.
+-- The begin of the reconfiguration to which frame `f` of a mission belongs, or `f` if no reconfiguration is under way
+-- there.
 abbrev pub begin_at : Parts → ScriptParts → ℕ → ℕ
 begin_at spec script f = begin_in (reading_of spec (listed_below (row_at spec script) f)) f
 
--- The first moving frame of a reconfiguration, given its begin and the mode of that frame. It is the begin if the
--- mode is a moving one, or else the frame after it.
+-- The first moving frame of a reconfiguration, given its begin and the mode in the frame of the begin. It is the
+-- begin if the mode is a moving one, or else the frame after the begin.
 abbrev pub first_moving_in : KMode → ℕ → ℕ
 first_moving_in (Stable c) begin = suc begin
 first_moving_in (Moving from halting to since) begin = begin
@@ -58,7 +59,7 @@ InMovingFrames Fact = (spec : Parts) (script : ScriptParts) → IsSpec spec → 
     → Fact spec script f from halting to since
 
 -- The target can run, and was chosen from the source in an environment seen since the first moving frame. Under
--- `Retarget` it was chosen in the environment of frame `f`.
+-- `Retarget` the target was chosen in the environment of frame `f`.
 pub record IsTargetChosen (spec : Parts) (script : ScriptParts) (f : ℕ) (from : ConfId) (halting : Option ConfId) (to : ConfId) (since : ℕ) : Type 0 where
   pub can_run : is_runnable spec to (env_at spec script f) ≡ true
   pub chosen_at : ℕ
@@ -71,7 +72,8 @@ pub record IsTargetChosen (spec : Parts) (script : ScriptParts) (f : ℕ) (from 
 abbrev pub TargetsAreChosen : Type 0
 TargetsAreChosen = InMovingFrames IsTargetChosen
 
--- The halting phase ends in time: each further change of the environment delays it by at most the slowest turn.
+-- The halting phase ends in time. It ends at most `halting_time` frames after the first moving frame, plus `slowest`
+-- frames for each further change of the environment.
 abbrev pub HaltsInTime : Parts → ScriptParts → ℕ → ConfId → Option ConfId → ConfId → ℕ → Type 0
 HaltsInTime spec script f from halting to since =
     since + halting_frames spec halting ≤ first_moving spec script f + halting_time spec from + changes_since spec script f * slowest spec
@@ -84,7 +86,7 @@ HaltingEndsInTime = InMovingFrames HaltsInTime
 abbrev pub SettlesInTime : Parts → ScriptParts → ℕ → ConfId → Option ConfId → ConfId → ℕ → Type 0
 SettlesInTime spec script f from halting to since = f ≤ since + halting_frames spec halting + preparing_time spec to + initialising_time spec to
 
--- Each moving frame of a mission is no later than its phases allow.
+-- Each moving frame of a mission satisfies `SettlesInTime`.
 abbrev pub PhasesArePastInTime : Type 0
 PhasesArePastInTime = InMovingFrames SettlesInTime
 
@@ -96,8 +98,8 @@ SeesFewChanges spec script f from halting to since = changes_since spec script f
 abbrev pub FurtherChangesAreFew : Type 0
 FurtherChangesAreFew = InMovingFrames SeesFewChanges
 
--- A finished flight is the one-thread trace of a mission, for which all properties hold. It has a row for each frame,
--- and the number of its reconfigurations is at most the number of its rows.
+-- A finished flight is the one-thread trace of a mission, for which all properties hold. The flight has a row for
+-- each frame. The number of its reconfigurations is at most the number of its rows.
 pub record IsTraceOf (mission : MissionParts) (flown : Flown) : Type 0 where
   pub rows : flown.rows ≡ rows_of mission.spec mission.script
   pub reports : flown.reports ≡ reports_of mission.spec mission.script

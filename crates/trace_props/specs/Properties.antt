@@ -64,16 +64,16 @@ InvariantHolds inv row = Between (inv.least, inv.greatest) (word (area_at row.ar
 abbrev pub PreconditionHolds : Precondition → Row → Type 0
 PreconditionHolds pre row = Between (pre.least, pre.greatest) (word (area_at row.areas pre.app.0) pre.variable)
 
--- SP4 of a reconfiguration: the invariants for its source hold in its rows, from the begin to the end or to the last
--- row. In addition, the preconditions of its target hold in the row before its end.
+-- SP4 of a reconfiguration: the invariants for the source hold in the rows of the reconfiguration, from the begin to
+-- the end or to the last row. In addition, the preconditions of the target hold in the row before the end.
 pub record KeepsSp4 (spec : Parts) (rows : List Row) (r : Report) : Type 0 where
   pub throughout : Each (λ (inv : Invariant). has_source inv.from r.from ≡ true → (f : ℕ) (row : Row) → r.begin ≤ f → f ≤ r.end
       → slice_get rows f ≡ Some row → InvariantHolds inv row) spec.invariants
   pub ready : Each (λ (pre : Precondition). r.to ≡ Some pre.conf → (f : ℕ) (row : Row) → suc f ≡ r.end
       → slice_get rows f ≡ Some row → PreconditionHolds pre row) spec.preconditions
 
--- Targets are settled, and another reconfiguration ended in the row before the begin of `r` and saw a change of the
--- environment after its own begin.
+-- The policy is `Settle`, and another reconfiguration ended in the row before the begin of `r`. The environment
+-- changed during that reconfiguration after its begin.
 pub record FollowsAnother (spec : Parts) (rows : List Row) (r : Report) : Type 0 where
   pub settles : spec.policy ≡ Settle
   pub before : Report
@@ -85,24 +85,25 @@ pub record FollowsAnother (spec : Parts) (rows : List Row) (r : Report) : Type 0
   pub up_to : change ≤ before.end
   pub changes : ChangesIn spec rows change
 
--- SP5 of a reconfiguration: the environment changes in its begin or in the row after it. If targets are settled, a
--- change during the reconfiguration just before may also be the cause. A begin in the last row is exempt.
+-- SP5 of a reconfiguration: the environment changes in its begin or in the row after it. Under `Settle`, a change
+-- during the reconfiguration just before may also be the cause. A begin in the last row is exempt.
 abbrev pub KeepsSp5 : Parts → List Row → Report → Type 0
 KeepsSp5 spec rows r = suc r.begin < length rows → ChangesIn spec rows r.begin ⊎ ChangesIn spec rows (suc r.begin) ⊎ FollowsAnother spec rows r
 
--- SP2: each reconfiguration that the rows show has a target that was chosen during it, or is unfinished.
+-- SP2: each reconfiguration that is read off the rows has a target that was chosen during it, or is unfinished.
 abbrev pub HoldsSp2 : Parts → List Row → Type 0
 HoldsSp2 spec rows = Each (KeepsSp2 spec rows) (reports spec rows)
 
--- SP3: each reconfiguration that the rows show ends in time.
+-- SP3: a bound is given for each reconfiguration that is read off the rows, and the reconfiguration takes no longer.
 abbrev pub HoldsSp3 : Parts → List Row → Type 0
 HoldsSp3 spec rows = Each (KeepsSp3 spec) (reports spec rows)
 
--- SP4: each reconfiguration that the rows show keeps its invariants and meets its target's preconditions.
+-- SP4: each reconfiguration that is read off the rows keeps its invariants and meets its target's preconditions.
 abbrev pub HoldsSp4 : Parts → List Row → Type 0
 HoldsSp4 spec rows = Each (KeepsSp4 spec rows) (reports spec rows)
 
--- SP5: each reconfiguration that the rows show has a change of the environment as its cause, or begins in the last row.
+-- SP5: each reconfiguration that is read off the rows has a change of the environment as its cause, or begins in the
+-- last row.
 abbrev pub HoldsSp5 : Parts → List Row → Type 0
 HoldsSp5 spec rows = Each (KeepsSp5 spec rows) (reports spec rows)
 
@@ -123,15 +124,15 @@ abbrev pub satisfies : Parts → Env → Option ConfId → Bool
 satisfies spec v None = not (has_demand_in spec v)
 satisfies spec v (Some c) = meets_all spec c v
 
--- Whether the configuration that runs in a row satisfies the demands.
+-- Whether a row satisfies the demands, by `satisfies` for its environment and for the configuration that runs in it.
 abbrev pub is_satisfied : Parts → Row → Bool
 is_satisfied spec row = satisfies spec row.env (running spec row.acts)
 
--- SP6: the configuration that runs in each calm row satisfies the demands.
+-- SP6: each calm row satisfies the demands.
 abbrev pub HoldsSp6 : Parts → List Row → Type 0
 HoldsSp6 spec rows = (t : ℕ) (row : Row) → IsCalm spec rows t row → is_satisfied spec row ≡ true
 
--- All six properties hold.
+-- The properties SP1 to SP6 hold.
 pub record HoldsAll (spec : Parts) (rows : List Row) (told : List Report) : Type 0 where
   pub sp1 : HoldsSp1 spec rows told
   pub sp2 : HoldsSp2 spec rows

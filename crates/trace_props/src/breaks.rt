@@ -15,10 +15,10 @@ pub enum Property {
     Sp3,
     /// The invariants for the source hold throughout, and the target's preconditions hold in the row before the end.
     Sp4,
-    /// The environment changes at the reconfiguration's begin or in the next row. If targets are settled, a change
-    /// during the preceding reconfiguration may also be the cause. A begin in the last row is exempt.
+    /// The environment changes at the reconfiguration's begin or in the next row. Under `Settle`, a change during the
+    /// preceding reconfiguration may also be the cause. A begin in the last row is exempt.
     Sp5,
-    /// The configuration that runs in each calm row satisfies the demands.
+    /// Each calm row satisfies the demands.
     Sp6,
 }
 

@@ -9,8 +9,8 @@ use scram_types::lookups::{env_before, env_in};
 use scram_types::{Env, Policy, Report, Row, Spec};
 
 // Returns the begin of a reconfiguration if SP5 is broken in it, or `None` if SP5 is kept. SP5 is broken if the
-// environment changed neither in the begin, nor in the next frame, nor during a reconfiguration just before. A begin in
-// the last row is exempt.
+// environment changed neither in the begin, nor in the next frame, nor, under `Settle`, during the reconfiguration
+// just before. A begin in the last row is exempt.
 pub(crate) fn causeless_at(
     spec: &Spec,
     rows: &[Row],
@@ -36,8 +36,8 @@ fn has_cause(spec: &Spec, rows: &[Row], before: Option<Report>, read: Report) ->
         || follows(spec, rows, before, read)
 }
 
-// Returns `true` if the targets are settled, and reconfiguration `before` ended in the row before the begin of `read`
-// and saw a change of the environment after its own begin.
+// Returns `true` if the policy is `Settle`, reconfiguration `before` ended in the row before the begin of `read`, and
+// the environment changed during `before` after its begin.
 fn follows(spec: &Spec, rows: &[Row], before: Option<Report>, read: Report) -> bool
     ensures { result ≡ follows spec.now rows.now before read }
 {

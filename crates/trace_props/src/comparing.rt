@@ -12,7 +12,7 @@ pub(crate) enum Agreement {
     /// reconfigurations.
     Alike(usize),
     /// A reconfiguration that has been read differs from the report at its index, or there is no such report. The
-    /// field is the smaller begin of the two, or the begin of the reconfiguration.
+    /// field is the smaller begin of the two, or the begin of the reconfiguration if there is no such report.
     Apart(u32),
 }
 
@@ -35,8 +35,8 @@ pub(crate) fn compare(told: &[Report], so_far: Agreement, read: Report) -> Agree
     }
 }
 
-// Returns the frame in which the lists differ once all reconfigurations are read, or `None` if the lists agree. Any
-// further report is a difference.
+// Returns the frame in which SP1 is broken once all reconfigurations are read, or `None` if SP1 is kept. Any further
+// report breaks SP1.
 pub(crate) fn difference(told: &[Report], so_far: Agreement) -> Option<u32>
     ensures { result ≡ difference told.now so_far }
 {

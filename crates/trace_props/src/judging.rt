@@ -20,9 +20,9 @@ use scram_types::{Report, Row, Spec};
 /// # Errors
 ///
 /// Returns the first break: the first frame in which a property is broken, and the broken property with the smallest
-/// number there. SP1 is broken in the smaller begin at the first index at which reports and rows differ. SP2 is broken
-/// in the end of a reconfiguration, and SP3 in the end or the last row. SP4 is broken in a row, SP5 in the begin, and
-/// SP6 in a calm row.
+/// number there. SP1 is broken in the smaller begin at the first index at which the reports differ from the
+/// reconfigurations that are read off the rows. SP2 is broken in the end of a reconfiguration, and SP3 in the end or
+/// the last row. SP4 is broken in a row, SP5 in the begin, and SP6 in a calm row.
 pub fn props(spec: &Spec, rows: &[Row], told: &[Report]) -> Result<(), Broken>
     requires { length rows.now < 2 ^ 32 }
     ensures holds { IsOk result ↔ HoldsAll spec.now rows.now told.now }
@@ -104,8 +104,8 @@ fn judge(
     }
 }
 
-// Returns the first break of SP2 to SP5 by a reconfiguration, or `None` if it keeps them. `before` is the
-// reconfiguration that was read just before.
+// Returns the first break of SP2 to SP5 by a reconfiguration, or `None` if the reconfiguration keeps them. `before`
+// is the reconfiguration that was read just before.
 fn broken_in(spec: &Spec, rows: &[Row], before: Option<Report>, read: Report) -> Option<Broken>
     ensures { result ≡ broken_in spec.now rows.now before read }
 {

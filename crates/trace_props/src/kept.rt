@@ -58,7 +58,7 @@ fn breaks_invariant(row: &Row, inv: &Invariant) -> bool
     !lies_in(inv.least, inv.greatest, word_in(row, inv.app, inv.variable))
 }
 
-// Returns the frame before the end if it has a row that does not meet some precondition of the target, or `None`
+// Returns the frame before the end if its row exists and does not meet some precondition of the target, or `None`
 // otherwise.
 fn unmet_at(spec: &Spec, rows: &[Row], read: Report) -> Option<u32>
     ensures { result ≡ unmet_at spec.now rows.now read }

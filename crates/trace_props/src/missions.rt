@@ -1,17 +1,17 @@
-//! Theorems on missions. Each function here states a theorem by its contract and does nothing. A mission is an accepted
-//! specification and a script that fits it and keeps to its failure assumption.
+//! Theorems on missions. Each function here states a theorem by its contract and does nothing. A mission is an
+//! accepted specification and a script that fits the specification and keeps to its failure assumption.
 
 ghost use Rattle.trace_props.specs.Missions.{FurtherChangesAreFew, HaltingEndsInTime, PhasesArePastInTime, ReconfigurationsAreAssured, TargetsAreChosen};
 ghost use Rattle.trace_props.specs.Calms.{CalmSettles};
 ghost use Rattle.trace_props.specs.Known.{IsKnown};
 
 /// States that SP1 to SP6 hold for a mission's rows and reports, with halts and restarts in any frame, with failures
-/// chained during a reconfiguration, and under both policies. Each reconfiguration that the rows show is reported, goes
-/// to a target that was chosen in an environment seen during it, and ends within the given bound. It keeps its
-/// invariants throughout and meets its target's preconditions in the row before its end. Its cause is a change of the
-/// environment, unless it begins in the last row. No target is claimed for a reconfiguration that the end of the script
-/// cuts off. Once the environment has held for the greatest bound, a configuration that meets the demands runs in each
-/// row in which no application is lost.
+/// chained during a reconfiguration, and under both policies. Each reconfiguration that is read off the rows is
+/// reported, goes to a target that was chosen in an environment seen during it, and ends within the given bound. It
+/// keeps its invariants throughout and meets its target's preconditions in the row before its end. Its cause is a
+/// change of the environment, unless it begins in the last row. No target is claimed for a reconfiguration that the
+/// end of the script cuts off. Once the environment has held for the greatest bound, a configuration that meets the
+/// demands runs in each row in which no application is lost.
 pub fn reconfigurations_are_assured()
     ensures { ReconfigurationsAreAssured }
 {
@@ -19,8 +19,8 @@ pub fn reconfigurations_are_assured()
 }
 
 /// States that the target of a reconfiguration can run in each frame in which the reconfiguration is under way. The
-/// target was chosen from its source in an environment seen since the first moving frame. Under `Retarget` the target
-/// was chosen in this frame's environment.
+/// target was chosen from the reconfiguration's source in an environment seen since the first moving frame. Under
+/// `Retarget` the target was chosen in the environment of the frame.
 pub fn targets_are_chosen()
     ensures { TargetsAreChosen }
 {
@@ -35,14 +35,15 @@ pub fn halting_ends_in_time()
     know();
 }
 
-/// States that no frame of a reconfiguration is later than its phases allow.
+/// States that no frame of a reconfiguration is later than the phases of the reconfiguration allow.
 pub fn phases_are_past_in_time()
     ensures { PhasesArePastInTime }
 {
     know();
 }
 
-/// States that the number of further changes during a reconfiguration is at most the number for which its bounds allow.
+/// States that the number of further changes during a reconfiguration is at most the number for which the bounds
+/// allow.
 pub fn further_changes_are_few()
     ensures { FurtherChangesAreFew }
 {

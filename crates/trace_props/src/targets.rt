@@ -10,7 +10,7 @@ use choice_table::choose;
 use scram_types::{ConfId, Report, Row, Spec};
 
 // Returns the frame in which SP2 is broken, or `None` if SP2 is kept. The frame is the end of the reconfiguration, if
-// the table chooses the target in the environment of none of its rows.
+// the table does not choose the target in the environment of any row of the reconfiguration.
 pub(crate) fn unchosen_at(spec: &Spec, rows: &[Row], read: Report) -> Option<u32>
     ensures { result ≡ unchosen_at spec.now rows.now read }
 {

@@ -1,5 +1,5 @@
--- Lemmas on a fact about each item of a list by its index, after the last item is removed and after an item is
--- appended.
+-- Lemmas on lists whose items satisfy a property that depends on the item's index. They state what holds after the
+-- last item is removed or an item is appended.
 use Rattle.std.proofs.Common.{◌≡◌, ◌∙◌, ℕ, zero, suc, ap, sym, subst, refl, arith, List, [], ◌∷◌, ◌++◌, length}
 use Rattle.std.specs.Prelude.{All, Option, Some, option_to_list, slice_get}
 use Rattle.std.proofs.lemmas.List.Elements.{All-append, All-pop}
@@ -16,7 +16,7 @@ use Rattle.word_deck.specs.Crews.{IsCrewOf}
 use Rattle.word_deck.specs.Flights.{AreCrewsOf, AreLanded, AreOpen, numbers_in}
 use Rattle.word_deck.specs.Landing.{IsLanded}
 
--- The fact holds for each item of the list together with the item's index.
+-- Each item of the list satisfies the property together with the item's index.
 abbrev pub EachAt : {A : Type 0} → (ℕ → A → Type 0) → List A → Type 0
 EachAt {A} Fact xs = (i : ℕ) (x : A) → slice_get xs i ≡ Some x → Fact i x
 
@@ -79,7 +79,7 @@ module _ {X : Type 0} {Y : X → Type 0} (words : WordTable) where
   crews_less xs ys o crew all is are =
       let both = All-pop (λ (c : Crew X Y). IsCrewOf words c) xs ys (Some crew) (popped xs ys o crew all is) are in (both.0, both.1)
 
--- Lemmas on the seats of processors that have not started or have landed, after one is removed or appended.
+-- Lemmas on the seats of processors that have not started or have landed, after one seat is removed or appended.
 pub open_front : (words : WordTable) (xs ys : List Seat) (o : Option Seat) (seat : Seat) → xs ≡ ys ++ option_to_list o → o ≡ Some seat → AreOpen words xs → AreOpen words ys
 open_front words xs ys o seat all is are = front_at (λ p s. IsSeatOf words s × (proc_of s ≡ p) × (seat_place s ≡ At 0 0)) xs ys seat (popped xs ys o seat all is) are
 

@@ -20,7 +20,7 @@ use Rattle.word_table.specs.Tables.{kernel_frame, kernel_steps}
 use Rattle.word_deck.specs.Kernels.{AreNoted, IsKernelBetween, IsKernelDone, frames_noted}
 use Rattle.word_deck.specs.declared.kernels.Noted.{Noted}
 
--- If the first `n` processors are noted and processor `n` is noted next, the first `n + 1` processors are noted.
+-- If the first `n` processors are noted and processor `n` is noted next, then the first `n + 1` processors are noted.
 
 at_last : (n p : ℕ) → p < n + 1 → (p ≡ n) ⊎ (p < n)
 at_last n p low = grind arith
@@ -40,7 +40,7 @@ noted_more mission k n noted mark image is low eight_marks eight_images same_mar
   images = set_more (λ p. image_after mission.spec mission.script p (suc k)) noted.images [] n image is.images (rw eight_images low) same_image;
 }
 
--- If the image at index `n` is replaced, the first `n` processors stay noted.
+-- If the image at index `n` is replaced, the first `n` processors are still noted.
 pub noted_still : (mission : MissionParts) (k n : ℕ) (noted : Noted) (image : List ℤ) → AreNoted mission k n noted → AreNoted mission k n (record { marks = noted.marks; images = slice_set noted.images n image })
 noted_still mission k n noted image is = record {
   marks = is.marks;
@@ -75,7 +75,7 @@ done_log mission kseat between (inl none) =
     below procs kseat less ∙ omega (arith, within, none)
 done_log mission kseat between (inr last) = all (length mission.spec.procs) kseat last.1 ∙ last.0
 
--- Lemmas on the values that are given to the log and to the words.
+-- Lemmas on the values that the kernel passes to the log and to the words.
 
 pub images_for : (kernel : KernelParts) (mission : MissionParts) (noted : Noted) → kernel ≡ kernel_after mission.spec mission.script kernel.past → AreNoted mission kernel.past (length mission.spec.procs) noted
     → AreImages kernel.spec kernel.script (kernel.past + 1) noted.images

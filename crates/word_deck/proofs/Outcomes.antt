@@ -1,4 +1,4 @@
--- The result of a flight is the trace, and its seats are at their last places.
+-- The result of a flight is the one-thread trace, and the seats in the result are at their last places.
 use Rattle.std.proofs.Common.{◌≡◌, ◌∙◌, ◌<◌, ◌≤◌, ap, arith, sym, subst, List, length}
 use Rattle.std.specs.Prelude.{Some}
 use Rattle.std.proofs.lemmas.Option.{slice_get_within}
@@ -29,7 +29,8 @@ pub all_hold : (spec : Parts) (script : ScriptParts) (rows : List Row) (told : L
     → rows ≡ rows_of spec script → told ≡ reports_of spec script → HoldsAll spec rows told
 all_hold spec script rows told assured facts is r t = rw (r, t) (assured spec script facts is)
 
--- If two values of `WordTable` have the same words, the kernel's seat at the first is also its seat at the second.
+-- If two values of `WordTable` have the same words, a kernel's seat at one of them is also a kernel's seat at the
+-- other.
 
 pub kernel_kept : (old new : WordTable) (kseat : KSeat) (mission : MissionParts) → new.table ≡ old.table → IsAtTable old kseat → mission_in old ≡ mission → IsSpec mission.spec → IsMission mission → IsKernelSeatOf new kseat
 kernel_kept old new kseat mission same at of facts is =

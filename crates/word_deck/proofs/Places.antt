@@ -16,7 +16,7 @@ use Rattle.word_deck.specs.Crews.{comes_back, is_done, place_after, place_flown,
 use Rattle.word_deck.specs.declared.turns.Turn.{Turn}
 use Rattle.word_deck.specs.declared.turns.Turn.TheVariants.{Worked, NotYet, Finished}
 
--- A processor is done if and only if the test `is_done` passes.
+-- A processor has flown all frames or has halted for good if and only if `is_done` is `true`.
 
 late : (h : ℕ) (o : Option ℕ) → not (comes_back h o) ≡ true → (r : ℕ) → o ≡ Some r → r ≤ h
 late h None e r s = cc
@@ -34,7 +34,7 @@ pub by_done : (m : Flight) (p : ℕ) (place : Place) → IsDone m p place → is
 by_done m p (At f n) e = grind (arith, nat_tests)
 by_done m p (Halted h) e = early h (m.restart p) e
 
--- A processor between two turns that is not done waits for a release.
+-- A processor between two turns that has not flown all frames and has not halted for good waits for a release.
 
 comes : (h : ℕ) (o : Option ℕ) → not (comes_back h o) ≡ false → h < restart_or h o
 comes h None e = cc
@@ -58,8 +58,7 @@ none_later : {R : Type 0} (h : ℕ) (o : Option ℕ) (spare : Option R) → h < 
 none_later h None spare l r e more = cc
 none_later h (Some q) spare l r e more = let same : q ≡ r = cc in absurd (omega (arith, same, more))
 
--- After a start, the processor has a spare rack for each later restart. A processor that had halted no longer needs
--- one.
+-- After a start, a processor with a later restart has a spare rack. A processor that had halted no longer needs one.
 pub spare_begun : {X : Type 0} {Y : X → Type 0} (m : Flight) (p q : ℕ) (place : Place) (unit : HeldUnit X Y) (spare : Option (Rack X Y)) → Waits m p place → IsUnitAt q place unit → HasSpare m p (frame_of place) spare
     → HasSpare m p (frame_awaited m p place) (spare_started unit spare)
 spare_begun m p q (At f n) (Up live) spare w is s = s

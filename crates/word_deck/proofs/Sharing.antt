@@ -1,4 +1,4 @@
--- Lemmas that the values of a flight may be sent to other threads or shared between threads.
+-- The values of a flight may be sent to other threads or shared between threads.
 use denote.RattleType.{RattleType}
 use denote.Param.Object.{Ghosts, table_of}
 use denote.Param.Sent.{Sends}
@@ -37,7 +37,7 @@ mission_sync = search (spec_sync, script_sync, sendable, crosses) depth 40
 pub table_sync : IsSync table.the_row
 table_sync = search (shared.the_sync, lease.the_sync, sendable, crosses) depth 40
 
--- Lemmas on seats and cells of boxes: threads may take or share them if boxes may be sent to another thread.
+-- Threads may take or share seats and cells of boxes if boxes may be sent to another thread.
 
 pub seat_fields : IsSend seat.the_field.row
 seat_fields = search (shared_seat.the_send, sendable, crosses) depth 40 fits 5000

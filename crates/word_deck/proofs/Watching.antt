@@ -22,7 +22,7 @@ next_row mission rows before d are most low =
     get_listed (row_at mission.spec mission.script) mission.script.frames before (omega (arith, low, most))
     ∙ ap Some (sym (get_or_from_slice_get rows before (row_at mission.spec mission.script before) d here))
 
--- A turn adds at most one row, and the rows never exceed the frames of the flight.
+-- A turn adds at most one row. The number of rows is at most the number of frames of the flight.
 
 pub moved_on : (turn : Turn) (procs frames : ℕ) (before after : KSeat) → IsKernelMoved turn procs frames before after → frames_noted procs before ≤ frames_noted procs after
 moved_on NotYet procs frames before after moved = grind (arith, nat_tests)

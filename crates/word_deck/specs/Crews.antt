@@ -31,21 +31,21 @@ place_after NotYet m p place = place
 place_after Worked m p place = place_flown m p place
 place_after Finished m p place = if is_done m p place then place else place_flown m p place
 
--- The number of loads that found nothing ready, after a turn with this result and `tries` such loads before it.
+-- The number of loads that found nothing ready, after a turn with the given result and `tries` such loads before it.
 abbrev pub tries_after : Turn → ℕ → ℕ
 tries_after NotYet tries = suc tries
 tries_after Worked tries = tries
 tries_after Finished tries = tries
 
--- A crew belongs to the table and is between two turns. It has a spare rack if its processor still has a restart to
--- come.
+-- A crew belongs to the table and is between two turns. The crew has a spare rack if a restart of its processor is
+-- still to come.
 pub record IsCrewOf {X : Type 0} {Y : X → Type 0} (words : WordTable) (crew : Crew X Y) : Type 0 where
   pub seated : IsSeatOf words crew.seat
   pub begin : steps_of (seat_place crew.seat) ≡ 0
   pub spare_left : HasSpare (flight_in words) (proc_of crew.seat) (frame_of (seat_place crew.seat)) crew.flyer.spare
 
--- A crew belongs to the table and has made `n` steps of a frame. It has a spare rack if its processor still has a
--- restart to come.
+-- A crew belongs to the table and has made `n` steps of a frame. The crew has a spare rack if a restart of its
+-- processor is still to come.
 pub record CrewFlies {X : Type 0} {Y : X → Type 0} (words : WordTable) (n : ℕ) (crew : Crew X Y) : Type 0 where
   pub seated : IsSeatOf words crew.seat
   pub after : IsAfter n (seat_place crew.seat)

@@ -1,4 +1,4 @@
--- The place of a processor within a frame.
+-- The place of a processor within a frame, and the stores before its halt.
 use Rattle.std.specs.Prelude.{◌≡◌, ℕ, ◌≤◌, Some}
 use Rattle.fail_stop.specs.Events.{At, Place, frame_of}
 use Rattle.fail_stop.specs.Flights.{Flight}

@@ -12,7 +12,7 @@ pub record IsLanded (words : WordTable) (p : ℕ) (seat : Seat) : Type 0 where
   pub proc : proc_of seat ≡ p
   pub done : IsDone (flight_in words) p (seat_place seat)
 
--- The processor that had this seat has landed, or has not flown and gives back the same seat.
+-- The processor that had seat `was` has landed, or it has not flown and returns the same seat.
 pub record Lands (words : WordTable) (was : Seat) (landing : Landing) : Type 0 where
   pub landed : landing.flown ≡ true → IsLanded words (proc_of was) landing.seat
   pub stayed : landing.flown ≡ false → landing.seat ≡ was

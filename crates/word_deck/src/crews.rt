@@ -1,5 +1,6 @@
-//! Processors at their seats. The type guarantees that the unit is the seat's processor, and that both have halted or
-//! neither has. The fields are public so that clauses can name them.
+//! Processors at their seats. The type guarantees that the unit has the number of the seat's processor. It also
+//! guarantees that the unit and the processor at the seat have both halted, or that neither has halted. The fields
+//! are public because contracts refer to them.
 
 ghost use Rattle.std.specs.Prelude.{◌≡◌, ◌<◌, IfSome, Some, false};
 ghost use Rattle.fail_stop.specs.Flyers.{IsUnitAt};
@@ -41,7 +42,7 @@ impl Crew {
     ghost use Rattle.word_table.specs.declared.tables.WordTable as word_tables;
     ghost use Rattle.word_deck.specs.declared.turns.Turn.TheVariants.{Finished, Worked};
 
-    /// Returns a processor at its opening place, with the boxes `rack`, and `spare` for its restart.
+    /// Returns a processor at its opening place, with the boxes `rack` and the boxes `spare` for its restart.
     pub fn processor(seat: Seat, rack: Rack, spare: Rack) -> Crew
         requires opening { seat_place seat ≡ At 0 0 }
         requires few { proc_of seat < 8 }
@@ -63,10 +64,10 @@ impl Crew {
         }
     }
 
-    /// Tries to fly the frame for which the processor waits, whole or up to its halt in it. A processor that has
-    /// halted restarts with its spare rack at the start of the frame of its restart. Returns `NotYet` only if the
-    /// release that it loads does not show the frame. Returns `Finished` if and only if the processor has then flown
-    /// all frames or has halted for good. This method does not block.
+    /// Tries to fly the frame for which the processor waits, whole or up to the processor's halt in it. A processor
+    /// that has halted restarts with its spare rack at the start of the frame of its restart. Returns `NotYet` only
+    /// if the release word that the call loads says that the frame is not yet released. Returns `Finished` if and
+    /// only if the processor has then flown all frames or has halted for good. This method does not block.
     #[tactic(auto, using(crate::proofs::Places::waits, crate::proofs::Places::done_by, crate::proofs::Places::flown_after, crate::proofs::Places::finished_by, crate::proofs::Places::tried_by))]
     pub fn turn(&mut self, mission: &Mission, words: &WordTable) -> Turn
         requires mission { mission_in words.now ≡ mission.now }
@@ -114,8 +115,8 @@ impl Crew {
         }
     }
 
-    // Starts the frame for which the processor waits, and returns its kernel image, or `None` if the frame is not
-    // released. A processor that had halted restarts.
+    // Starts the frame for which the processor waits, and returns the kernel image of that frame, or `None` if the
+    // frame is not released. A processor that had halted restarts.
     #[tactic(auto, using(crate::proofs::Places::spare_there, crate::proofs::Places::spare_begun, crate::proofs::Units::few))]
     fn begin(&mut self, words: &WordTable) -> Option<KernelImage>
         requires fits { IsCrewOf words.now self.old }
@@ -132,8 +133,8 @@ impl Crew {
         Some(image)
     }
 
-    // Flies the frame that has been started. It makes the looks and the draft, and then the steps up to the halt or the
-    // end.
+    // Flies the frame that has been started. Makes the looks and the draft, and then the steps up to the halt or up
+    // to the end of the frame.
     fn fly(&mut self, mission: &Mission, words: &WordTable, kernel: KernelImage)
         requires mission { mission_in words.now ≡ mission.now }
         requires flies { CrewFlies words.now 1 self.old }
@@ -151,7 +152,7 @@ impl Crew {
         self.end(mission, words);
     }
 
-    // Sets the image to the draft of the unit in the frame of its last snapshot. The unit has to be up.
+    // Sets the crew's image to the draft of the unit in the frame of the last snapshot. The unit must be up.
     #[tactic(auto, using(crate::proofs::Steps::drafted_by))]
     fn draft(&mut self, mission: &Mission)
         requires lives { is_halted (seat_place self.old.seat) ≡ false }
@@ -166,8 +167,8 @@ impl Crew {
             .draft(mission.spec(), &self.snap, &mut self.image);
     }
 
-    // Ends the frame that the processor has drafted. It commits the frame, or halts if the script has a halt in the
-    // frame.
+    // Ends the frame of which the processor has made the draft. The processor commits the frame, or halts if the
+    // script has a halt in the frame.
     fn end(&mut self, mission: &Mission, words: &WordTable)
         requires mission { mission_in words.now ≡ mission.now }
         requires flies { CrewFlies words.now (length mission.now.spec.procs + 1) self.old }

@@ -11,8 +11,8 @@ use bank_words::encode;
 use scram_types::{Image, ProcId};
 use word_table::{Seat, WordTable};
 
-/// Looks at each processor, and sets the images to those as of the start of the seat's frame. The images after the
-/// last processor are unchanged.
+/// Looks at each processor. Sets entry `q` of `images` to the image of processor `q` as of the start of the seat's
+/// frame. The entries after the last processor are unchanged.
 #[tactic(auto, using(crate::proofs::Steps::looks_on, crate::proofs::Noting::set_more))]
 pub(crate) fn look_at_all(words: &WordTable, procs: u8, seat: &mut Seat, images: &mut [Image; 8])
     requires seat { IsSeatOf words.now seat.old }
@@ -30,7 +30,7 @@ pub(crate) fn look_at_all(words: &WordTable, procs: u8, seat: &mut Seat, images:
     }
 }
 
-/// Stores the first `count` words of the draft of the seat's frame.
+/// Stores the first `count` words of the draft of the seat's frame. `image` is that draft.
 #[tactic(auto, using(crate::proofs::Steps::stores_on, crate::proofs::Steps::word_drafted))]
 pub(crate) fn store_words(words: &WordTable, seat: &mut Seat, image: &Image, count: u32)
     requires seat { IsSeatOf words.now seat.old }
@@ -49,7 +49,7 @@ pub(crate) fn store_words(words: &WordTable, seat: &mut Seat, image: &Image, cou
     }
 }
 
-/// Stores all words of the draft, commits the frame and ends it.
+/// Stores all words of the draft, commits the frame and ends the frame.
 #[tactic(auto, using(crate::proofs::Steps::flips_on, crate::proofs::Steps::ends_on, crate::proofs::Steps::never_halts, crate::proofs::Steps::ended))]
 pub(crate) fn commit(words: &WordTable, seat: &mut Seat, image: &Image, width: u32)
     requires seat { IsSeatOf words.now seat.old }
@@ -68,7 +68,8 @@ pub(crate) fn commit(words: &WordTable, seat: &mut Seat, image: &Image, width: u
     words.done(seat);
 }
 
-/// Halts after `step` stores, or after all stores and the flip if `step` is above the number of words.
+/// Halts the seat's processor after `step` stores. If `step` is above the number of words, the processor halts after
+/// all stores and the flip.
 #[tactic(auto, using(crate::proofs::Steps::halts_on, crate::proofs::Steps::stopped))]
 pub(crate) fn halt_after(words: &WordTable, seat: &mut Seat, image: &Image, width: u32, step: u32)
     requires seat { IsSeatOf words.now seat.old }
@@ -87,7 +88,7 @@ pub(crate) fn halt_after(words: &WordTable, seat: &mut Seat, image: &Image, widt
     words.halt(seat);
 }
 
-// Makes `step` stores, or all stores and the flip if `step` is above the number of words.
+// Makes `step` stores. If `step` is above the number of words, makes all stores and the flip.
 #[tactic(auto, using(crate::proofs::Steps::flips_on, crate::proofs::Steps::halts_then, crate::proofs::Steps::flipped))]
 fn make_steps(words: &WordTable, seat: &mut Seat, image: &Image, width: u32, step: u32)
     requires seat { IsSeatOf words.now seat.old }

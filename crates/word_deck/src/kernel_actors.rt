@@ -1,5 +1,5 @@
 //! The kernel as a type parameter of the functions that start threads. These functions cannot name a kernel's type
-//! with a lifetime, since nothing is known about the result of a closure that holds such a type.
+//! with a lifetime, since nothing is known about the result of a closure that holds a value of such a type.
 
 ghost use Rattle.std.specs.Prelude.{◌≡◌};
 ghost use Rattle.word_table.specs.Tables.{mission_in};
@@ -35,7 +35,7 @@ pub(crate) trait KernelActor: Drop {
         ensures done { result ≡ Finished → done words.now self.new }
         ensures lent { lent self.new ≡ lent self.old };
 
-    /// Spins and then parks until the next note is possible. May return earlier, without a cause.
+    /// Spins and then parks until the kernel may note its next processor. May return earlier, without a cause.
     fn rest<R: Wait>(&self, rt: &R, words: &WordTable);
 }
 

@@ -14,16 +14,16 @@ use scram_kernel::Kernel;
 use scram_types::{Image, ProcId, Row};
 use word_table::{KSeat, WordTable};
 
-/// The marks and images that the processors have committed by the end of the kernel's frame, for the processors noted
-/// so far.
+/// The marks and images that processors have committed by the end of the kernel's frame. Only the entries of the
+/// processors that the kernel has noted in this frame have a meaning.
 #[derive(Clone, Copy)]
 pub(crate) struct Noted {
     pub(crate) marks: [u64; 8],
     pub(crate) images: [Image; 8],
 }
 
-/// The kernel of a flight at its seat, with the marks and images that it has noted in its frame. It has a row for each
-/// frame in which it has noted every processor.
+/// The kernel of a flight at its seat, with the marks and images that the kernel has noted in its frame. The kernel
+/// has a row for each frame in which it has noted every processor.
 #[derive(Drop)]
 pub struct KernelCrew<'a> {
     pub mission: &'a Mission,
@@ -64,10 +64,11 @@ impl<'a> KernelCrew<'a> {
         self.kernel.rows()
     }
 
-    /// Tries to make the next steps of the kernel. Notes, in order, the processors that are done with its frame or
-    /// have halted. Once all are noted, ends the frame. If there is a next frame, publishes and releases that frame.
-    /// Returns `NotYet` only if the end word that it loads does not allow the next note. Returns `Finished` if and
-    /// only if the kernel has then made its last note, or no frame is flown. This method does not block.
+    /// Tries to make the next steps of the kernel. Notes, in order, the processors that are done with the kernel's
+    /// frame or have halted. Once all are noted, ends the frame. If there is a next frame, publishes and releases
+    /// that frame. Returns `NotYet` only if the end word that the call loads does not allow the next note. Returns
+    /// `Finished` if and only if the kernel has then made its last note, or no frame is flown. This method does not
+    /// block.
     #[tactic(auto, using(crate::proofs::Noting::below, crate::proofs::Noting::all))]
     pub fn turn(&mut self, words: &WordTable) -> Turn
         requires mission { mission_in words.now ≡ self.old.mission.now }
@@ -115,7 +116,7 @@ impl<'a> KernelCrew<'a> {
     }
 }
 
-// Notes processors in order, until one may not be noted.
+// Notes processors in order, until all are noted or one may not be noted.
 fn note_all(words: &WordTable, procs: u32, kseat: &mut KSeat, noted: &mut Noted)
     requires seat { IsKernelSeatOf words.now kseat.old }
     requires procs { procs ≡ length (mission_in words.now).spec.procs }
@@ -151,7 +152,7 @@ fn end_frame(mission: &Mission, noted: &Noted, kernel: &mut Kernel) -> KernelIma
     kernel.tick(&noted.marks, &noted.images)
 }
 
-// Publishes the kernel image of the next frame, word by word, and releases the frame.
+// Stores the kernel image of the next frame, word by word, and releases that frame.
 fn publish_frame(words: &WordTable, procs: u32, kseat: &mut KSeat, image: &KernelImage)
     requires seat { IsKernelSeatOf words.now kseat.old }
     requires procs { procs ≡ length (mission_in words.now).spec.procs }

@@ -1,6 +1,6 @@
-//! Processors that fly on threads of their own. A thread gives back only the seat, since a thread handle may not give
-//! back boxes. Therefore the boxes of each processor are in a cell. The processor's thread takes them from the cell,
-//! or the caller does if no thread can be created.
+//! Processors that fly on threads of their own. A thread returns only the seat, since a thread handle may not return
+//! boxes. Therefore the boxes of each processor are in a cell. The processor's thread takes the boxes from the cell,
+//! or the caller takes them if no thread can be created.
 
 ghost use Rattle.std.specs.Prelude.{◌≡◌, IfErr, IfOk};
 ghost use Rattle.fail_stop.specs.Events.{At};
@@ -47,13 +47,13 @@ impl RackCell {
         self.pair.lock(rt).take()
     }
 
-    // Sets the content of the cell, which is empty if `pair` is `None`.
+    // Replaces the content of the cell by `pair`. The cell is empty if `pair` is `None`.
     fn put<R: Wait>(&self, rt: &R, pair: Option<RackPair>) {
         *self.pair.lock(rt) = pair;
     }
 }
 
-/// The seat that a processor gives back, and whether it has flown.
+/// The seat that a processor returns, and whether the processor has flown.
 #[derive(Drop)]
 pub(crate) struct Landing {
     pub(crate) seat: Seat,
@@ -61,7 +61,7 @@ pub(crate) struct Landing {
 }
 
 /// The promise of a thread for a processor, given the table and the seat with which the processor started. The
-/// processor has landed, or it has not flown and gives back this seat.
+/// processor has landed, or it has not flown and returns this seat.
 #[derive(Drop)]
 pub(crate) struct Lander(Snapshot<WordTable>, Snapshot<Seat>);
 
@@ -69,8 +69,8 @@ impl Promise<Landing> for Lander {
     ghost kept_by = { λ promise landing. Lands promise.0.value promise.1.value landing };
 }
 
-/// The values that the actors of a flight share: the words, a cell for each processor, and which processors are to fly
-/// on threads.
+/// The values that the actors of a flight share: the words, a cell for each processor, and for each processor whether
+/// it is to fly on a thread.
 #[derive(Drop)]
 pub(crate) struct Resources {
     pub(crate) words: WordTable,
@@ -85,8 +85,8 @@ pub(crate) struct Shared<'a> {
     pub(crate) resources: &'a Resources,
 }
 
-/// The values with which one processor flies: the mission, the words, the cell with its boxes, and whether it is to fly
-/// on a thread.
+/// The values with which one processor flies: the mission, the words, the cell with the processor's boxes, and
+/// whether the processor is to fly on a thread.
 #[derive(Clone, Copy)]
 pub(crate) struct Site<'a> {
     pub(crate) mission: &'a Mission,
@@ -124,8 +124,8 @@ pub(crate) fn fly_crew<R: Wait>(
     unreachable!()
 }
 
-/// Starts a thread for a processor. If no thread can be created, returns a landing that has not flown, and leaves the
-/// boxes in the cell.
+/// Starts a thread for a processor and returns the handle of the thread. If no thread can be created, leaves the
+/// boxes in the cell and returns, as the error, a landing with the seat and with `flown` set to `false`.
 pub(crate) fn start<'s, E, R: Wait + Threads + Sync>(
     scope: &Scope<'s, E>,
     rt: &'s R,
@@ -157,7 +157,7 @@ pub(crate) fn start<'s, E, R: Wait + Threads + Sync>(
     match spawned {
         Ok(handle) => Ok(handle),
         Err(refused) => {
-            // The closure finds no pair in the cell. Therefore it gives back the seat and flies nothing.
+            // The closure finds no pair in the cell. Therefore it returns the seat and flies nothing.
             let pair = cell.take(rt);
             let landing = (refused.value)();
             cell.put(rt, pair);
@@ -166,7 +166,7 @@ pub(crate) fn start<'s, E, R: Wait + Threads + Sync>(
     }
 }
 
-// Flies a processor with the boxes from its cell. If the cell is empty, gives back the seat unchanged.
+// Flies a processor with the boxes from its cell. If the cell is empty, returns the seat unchanged.
 #[tactic(auto, using(crate::proofs::Units::few))]
 fn fly_seat<R: Wait>(
     rt: &R,
@@ -193,8 +193,8 @@ fn fly_seat<R: Wait>(
     }
 }
 
-/// Returns the processor of this seat, with the boxes from its cell. That the cell holds them is not proved. If it is
-/// empty, the processor flies with racks without boxes.
+/// Returns the processor of this seat, with the boxes from its cell. There is no proof that the cell contains boxes.
+/// If the cell is empty, the processor flies with racks without boxes.
 #[tactic(auto, using(crate::proofs::Units::few))]
 pub(crate) fn crew_from<R: Wait>(rt: &R, words: &WordTable, cell: &RackCell, seat: Seat) -> Crew
     requires seat { IsSeatOf words.now seat }
@@ -211,8 +211,8 @@ pub(crate) fn crew_from<R: Wait>(rt: &R, words: &WordTable, cell: &RackCell, sea
     }
 }
 
-/// Returns the seat of a processor that has landed. If the processor has not flown, the caller flies it with the
-/// boxes from the cell. `was` is the seat with which the processor started.
+/// Returns the seat of a processor once the processor has landed. If the processor has not flown, the caller flies it
+/// with the boxes from the cell. `was` is the seat with which the processor started.
 pub(crate) fn land<R: Wait>(rt: &R, site: &Site<'_>, landing: Landing, was: Snapshot<Seat>) -> Seat
     requires mission { mission_in site.now.words.now ≡ site.now.mission.now }
     requires lands { Lands site.now.words.now was.value landing }

@@ -1,7 +1,7 @@
 //! Threads that fly a mission over shared words. A turn makes steps of one actor on the table of words and nothing
 //! else. In its turn a processor flies its next frame, whole or up to its halt. In its turn the kernel notes the
-//! processors that it can, and ends the frame once all are noted. The result of a flight is the one-thread trace, for
-//! every order of the turns.
+//! processors that it may note, and ends the frame once all are noted. The result of a flight is the one-thread
+//! trace, for every order of the turns.
 #![tactic(auto)]
 
 pub mod crews;

@@ -1,4 +1,4 @@
-//! A thread for each processor, with the kernel's turns made while the threads run.
+//! The flight of a mission with a thread for each processor. The kernel makes its turns while the threads run.
 
 ghost use Rattle.std.specs.Prelude.{ℕ, List, ◌≡◌, ◌≤◌, ◌<◌, ◌+◌, [], ◌∷◌, ◌++◌, length, vec_capacity, vec_len};
 ghost use Rattle.fail_stop.specs.Events.{At};
@@ -17,8 +17,8 @@ use std::thread;
 use std::thread::{PromisedHandle, Scope, Threads};
 use word_table::{Seat, WordTable};
 
-/// The processors of a flight: the seats of those that have not started, the processors that fly in the caller's turns,
-/// and the seats of the landed ones.
+/// The processors of a flight: the seats of those that have not started, the processors that fly in the caller's
+/// turns, and the seats of those that have landed.
 #[derive(Drop)]
 pub(crate) struct Roster {
     pub(crate) waiting: Vec<Seat>,
@@ -33,7 +33,7 @@ pub(crate) struct Flying {
 }
 
 /// The way in which a processor flies once it has been started: on a thread (`Threaded`), in the caller's turns as
-/// the last of the processors there (`Own`), or no longer, since it has landed (`Landed`).
+/// the last of the processors there (`Own`), or not at all, since it has landed (`Landed`).
 #[derive(Drop)]
 pub(crate) enum Boarding {
     Threaded(Flying),
@@ -95,8 +95,8 @@ pub(crate) fn fly<K: KernelActor, R: Threads + Wait + Sync>(
     )
 }
 
-// Starts the waiting processors, the last one first, then flies the kernel, and then lands the processors. Returns
-// the kernel after its last note.
+// Starts the waiting processors from the last to the first, then flies the kernel, and then lands the processors.
+// Returns the kernel after its last note.
 fn fly_rest<'s, E, K: KernelActor, R: Threads + Wait + Sync>(
     scope: &Scope<'s, E>,
     rt: &'s R,
@@ -143,7 +143,7 @@ fn fly_rest<'s, E, K: KernelActor, R: Threads + Wait + Sync>(
 }
 
 // Returns the seat of a started processor, once the processor has landed. The caller waits for the processor's
-// thread, or flies the processor to its end. `was` is the seat with which the processor started.
+// thread, or makes the processor's turns until it has landed. `was` is the seat with which the processor started.
 fn land_boarded<R: Threads + Wait>(
     rt: &R,
     site: &Site<'_>,
@@ -174,8 +174,8 @@ fn land_boarded<R: Threads + Wait>(
     }
 }
 
-// Makes the turns of the kernel and of the processors that fly in the caller's turns, until the kernel is done. The
-// caller sleeps only if no processor flies in its turns.
+// Makes the turns of the kernel and of the processors that fly in the caller's turns, until the kernel has made its
+// last note or no frame is flown. The caller sleeps only if no processor flies in the caller's turns.
 fn fly_kernel<K: KernelActor, R: Wait>(
     rt: &R,
     shared: &Shared<'_>,
@@ -221,8 +221,8 @@ fn turn_all(mission: &Mission, words: &WordTable, own: &mut Vec<Crew>)
     }
 }
 
-// Starts a thread for a processor if one is asked for and can be created. Otherwise the processor flies in the caller's
-// turns.
+// Starts a thread for a processor if `site.asked` is `true` and a thread can be created. Otherwise the processor
+// flies in the caller's turns.
 fn board<'s, E, R: Threads + Wait + Sync>(
     scope: &Scope<'s, E>,
     rt: &'s R,

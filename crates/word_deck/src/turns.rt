@@ -1,7 +1,7 @@
 //! The results of turns.
 
-/// The result of a turn: the actor has made steps and has more to make (`Worked`), nothing was ready (`NotYet`), or
-/// the actor has no more steps (`Finished`).
+/// The result of a turn. `Worked`: the actor has made steps and has more to make. `NotYet`: nothing was ready.
+/// `Finished`: the actor has no more steps.
 #[derive(Clone, Copy, Debug, PartialEq, Eq)]
 pub enum Turn {
     Worked,

@@ -1,4 +1,4 @@
-//! The kernel of a flight with a watch, which takes the kernel's rows.
+//! The kernel of a flight together with a watch, to which the kernel hands its rows.
 
 ghost use Rattle.std.specs.Prelude.{◌≡◌, ◌≤◌, ◌+◌, length};
 ghost use Rattle.scram_kernel.specs.Kernels.{rows_below};
@@ -12,7 +12,7 @@ use std::sync::Wait;
 use telemetry_tap::Watch;
 use word_table::WordTable;
 
-/// The kernel of a mission, and the watch to which it hands each row that it writes.
+/// The kernel of a mission, and the watch to which the kernel hands each row that it writes.
 #[derive(Drop)]
 pub(crate) struct WatchedKernel<'a, 'w, W: Watch> {
     pub(crate) kernel: KernelCrew<'a>,
@@ -46,8 +46,7 @@ impl<'a, 'w, W: Watch> KernelActor for WatchedKernel<'a, 'w, W> {
     }
 }
 
-// Hands the last of these rows to a watch that has taken `before` rows. If there are only `before` rows, it does
-// nothing.
+// Hands the last of these rows to a watch that has taken `before` rows. Does nothing if there are only `before` rows.
 #[tactic(auto, using(crate::proofs::Watching::next_row))]
 fn hand_row<W: Watch>(mission: &Mission, rows: &[Row], before: usize, watch: &mut W)
     requires watched { W.watched watch.old ≡ mission.now }

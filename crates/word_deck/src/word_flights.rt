@@ -24,7 +24,7 @@ use trace_props::missions::reconfigurations_are_assured;
 use word_table::{KSeat, Seat, WordTable, Words};
 
 /// A flight of a mission that is ready to start and has all memory that it needs. It has the words, the kernel, the
-/// seats and the boxes of all processors, and room for the seats that come back.
+/// seats and the boxes of all processors, and room for the seats of the landed processors.
 #[derive(Drop)]
 pub struct WordFlight<'a> {
     mission: &'a Mission,
@@ -44,8 +44,8 @@ pub struct WordFlight<'a> {
     ghost room: { vec_len roster.waiting ≤ vec_capacity roster.landed },
 }
 
-/// The result of a flight: the trace, and the words with all seats, whose actors have no more steps. The processors'
-/// seats are in the order of their numbers.
+/// The result of a flight: the trace, and the words with all seats. The actors of the seats have no more steps. The
+/// processors' seats are in the order of their numbers.
 #[derive(Drop)]
 pub struct Landed<'a> {
     pub flown: Flown,
@@ -89,8 +89,8 @@ impl<'a> WordFlight<'a> {
 
     /// Flies the mission with a thread for each processor and the kernel on the caller's thread. A processor for
     /// which no thread can be created flies in the caller's turns. Returns the one-thread trace, for which SP1 to SP6
-    /// hold, and the words with all seats, whose actors have no more steps. This method blocks until the threads have
-    /// ended, and has no error.
+    /// hold, and the words with all seats. The actors of the seats have no more steps. This method blocks until the
+    /// threads have ended, and has no error.
     pub fn run<R: Threads + Wait + Sync>(self, rt: &R) -> Landed<'a>
         ensures flown { IsTraceOf self.entry.mission.now result.flown }
         ensures mission { result.words.mission ≡ self.entry.mission }
@@ -150,7 +150,7 @@ impl<'a> WordFlight<'a> {
             resources: &resources,
         };
         let (kernel, seats) = fly(rt, &shared, kernel, roster);
-        // The name `_last` lets the proof learn the value to which the reference refers.
+        // The name `_last` lets the proof refer to the value behind the reference.
         let WatchedKernel {
             kernel,
             watch: _last,
@@ -158,7 +158,7 @@ impl<'a> WordFlight<'a> {
         land_all(mission, resources, kernel, seats)
     }
 
-    // Returns the values with which a flight starts. A thread is to be asked for processor `p` if `asked[p]` is
+    // Returns the values with which a flight starts. A thread is asked for processor `p` if and only if `asked[p]` is
     // `true`.
     fn prepare<R: Threads>(self, rt: &R, asked: [bool; 8]) -> (Resources, KernelCrew<'a>, Roster)
         ensures table { result.0.words.table ≡ self.entry.words.table }
@@ -231,8 +231,8 @@ fn land_all<'a>(
 // The smallest measured number of spins (docs/PERFORMANCE.md) at which no thread parks if each thread has a processor.
 const SPINS: u32 = 10_000;
 
-// Returns the number of spins before a wait parks: `SPINS` if the machine is known to have several processors, or
-// else 0.
+// Returns the number of spins before a wait parks. This is `SPINS` if the machine is known to have several
+// processors. Otherwise it is 0.
 fn spins_of<R: Threads>(rt: &R) -> u32 {
     match thread::available_parallelism(rt) {
         Ok(count) if count.get() > 1 => SPINS,
@@ -240,7 +240,8 @@ fn spins_of<R: Threads>(rt: &R) -> u32 {
     }
 }
 
-// Returns the cells of the processors. Cell `p` holds rack `p` and spare rack `p`.
+// Returns the cells of the processors. Cell `p` contains rack `p` and spare rack `p`, or is empty if either is
+// missing.
 fn cells(alloc: Global, boxes: Boxes) -> [RackCell; 8] {
     let mut racks = boxes.racks.into_iter();
     let mut spares = boxes.spares.into_iter();

@@ -1,4 +1,4 @@
--- For each kind of step, the step keeps the rule and has the effect that its contract states.
+-- Each kind of step keeps `Ruled`, the rule of the table, and has the effect that `Plays` defines for it.
 use Rattle.std.proofs.Common.{◌≡◌, ℕ, zero, suc, ◌+◌, ◌-◌, ◌*◌, ◌%◌, ◌<◌, ◌≤◌, Bool, true, false, refl, sym, ap, subst, ◌∙◌, arith, List, [], ◌∷◌}
 use Rattle.std.specs.Prelude.{Option, Some, None, IfSome, nat_eq, nat_lt, slice_index, slice_set}
 use Rattle.std.specs.Bool.{MatchBool}
@@ -68,8 +68,8 @@ module _ (mission : MissionParts) (slots id : ℕ) (me : Sat) (y : IsSound (miss
       bank_stands : stored_in s.words (MarkWord p) % 2 ≡ side m p f
       bank_stands = side_of m p f (stored_in s.words (MarkWord p)) mark_stands
 
-    -- A store of a bank word keeps the rule if it is the next step of the processor. A load that may confirm the
-    -- store keeps the rule too.
+    -- A store of a bank word keeps the rule if it is the next step of the processor. Under the same condition, a load
+    -- that may confirm the store keeps the rule.
     pub store_allows : (x i v : ℕ) → plan m p f (suc n) ≡ Some (Store (proc_id p) x) → suc n ≤ m.procs + 1 + m.width → i ≡ index_of (BankWord p (1 - side m p f) x) → v ≡ word_in (m.draft p f) x
         → Allows (Ruled m mission) slots id me i (λ z. v) (λ z. stores (step slots i v 0 none) me v)
     store_allows x i v next low place value = λ s r homes here small.
@@ -106,7 +106,8 @@ module _ (mission : MissionParts) (slots id : ℕ) (me : Sat) (y : IsSound (miss
           (refl, empty),
         )
 
-    -- A store of the end word keeps the rule, whether the processor ends its frame or halts in it.
+    -- A store of the end word keeps the rule if it is the next step of the processor. The processor ends its frame or
+    -- halts in it.
     pub done_allows : (i v : ℕ) → plan m p f (suc n) ≡ Some (Done (proc_id p)) → i ≡ index_of (EndWord p) → v ≡ 2 * suc f
         → Allows (Ruled m mission) slots id me i (λ z. v) (λ z. finishes_frame (step slots i v 0 none) me v)
     done_allows i v next place value = λ s r homes here small.
@@ -171,7 +172,7 @@ module _ (mission : MissionParts) (slots id : ℕ) (me : Sat) (y : IsSound (miss
   start_allows p (At f (suc n)) l alone planned waits = absurd (let none = waits.0 in omega (arith, none))
   start_allows p (Halted h) l alone planned waits = back_allows p h (m.restart p) l alone planned refl waits
 
-  -- A load of an end word by the kernel is a note or a try.
+  -- A load by the kernel of the end word of the processor that it notes next is a note or a try.
   module _ (k p : ℕ) (l : p < m.procs) (flown : k < m.frames) (alone : me.0.actors ≡ Kernel k p ∷ []) (planned : me.0.mission ≡ Some mission) where
     note_told : (i : ℕ) → i ≡ index_of (EndWord p) → (w : View) (n : ℕ) (b : Bool) → may_note m p k n ≡ b → MatchBool b (Has (w, me.1) (each_actor one_more me.0)) (Has (w, me.1) (tried me.0))
         → IfSome me.0.mission (λ mission. IsAfterNote (mission_flight mission) i n me.0 (w, me.1))
@@ -197,7 +198,7 @@ module _ (mission : MissionParts) (slots id : ℕ) (me : Sat) (y : IsSound (miss
     pub note_allows : (i : ℕ) → i ≡ index_of (EndWord p) → Allows (Ruled m mission) slots id me i (λ n. n) (notes (step slots i 0 0 none) me)
     note_allows i place = λ s r homes here small. note_by i s r place here (may_note m p k (slice_index s.words i)) refl
 
-  -- The kernel's stores keep the rule.
+  -- A store by the kernel keeps the rule if it is the kernel's next step.
   pub publish_allows : (k j x i v : ℕ) → x < 20 → suc k < m.frames → j ≡ m.procs + x → me.0.actors ≡ Kernel k j ∷ [] → i ≡ index_of (KernelWord x) → v ≡ word_in (m.kernel_image (suc k)) x
       → Allows (Ruled m mission) slots id me i (λ z. v) (λ z. stores (step slots i v 0 none) me v)
   publish_allows k j x i v low flown steps alone place value = λ s r homes here small.

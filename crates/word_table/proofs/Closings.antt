@@ -1,4 +1,4 @@
--- Lemmas on the last words, which are read one processor after another.
+-- Lemmas on the marks and images that are read off a closed table, one processor after another.
 use Rattle.std.proofs.Common.{◌≡◌, ◌∙◌, ℕ, zero, suc, ℤ, pos, ◌+◌, ◌<◌, ◌≤◌, refl, sym, ap, arith, List, [], ◌∷◌, ◌++◌, length}
 use Rattle.std.specs.Prelude.{Some, replicate, slice_get, slice_index, slice_index_or, slice_set}
 use Rattle.std.proofs.lemmas.Grind.{get_or-set_at}
@@ -58,7 +58,8 @@ unused_stay_zero p marks images mark image before q least most =
       get_or-set_other images p q image [] other ∙ was.1,
     )
 
--- A seat that an iterator yields is one of its seats.
+-- The item that an iterator yields next is the item of the whole list at the index that equals the number of items
+-- yielded before.
 at_front : (l rest : List Seat) (x : Seat) → slice_get (l ++ x ∷ rest) (length l) ≡ Some x
 at_front [] rest x = refl
 at_front (y ∷ l) rest x = at_front l rest x

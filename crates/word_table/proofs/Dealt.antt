@@ -43,7 +43,8 @@ pub long_one : (l : List Seat) (x : Seat) → length (l ++ x ∷ []) ≡ length 
 long_one [] x = refl
 long_one (y ∷ l) x = let more = long_one l x in omega (arith, more)
 
--- A seat that a split makes is a seat of the table.
+-- A seat with the table's id and mission, at the opening place of one of the mission's processors, is a seat of the
+-- table.
 pub dealt_is : (words : WordTable) (seat : Seat) → IsFlown (mission_in words) → seat.inner.table_id ≡ words.table.shared.table_id → seat.inner.me.0.mission ≡ Some (mission_in words) → proc_of seat < length (mission_in words).spec.procs → seat_place seat ≡ At 0 0
     → IsSeatOf words seat
 dealt_is words seat holds table mission low place =

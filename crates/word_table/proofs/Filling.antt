@@ -10,7 +10,8 @@ use Rattle.word_table.specs.declared.actors.Actor.{Actor}
 use Rattle.word_table.specs.Plays.{IsFound}
 use Rattle.word_table.specs.Reading.{AreCleared, AreRead, IsWordRead}
 
--- The words of an image from index `from` up to `n` were found from place `at` on.
+-- For each `i` from `from` up to but not including `n`, word `i` of an image is decoded from a word found at place
+-- `at + i`.
 pub record AreReadBelow (m : Flight) (actors : List Actor) (at from n : ℕ) (image : List ℤ) : Type 0 where
   pub long : length image ≡ 64
   pub read : (i : ℕ) → from ≤ i → i < n → IsWordRead m actors (at + i) (slice_index_or image i (pos 0))
@@ -55,8 +56,8 @@ all_read m actors at from to image cleared each rest = record {
   by_length i over (yes d) = get_or_past cleared i (pos 0) (omega (arith, d, each.long, rest.long))
   by_length i over (no d) = rest.past i over (omega (arith, d))
 
--- If the first `to` kernel words were found at their places and the next one is read, the first `to + 1` words were
--- found.
+-- If the first `to` kernel words were found at their places and the next word is found too, the first `to + 1` words
+-- were found.
 pub more_found : (m : Flight) (actors : List Actor) (to : ℕ) (words : List ℕ) (w : ℕ) → length words ≡ 20 → ((i : ℕ) → i < to → IsFound m actors (8 + i) (slice_index words i)) → to < 20 → IsFound m actors (8 + to) w
     → (i : ℕ) → i < to + 1 → IsFound m actors (8 + i) (slice_index (slice_set words to w) i)
 more_found m actors to words w long before low found i most = by_place (ℕ_discrete i to)

@@ -1,4 +1,4 @@
--- The words that are found have the values of the mission.
+-- The marks, images and kernel words that loads find are those of the mission's one-thread trace.
 use Rattle.std.proofs.Common.{◌≡◌, ℕ, suc, ℤ, pos, ◌+◌, ◌*◌, ◌%◌, ◌<◌, ◌≤◌, Bool, true, false, refl, sym, ap, subst, ◌∙◌, arith, List, [], ◌∷◌, length}
 use Rattle.std.specs.Prelude.{Option, Some, None, nat_eq, slice_index, slice_index_or, slice_set}
 use Rattle.std.proofs.lemmas.Bool.Decides.{nat_tests}
@@ -29,7 +29,8 @@ use Rattle.word_table.specs.Plays.{IsFound}
 use Rattle.word_table.specs.Reading.{AreRead, IsWordRead}
 use Rattle.word_table.specs.Tables.{has_halted_by}
 
--- The end word of a processor that the kernel has noted shows whether the processor has halted.
+-- The end word of a processor that the kernel may note is odd if and only if the processor is not up in the frame or
+-- halts in it.
 
 not_back : (o : Option ℕ) (h k : ℕ) → ((r : ℕ) → o ≡ Some r → h < r → k < r) → back_by o h k ≡ false
 not_back None h k late = refl
@@ -123,7 +124,7 @@ module _ (mission : MissionParts) (fits : Fits mission.spec mission.script) wher
         ∙ ap (λ (image : List ℕ). word_in image x) (images_same mission.spec mission.script fits p (suc found.at.frame))
         ∙ ap (λ g. word_in (image_words_after mission.spec mission.script p (suc g)) x) stand.0
 
-  -- The parity of a mark is the bank that the mark names.
+  -- The parity of a mark is the number of the bank that the mark names.
   pub bank_of_mark : (p f z : ℕ) → z ≡ mark_after mission.spec mission.script p f → z % 2 ≡ image_bank_after mission.spec mission.script p f
   bank_of_mark p f z is =
       let low : image_bank_after mission.spec mission.script p f ≤ 1 = rw (← sides_same mission.spec mission.script fits p f) (side_le m p f) in
@@ -133,7 +134,8 @@ module _ (mission : MissionParts) (fits : Fits mission.spec mission.script) wher
   bank_low q f = rw (← sides_same mission.spec mission.script fits q f) (side_le m q f)
 
   module _ (facts : IsSpec mission.spec) where
-    -- If a processor has read an image whose first word is read last, the image is the mission's image.
+    -- If a processor reads an image in frame `f` with the first word last, the image is the one that processor `q`
+    -- has committed after the first `f` frames.
     pub image_looked : (p f n q at z : ℕ) (image : List ℤ) → p < m.procs → 0 < n → q < m.procs → at ≡ index_of (BankWord q (image_bank_after mission.spec mission.script q f) 0)
         → AreRead m (Runs p f n ∷ []) at 1 m.width image → IsFound m (Runs p f n ∷ []) at z → slice_set image 0 (decode z) ≡ image_after mission.spec mission.script q f
     image_looked p f n q at z image l begun lq place read first =
@@ -151,7 +153,8 @@ module _ (mission : MissionParts) (fits : Fits mission.spec mission.script) wher
             get_or-set_other image 0 i (decode z) (pos 0) d ∙ r.value
             ∙ ap decode (bank_found p f n l begun q i (at + i) r.word lq inside (omega (arith, place)) r.found)
 
-    -- An image that the kernel has read is the image that the processor has committed.
+    -- If the kernel reads the image of processor `p` after its note in frame `k`, the image is the one that `p` has
+    -- committed after the first `k + 1` frames.
     pub image_noted : (k p at : ℕ) (image : List ℤ) → p < m.procs → at ≡ index_of (BankWord p (image_bank_after mission.spec mission.script p (suc k)) 0)
         → AreRead m (Kernel k (suc p) ∷ []) at 0 m.width image → image ≡ image_after mission.spec mission.script p (suc k)
     image_noted k p at image l place read =
@@ -160,7 +163,7 @@ module _ (mission : MissionParts) (fits : Fits mission.spec mission.script) wher
         r.value ∙ ap decode (noted_bank k p l i (at + i) r.word inside (omega (arith, place)) r.found))
         (λ i low past. read.past i past)
 
-  -- Twenty kernel words that a processor has read are those of the mission.
+  -- The twenty kernel words that a processor finds in frame `f` are those of the kernel image of frame `f`.
   pub words_read : (p f n : ℕ) (words : List ℕ) → p < m.procs → 0 < n → length words ≡ 20 → ((i : ℕ) → i < 20 → IsFound m (Runs p f n ∷ []) (8 + i) (slice_index words i))
       → words ≡ kernel_words mission.spec mission.script f
   words_read p f n words l begun long read =

@@ -1,4 +1,4 @@
--- The words and the first view of a table that is opened satisfy the rule.
+-- The words and the first view of a table that is opened satisfy the rule of the table.
 use Rattle.std.proofs.Common.{◌≡◌, ◌∙◌, ℕ, ℤ, ap, arith, List, [], length}
 use Rattle.std.specs.Prelude.{Option}
 use Rattle.scram_types.specs.declared.ids.ProcId.{ProcId}

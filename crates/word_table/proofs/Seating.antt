@@ -1,4 +1,4 @@
--- A step of a seat keeps the rule on words and views.
+-- A step of a seat keeps `Ruled`, the rule on the words and views of a table.
 use Rattle.std.proofs.Common.{◌≡◌, ◌≢◌, ◌⊎◌, ℕ, zero, suc, ◌<◌, ◌≤◌, false, refl, sym, ap, subst, ◌∙◌, inl, inr, arith, List, [], ◌∷◌, map, length}
 use Rattle.std.specs.Prelude.{Option, Some, None, IfSome, nat_eq, slice_index, slice_set}
 use Rattle.std.proofs.lemmas.Grind.{common_steps}
@@ -89,7 +89,7 @@ view_same views i j v w same there here = some-injective v w (sym there ∙ ap (
 pub set_there : (views : List View) (id : ℕ) (v w : View) → get_elem? views id ≡ some v → get_elem? (slice_set views id w) id ≡ some w
 set_there views id v w here = set_here views id w (within views id v here)
 
--- If a view is replaced by one with the same actors, each actor keeps its view.
+-- If a view is replaced by one that has at least its actors, each actor is still in the view in which it was.
 pub view_after : (views : List View) (id : ℕ) (v w : View) → get_elem? views id ≡ some v → ((o : Option ℕ) → IsAmong o v.actors → IsAmong o w.actors) → (o : Option ℕ) (j : ℕ) → IsViewOf views o j → IsViewOf (slice_set views id w) o j
 view_after views id v w here stays o j is = by_place (ℕ_discrete j id)
   where
@@ -112,7 +112,7 @@ pub alone_moved : (v : View) (a : Actor) (go : Actor → Actor) → v.actors ≡
 alone_moved v a go alone = ap (λ (l : List Actor). with_actors v (map go l)) (sym alone)
 
 module _ (m : Flight) (mission : MissionParts) (s : State (Unit {0}) View) (id : ℕ) (v : View) (y : IsSound m) (r : Ruled m mission s) (here : get_elem? s.views id ≡ some v) where
-  -- An event of processor `p` that its seat makes keeps the rule.
+  -- An event of processor `p`, made by the seat of `p`, keeps the rule.
   module _ (p : ℕ) (x : Place) (alone : v.actors ≡ actor_at p x ∷ []) where
     hosted : Hosts r.at r.home id (actor_at p x ∷ [])
     hosted = rw alone at (r.each id v here)
@@ -155,7 +155,7 @@ module _ (m : Flight) (mission : MissionParts) (s : State (Unit {0}) View) (id :
       stepped_by go is =
           subst (λ (w : View). Ruled m mission (stepped s i n id [] w keeps)) (ap (with_actor v) (sym is) ∙ alone_moved v (actor_at p x) go alone) ruled_after
 
-  -- An event of the kernel that its seat makes keeps the rule.
+  -- An event of the kernel, made by the kernel's seat, keeps the rule.
   module _ (k j : ℕ) (alone : v.actors ≡ Kernel k j ∷ []) where
     kernel_hosted : Hosts r.at r.home id (Kernel k j ∷ [])
     kernel_hosted = rw alone at (r.each id v here)

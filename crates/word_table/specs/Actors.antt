@@ -25,7 +25,7 @@ StandsAt at (Runs p f n) = at.proc p ≡ At f n
 StandsAt at (Stopped p h) = at.proc p ≡ Halted h
 StandsAt at (Kernel k j) = (at.frame ≡ k) × (at.step ≡ j)
 
--- Processor `p` at a place, as an actor.
+-- The actor for processor `p` at a place.
 abbrev pub actor_at : ℕ → Place → Actor
 actor_at p (At f n) = Runs p f n
 actor_at p (Halted h) = Stopped p h

@@ -4,7 +4,7 @@ use Rattle.bank_words.specs.Numbers.{decode}
 use Rattle.fail_stop.specs.Events.{BankWord, MarkWord}
 use Rattle.fail_stop.specs.Listed.{index_of, stored_in}
 
--- The first `width` words of an image are stored from place `at` on, and its other words are zero.
+-- An image has 64 words. The first `width` of them are stored from place `at` on, and the others are zero.
 pub record IsStoredImage (list : List ℕ) (width at : ℕ) (image : List ℤ) : Type 0 where
   pub long : length image ≡ 64
   pub words : (i : ℕ) → i < width → slice_index_or image i (pos 0) ≡ decode (slice_index list (at + i))

@@ -8,12 +8,13 @@ use Rattle.fail_stop.specs.Listed.{word_index_count}
 use Rattle.fault_script.specs.Fits.{Fits}
 use Rattle.fault_script.specs.Times.{restart_of, words}
 
--- The specification of a mission keeps its invariant, and the script fits the specification.
+-- The specification of a mission satisfies `IsSpec`, and the mission's script fits the specification.
 pub record IsFlown (mission : MissionParts) : Type 0 where
   pub facts : IsSpec mission.spec
   pub fits : Fits mission.spec mission.script
 
--- The table has a place for each word and no slots, and its numbers are those of the mission.
+-- The table has a place for each word and no slots. The values of `frames`, `procs`, `width` and `restarts` are those
+-- of the mission.
 pub record TableKeeps (mission : MissionParts) (table : TableId) (frames procs width : ℕ) (restarts : List (Option ℕ)) : Type 0 where
   pub places : table.words ≡ word_index_count
   pub slots : table.slots ≡ 0

@@ -12,7 +12,7 @@ use Rattle.word_table.specs.declared.actors.Actor.TheVariants.{Runs, Stopped, Ke
 use Rattle.word_table.specs.declared.actors.View.{View}
 use Rattle.word_table.specs.Actors.{StandsAt, Waits, awaited, begun, halted_actor, mission_flight, next_frame, one_more, tried, with_actors}
 
--- A seat in the table, which has a view and no slots.
+-- A seat in the table. A seat has a view and no slots.
 abbrev pub Sat : Type 0
 Sat = Me (Unit {0}) View
 
@@ -29,7 +29,7 @@ abbrev pub AllStand : Places → List Actor → Type 0
 AllStand at [] = Unit {0}
 AllStand at (a ∷ rest) = StandsAt at a × AllStand at rest
 
--- In some state that the law of events allows, these actors are at their places and `n` is the word at place `i`.
+-- In some state that satisfies `Kept`, these actors are at their places and `n` is the word at place `i`.
 pub record IsFound (m : Flight) (actors : List Actor) (i n : ℕ) : Type 0 where
   pub at : Places
   pub list : List ℕ
@@ -59,8 +59,8 @@ AwaitsEnd m i (Runs p f n ∷ rest) = ⊥
 AwaitsEnd m i (Stopped p h ∷ rest) = ⊥
 AwaitsEnd m i (Kernel k j ∷ rest) = (k < m.frames) × (j < m.procs) × (i ≡ index_of (EndWord j))
 
--- Whether the release word `release` shows the frame that the first actor awaits. The value is `false` if there is no
--- actor.
+-- Whether the first actor may start the frame for which it waits, if the release word is `release`. The value is
+-- `false` if there is no actor.
 abbrev pub may_start : Flight → List Actor → ℕ → Bool
 may_start m [] release = false
 may_start m (a ∷ rest) release = nat_lt (awaited m a) release
@@ -77,23 +77,24 @@ can_note m (Kernel k j ∷ rest) end = may_note m j k end
 abbrev pub GoesOrTries : Bool → (Actor → Actor) → View → Sat → Type 0
 GoesOrTries ready go v after = MatchBool ready (Has after (each_actor go v)) (Has after (tried v))
 
--- If `waits` holds, `go` is applied to each actor if `ready` is `true`, and the view counts another try if it is
--- `false`. If `waits` does not hold, the seat still has the view `v`.
+-- If `waits` holds, the seat changes as `GoesOrTries` states. Otherwise the seat still has the view `v`.
 abbrev pub MovesIfWaiting : Type 0 → Bool → (Actor → Actor) → View → Sat → Type 0
 MovesIfWaiting waits ready go v after = (waits → GoesOrTries ready go v after) × (¬ waits → Has after v)
 
 -- `after` is a seat with view `v` after a load at place `i` that found `n`. If the first actor waits for this word
--- and may start, each actor has started its frame. If it waits and may not start, the view counts another try.
+-- and may start, each actor has started its frame. If the first actor waits and may not start, the view counts
+-- another try.
 abbrev pub IsAfterStart : Flight → ℕ → ℕ → View → Sat → Type 0
 IsAfterStart m i n v after = MovesIfWaiting (AwaitsRelease m i v.actors) (may_start m v.actors n) (begun m) v after
 
 -- `after` is a seat with view `v` after a load at place `i` that found `n`. If the first actor is the kernel, waits
--- for this word and may note the processor, it has made a step. If it waits and may not, the view counts another try.
+-- for this word and may note the processor, the kernel has made a step. If the kernel waits and may not note, the
+-- view counts another try.
 abbrev pub IsAfterNote : Flight → ℕ → ℕ → View → Sat → Type 0
 IsAfterNote m i n v after = MovesIfWaiting (AwaitsEnd m i v.actors) (can_note m v.actors n) one_more v after
 
--- The word that the first actor stores next, if its next step is a store into a bank or of one of the kernel's words.
--- The value is 0 if there is no actor or the first is a halted processor.
+-- The word that the first actor stores next. Its next step must be a store into a bank or a store of one of the
+-- kernel's words. The value is 0 if there is no actor or the first actor is a halted processor.
 abbrev pub word_due : Flight → List Actor → ℕ
 word_due m [] = 0
 word_due m (Runs p f n ∷ rest) = word_in (m.draft p f) (n - (m.procs + 1))

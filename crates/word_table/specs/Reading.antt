@@ -19,13 +19,15 @@ pub record IsWordRead (m : Flight) (actors : List Actor) (i : ℕ) (x : ℤ) : T
   pub found : IsFound m actors i word
   pub value : x ≡ decode word
 
--- The words of an image from word `from` up to word `to` were found from place `at` on, and the later ones are zero.
+-- For each `i` from `from` up to but not including `to`, word `i` of an image is decoded from a word found at place
+-- `at + i`. The later words of the image are zero.
 pub record AreRead (m : Flight) (actors : List Actor) (at from to : ℕ) (image : List ℤ) : Type 0 where
   pub long : length image ≡ 64
   pub read : (i : ℕ) → from ≤ i → i < to → IsWordRead m actors (at + i) (slice_index_or image i (pos 0))
   pub past : (i : ℕ) → to ≤ i → slice_index_or image i (pos 0) ≡ pos 0
 
--- The numbers of an image from `from` up to `to` have become zero, and those below `from` are as before.
+-- The words of an image from index `from` up to but not including `to` have become zero. Those below `from` are as
+-- before.
 pub record AreCleared (from to : ℕ) (before after : List ℤ) : Type 0 where
   pub long : length after ≡ length before
   pub kept : (i : ℕ) → i < from → slice_index_or after i (pos 0) ≡ slice_index_or before i (pos 0)

@@ -18,7 +18,7 @@ abbrev pub Hosts : Places → (Option ℕ → ℕ) → ℕ → List Actor → Ty
 Hosts at home j [] = Unit {0}
 Hosts at home j (a ∷ rest) = (home (who a) ≡ j) × StandsAt at a × Hosts at home j rest
 
--- Actor `o` is not in a list.
+-- No actor of a list is actor `o`, which is the number of a processor or `None` for the kernel.
 abbrev pub IsNotIn : Option ℕ → List Actor → Type 0
 IsNotIn o [] = Unit {0}
 IsNotIn o (a ∷ rest) = (who a ≢ o) × IsNotIn o rest
@@ -28,7 +28,7 @@ abbrev pub AreApart : List Actor → Type 0
 AreApart [] = Unit {0}
 AreApart (a ∷ rest) = IsNotIn (who a) rest × AreApart rest
 
--- Actor `o` is in a list.
+-- Some actor of a list is actor `o`, which is the number of a processor or `None` for the kernel.
 abbrev pub IsAmong : Option ℕ → List Actor → Type 0
 IsAmong o [] = ⊥
 IsAmong o (a ∷ rest) = (who a ≡ o) ⊎ IsAmong o rest
@@ -44,8 +44,8 @@ pub record IsViewOf (views : List View) (o : Option ℕ) (j : ℕ) : Type 0 wher
   pub there : get_elem? views j ≡ some view
   pub among : IsAmong o view.actors
 
--- The rule for a flight and its mission. The law of events holds for words and places. Each actor of the flight is at
--- its place and in exactly one view, its home. Each view with an actor knows the mission.
+-- The rule for a flight and its mission. The law of events holds for the words and for the places of the actors. Each
+-- actor of the flight is at its place and in exactly one view, its home. Each view with an actor knows the mission.
 pub record Ruled (m : Flight) (mission : MissionParts) (s : State (Unit {0}) View) : Type 0 where
   pub at : Places
   pub home : Option ℕ → ℕ

@@ -123,12 +123,14 @@ committed_mark words p n = mark_after (mission_in words).spec (mission_in words)
 abbrev pub committed_image : WordTable → ℕ → ℕ → List ℤ
 committed_image words p n = image_after (mission_in words).spec (mission_in words).script p n
 
--- For each seat, the mark at its index in the list is the one that the seat's processor has committed at its place.
+-- For each seat of a list, the mark at the seat's index is the mark that the seat's processor has committed at its
+-- place.
 abbrev pub AreMarksOf : WordTable → List Seat → List ℕ → Type 0
 AreMarksOf words seats marks = (p : ℕ) (seat : Seat) → slice_get seats p ≡ Some seat
     → slice_index marks p ≡ committed_mark words p (frames_marked (mission_in words) (seat_place seat))
 
--- For each seat, the image at its index in the list is the one that the seat's processor has committed at its place.
+-- For each seat of a list, the image at the seat's index is the image that the seat's processor has committed at its
+-- place.
 abbrev pub AreImagesOf : WordTable → List Seat → List (List ℤ) → Type 0
 AreImagesOf words seats images = (p : ℕ) (seat : Seat) → slice_get seats p ≡ Some seat
     → slice_index_or images p [] ≡ committed_image words p (frames_marked (mission_in words) (seat_place seat))

@@ -1,4 +1,5 @@
-//! The views of seats at the table, the rule that every step keeps, and the steps. No value of these types is made.
+//! The views of seats at the table, the rule that every step keeps, and the steps. No value of these types is
+//! created.
 
 use atomic_table::{Join, Play, Split, TableRule};
 use coverage_check::Mission;
@@ -21,8 +22,8 @@ pub struct View {
     pub actors: [Actor; 0],
 }
 
-/// The rule of the table. The law of events holds for words and places, and each actor is at its place and in exactly
-/// one view.
+/// The rule of the table. The law of events holds for the words and for the places of the actors. Each actor is at
+/// its place and in exactly one view.
 pub struct WordRule;
 
 impl TableRule<(), View, Mission> for WordRule {

@@ -26,8 +26,9 @@ pub struct LastWords {
 }
 
 impl WordTable {
-    /// Closes the table and takes back all its seats. Returns for each processor the mark and the image that it has
-    /// committed at its place. The entries after the last processor are zero. This method does not block.
+    /// Closes the table and takes back all its seats. Returns for each processor the mark and the image that the
+    /// processor has committed at its place. The entries after the last processor are zero. This method does not
+    /// block.
     pub fn close(self, kseat: KSeat, seats: Vec<Seat>) -> LastWords
         requires kernel { IsKernelSeatOf self kseat }
         requires seats { AreSeatsOf self seats.items }
@@ -99,7 +100,7 @@ fn last_words(closed: &Closed<(), Global>, procs: usize, width: usize) -> LastWo
     LastWords { images, marks }
 }
 
-// Returns the image whose words are stored from place `at` on.
+// Returns the image whose first `width` words are stored from place `at` on. The other words of the image are zero.
 fn stored_image(closed: &Closed<(), Global>, at: usize, width: usize) -> Image
     requires full { IsFull closed.now.words }
     requires places { slots_len closed.now.words ≡ word_index_count }

@@ -62,7 +62,7 @@ impl WordTable {
         may_note(self.restarts[usize::from(p.0)], frame, end)
     }
 
-    /// Stores word `i` of the kernel image of the next frame. It does not block.
+    /// Stores word `i` of the kernel image of the next frame. This method does not block.
     pub fn publish(&self, kseat: &mut KSeat, i: u32, word: u64)
         requires seat { IsKernelSeatOf self.now kseat.old }
         requires i { i < 20 }
@@ -75,7 +75,7 @@ impl WordTable {
         ensures tries { kernel_tries kseat.new ≡ kernel_tries kseat.old }
     {
         let at = kernel_index(i as usize);
-        // If the word already has that value, a load makes the step, as in `store`.
+        // If the word already has that value, a load is the step, as in `store`.
         if self.table.shared.load::<Confirms>(&mut kseat.inner, at) != word {
             self.table
                 .shared
@@ -84,7 +84,7 @@ impl WordTable {
         kseat.step += 1;
     }
 
-    /// Releases the next frame, and wakes the processors that sleep on the release. It does not block.
+    /// Releases the next frame, and wakes the processors that sleep on the release. This method does not block.
     pub fn release(&self, kseat: &mut KSeat)
         requires seat { IsKernelSeatOf self.now kseat.old }
         requires next { kernel_steps kseat.old ≡ length (mission_in self.now).spec.procs + 20 }

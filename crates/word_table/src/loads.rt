@@ -29,8 +29,8 @@ impl WordTable {
         self.table.shared.load::<Reads>(seat, i)
     }
 
-    /// Fills an image with the words from index `from` on. Word `i` is loaded from place `at + i`, and the entries
-    /// past the last word become zero.
+    /// Loads the words of an image from index `from` on. Word `i` is loaded from place `at + i`. The entries of the
+    /// image after the mission's last word become zero.
     pub(crate) fn read_image(
         &self,
         seat: &mut Seat<(), View>,
@@ -55,7 +55,7 @@ impl WordTable {
         clear_from(image, width);
     }
 
-    /// Returns the bank of processor `q` that holds its image as of the start of `frame`.
+    /// Returns the number of the bank that holds the image of processor `q` as of the start of `frame`.
     pub(crate) fn bank_picked(&self, seat: &mut Seat<(), View>, frame: u32, q: ProcId) -> usize
         requires table { seat.old.table_id ≡ self.now.table.shared.table_id }
         requires holds { IsFlown (mission_in self.now) }
@@ -72,7 +72,7 @@ impl WordTable {
         usize::from(pick(mark, frame))
     }
 
-    /// Returns the kernel's words.
+    /// Loads and returns the twenty words of the kernel.
     pub(crate) fn read_kernel(&self, seat: &mut Seat<(), View>) -> [u64; 20]
         requires table { seat.old.table_id ≡ self.now.table.shared.table_id }
         requires holds { IsFlown (mission_in self.now) }
@@ -91,7 +91,7 @@ impl WordTable {
     }
 }
 
-// Sets the numbers of an image from index `from` on to zero. The separate loop compiles to one call of `memset`.
+// Sets the words of an image from index `from` on to zero. The separate loop compiles to one call of `memset`.
 fn clear_from(image: &mut Image, from: usize)
     ensures { AreCleared from 64 image.old image.new }
 {

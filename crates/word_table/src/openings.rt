@@ -76,8 +76,8 @@ impl WordTable {
         Ok((words, seat))
     }
 
-    // Splits off a seat for each processor, in order, from the first seat, which remains with the kernel as its only
-    // actor. The only error is that memory runs out.
+    // Splits a seat for each processor off the first seat, in order. The kernel is then the only actor of the first
+    // seat. The only error is that memory runs out.
     fn deal(
         &self,
         rest: &mut atomic_table::Seat<(), View>,

@@ -1,10 +1,11 @@
-//! Waits for a word that another actor stores. A wait spins, and then parks. It may end before the word has changed,
-//! and nothing is promised after it.
+//! Waits for a word that another actor stores. A wait spins, and then parks. A wait may end before the word has
+//! changed, and has no postcondition.
 //!
-//! A wake is a system call. Therefore a writer wakes threads only if one sleeps. A sleeper raises the count before it
-//! loads its word for the last time, and the writer of the word loads the count after the store. All these steps are
-//! sequentially consistent. Therefore the sleeper's last load finds the stored word, or the writer finds the count
-//! raised and wakes the sleeper. A sleeper parks only while the word has the value that the sleeper loaded.
+//! A wake is a system call. Therefore a writer wakes threads only if one sleeps. A sleeper raises its count in
+//! `Sleepers` before it loads its word for the last time. The writer of the word loads the count after the store. All
+//! these steps are sequentially consistent. Therefore the sleeper's last load finds the stored word, or the writer
+//! finds the count raised and wakes the sleeper. A sleeper parks only while the word has the value that the sleeper
+//! loaded.
 
 ghost use Rattle.std.specs.Prelude.{◌≡◌, ◌<◌};
 ghost use Rattle.fail_stop.specs.Listed.{word_index_count};
@@ -36,7 +37,7 @@ impl Sleepers {
 }
 
 impl WordTable {
-    /// Wakes the kernel if it sleeps on the word at place `at`. The caller has stored the word.
+    /// Wakes the kernel if the kernel sleeps on the word at place `at`. The caller has stored the word.
     pub(crate) fn wake_kernel(&self, at: usize)
         requires { at < word_index_count }
     {
@@ -52,7 +53,7 @@ impl WordTable {
         }
     }
 
-    /// Spins and then parks until the release shows the frame for which the seat waits. May return earlier, without a
+    /// Spins and then parks until the frame for which the seat waits is released. May return earlier, without a
     /// cause.
     pub fn rest<R: Wait>(&self, rt: &R, seat: &Seat)
         requires { IsSeatOf self.now seat.now }
@@ -73,7 +74,8 @@ impl WordTable {
         self.sleepers.processors.fetch_sub(1, Ordering::SeqCst);
     }
 
-    /// Spins and then parks until the kernel may note its next processor. May return earlier, without a cause.
+    /// Spins and then parks until the kernel may note its next processor. Returns at once if the kernel has noted all
+    /// processors. May return earlier, without a cause.
     pub fn rest_kernel<R: Wait>(&self, rt: &R, kseat: &KSeat) {
         if kseat.step >= self.procs {
             return;

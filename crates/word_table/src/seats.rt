@@ -1,4 +1,4 @@
-//! The seats of actors. A seat lets one actor make steps on the words, and keeps the actor's place.
+//! The seats of actors. A seat lets one actor make steps on the words, and records the actor's place.
 
 ghost use Rattle.std.specs.Prelude.{◌≡◌, [], ◌∷◌, true};
 ghost use Rattle.word_table.specs.Actors.{actor_at, place_at};

@@ -17,9 +17,9 @@ use fail_stop::words::{bank_index, end_index, mark_index};
 use scram_types::{Image, ProcId};
 
 impl WordTable {
-    /// Tries to start the frame for which the seat waits, and returns the kernel image of that frame. A processor that
-    /// has halted starts the frame of its restart. The call returns `None` only if the release that it loads does not
-    /// show the frame. It does not block.
+    /// Tries to start the frame for which the seat waits, and returns the kernel image of that frame. A processor
+    /// that has halted starts the frame of its restart. Returns `None` only if the release word that the call loads
+    /// says that the frame is not yet released. This method does not block.
     pub fn started(&self, seat: &mut Seat) -> Option<KernelImage>
         requires seat { IsSeatOf self.now seat.old }
         requires waits { Waits (flight_in self.now) (proc_of seat.old) (seat_place seat.old) }
@@ -55,7 +55,7 @@ impl WordTable {
         }
     }
 
-    /// Fills `image` with the image of processor `q` as of the start of the seat's frame. It does not block.
+    /// Fills `image` with the image of processor `q` as of the start of the seat's frame. This method does not block.
     pub fn look(&self, seat: &mut Seat, q: ProcId, image: &mut Image)
         requires seat { IsSeatOf self.now seat.old }
         requires q { q.0 < length (mission_in self.now).spec.procs }
@@ -73,10 +73,10 @@ impl WordTable {
         seat.step += 1;
     }
 
-    /// Stores `word` as word `i` of the frame's draft, in the bank that the processor's mark does not name. It does not
-    /// block.
-    // If the word has that value already, a load makes the step, since a store would take its line from the readers'
-    // caches.
+    /// Stores `word` as word `i` of the frame's draft, in the bank that the processor's mark does not name. This
+    /// method does not block.
+    // If the word already has that value, a load is the step. A store would remove the word's cache line from the
+    // readers' caches.
     pub fn store(&self, seat: &mut Seat, i: u32, word: u64)
         requires seat { IsSeatOf self.now seat.old }
         requires next { next_step self.now seat.old ≡ Some (Store (proc_id (proc_of seat.old)) i) }
@@ -94,8 +94,8 @@ impl WordTable {
         seat.step += 1;
     }
 
-    /// Commits the seat's frame by storing the mark, which names the frame and the bank of the draft. It does not
-    /// block.
+    /// Commits the seat's frame by storing the mark, which names the frame and the bank of the draft. This method
+    /// does not block.
     pub fn flip(&self, seat: &mut Seat)
         requires seat { IsSeatOf self.now seat.old }
         requires next { next_step self.now seat.old ≡ Some (Flip (proc_id (proc_of seat.old))) }
@@ -111,7 +111,7 @@ impl WordTable {
         seat.step += 1;
     }
 
-    /// Ends the seat's frame, and wakes the kernel if it sleeps on the end word. It does not block.
+    /// Ends the seat's frame, and wakes the kernel if the kernel sleeps on the end word. This method does not block.
     pub fn done(&self, seat: &mut Seat)
         requires seat { IsSeatOf self.now seat.old }
         requires next { next_step self.now seat.old ≡ Some (Done (proc_id (proc_of seat.old))) }
@@ -128,7 +128,8 @@ impl WordTable {
         self.wake_kernel(at);
     }
 
-    /// Halts the seat's processor in its frame, and wakes the kernel if it sleeps on the end word. It does not block.
+    /// Halts the seat's processor in its frame, and wakes the kernel if the kernel sleeps on the end word. This
+    /// method does not block.
     pub fn halt(&self, seat: &mut Seat)
         requires seat { IsSeatOf self.now seat.old }
         requires next { next_step self.now seat.old ≡ Some (Halt (proc_id (proc_of seat.old))) }

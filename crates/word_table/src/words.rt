@@ -55,9 +55,9 @@ impl<'a> Words<'a> {
         self.mission
     }
 
-    /// Tries to start the frame for which the seat waits, and returns the kernel image of that frame. A processor that
-    /// has halted starts the frame of its restart. The call returns `None` only if the release that it loads does not
-    /// show the frame. It does not block.
+    /// Tries to start the frame for which the seat waits, and returns the kernel image of that frame. A processor
+    /// that has halted starts the frame of its restart. Returns `None` only if the release word that the call loads
+    /// says that the frame is not yet released. This method does not block.
     pub fn started(&self, seat: &mut Seat) -> Option<KernelImage>
         requires seat { IsSeatOf self.now.table seat.old }
         requires waits { Waits (flight_in self.now.table) (proc_of seat.old) (seat_place seat.old) }
@@ -70,7 +70,7 @@ impl<'a> Words<'a> {
         self.table.started(seat)
     }
 
-    /// Fills `image` with the image of processor `q` as of the start of the seat's frame. It does not block.
+    /// Fills `image` with the image of processor `q` as of the start of the seat's frame. This method does not block.
     pub fn look(&self, seat: &mut Seat, q: ProcId, image: &mut Image)
         requires seat { IsSeatOf self.now.table seat.old }
         requires q { q.0 < length (mission_in self.now.table).spec.procs }
@@ -84,8 +84,8 @@ impl<'a> Words<'a> {
         self.table.look(seat, q, image);
     }
 
-    /// Stores `word` as word `i` of the frame's draft, in the bank that the processor's mark does not name. It does not
-    /// block.
+    /// Stores `word` as word `i` of the frame's draft, in the bank that the processor's mark does not name. This
+    /// method does not block.
     pub fn store(&self, seat: &mut Seat, i: u32, word: u64)
         requires seat { IsSeatOf self.now.table seat.old }
         requires next { next_step self.now.table seat.old ≡ Some (Store (proc_id (proc_of seat.old)) i) }
@@ -98,8 +98,8 @@ impl<'a> Words<'a> {
         self.table.store(seat, i, word);
     }
 
-    /// Commits the seat's frame by storing the mark, which names the frame and the bank of the draft. It does not
-    /// block.
+    /// Commits the seat's frame by storing the mark, which names the frame and the bank of the draft. This method
+    /// does not block.
     pub fn flip(&self, seat: &mut Seat)
         requires seat { IsSeatOf self.now.table seat.old }
         requires next { next_step self.now.table seat.old ≡ Some (Flip (proc_id (proc_of seat.old))) }
@@ -111,7 +111,7 @@ impl<'a> Words<'a> {
         self.table.flip(seat);
     }
 
-    /// Ends the seat's frame, and wakes the kernel if it sleeps on the end word. It does not block.
+    /// Ends the seat's frame, and wakes the kernel if the kernel sleeps on the end word. This method does not block.
     pub fn done(&self, seat: &mut Seat)
         requires seat { IsSeatOf self.now.table seat.old }
         requires next { next_step self.now.table seat.old ≡ Some (Done (proc_id (proc_of seat.old))) }
@@ -123,7 +123,8 @@ impl<'a> Words<'a> {
         self.table.done(seat);
     }
 
-    /// Halts the seat's processor in its frame, and wakes the kernel if it sleeps on the end word. It does not block.
+    /// Halts the seat's processor in its frame, and wakes the kernel if the kernel sleeps on the end word. This
+    /// method does not block.
     pub fn halt(&self, seat: &mut Seat)
         requires seat { IsSeatOf self.now.table seat.old }
         requires next { next_step self.now.table seat.old ≡ Some (Halt (proc_id (proc_of seat.old))) }
@@ -155,7 +156,7 @@ impl<'a> Words<'a> {
         self.table.gone(kseat, p, image)
     }
 
-    /// Stores word `i` of the kernel image of the next frame. It does not block.
+    /// Stores word `i` of the kernel image of the next frame. This method does not block.
     pub fn publish(&self, kseat: &mut KSeat, i: u32, word: u64)
         requires seat { IsKernelSeatOf self.now.table kseat.old }
         requires i { i < 20 }
@@ -170,7 +171,7 @@ impl<'a> Words<'a> {
         self.table.publish(kseat, i, word);
     }
 
-    /// Releases the next frame, and wakes the processors that sleep on the release. It does not block.
+    /// Releases the next frame, and wakes the processors that sleep on the release. This method does not block.
     pub fn release(&self, kseat: &mut KSeat)
         requires seat { IsKernelSeatOf self.now.table kseat.old }
         requires next { kernel_steps kseat.old ≡ length (mission_in self.now.table).spec.procs + 20 }
@@ -183,7 +184,7 @@ impl<'a> Words<'a> {
         self.table.release(kseat);
     }
 
-    /// Spins and then parks until the release shows the frame for which the seat waits. May return earlier, without a
+    /// Spins and then parks until the frame for which the seat waits is released. May return earlier, without a
     /// cause.
     pub fn rest<R: Wait>(&self, rt: &R, seat: &Seat)
         requires { IsSeatOf self.now.table seat.now }
@@ -191,13 +192,15 @@ impl<'a> Words<'a> {
         self.table.rest(rt, seat);
     }
 
-    /// Spins and then parks until the kernel may note its next processor. May return earlier, without a cause.
+    /// Spins and then parks until the kernel may note its next processor. Returns at once if the kernel has noted all
+    /// processors. May return earlier, without a cause.
     pub fn rest_kernel<R: Wait>(&self, rt: &R, kseat: &KSeat) {
         self.table.rest_kernel(rt, kseat);
     }
 
-    /// Closes the table and takes back all its seats. Returns for each processor the mark and the image that it has
-    /// committed at its place. The entries after the last processor are zero. This method does not block.
+    /// Closes the table and takes back all its seats. Returns for each processor the mark and the image that the
+    /// processor has committed at its place. The entries after the last processor are zero. This method does not
+    /// block.
     pub fn close(self, kseat: KSeat, seats: Vec<Seat>) -> LastWords
         requires kernel { IsKernelSeatOf self.table kseat }
         requires seats { AreSeatsOf self.table seats.items }

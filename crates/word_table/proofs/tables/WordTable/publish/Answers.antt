@@ -15,8 +15,8 @@ use Rattle.word_table.proofs.Telling.{confirmed, third, unconfirmed}
 use Rattle.word_table.proofs.tables.WordTable.publish.Goals as goal
 use Rattle.word_table.proofs.tables.WordTable.publish.Goals.{then-load-word, else-load-word}
 
--- The next step of the kernel's seat is the store of word `i` of the next frame's image, and a load of that word
--- found `n`.
+-- Lemmas on a kernel seat whose next step is the store of word `i` of the next frame's image, after a load of that
+-- word that found `n`.
 module _ (words : WordTable) (kseat : KSeat) (i word n : ℕ) (after : Sat) (fits : IsKernelSeatOf words kseat) (next : kseat.step ≡ length (mission_in words).spec.procs + i)
     (said : word ≡ word_in (kernel_words_of words (kseat.frame + 1)) i) (told : IfSome kseat.inner.me.0.mission (λ mission. StepsIf (nat_eq n (word_due (mission_flight mission) kseat.inner.me.0.actors)) kseat.inner.me.0 after)) where
   value : word ≡ word_in ((flight_in words).kernel_image (suc kseat.frame)) i

@@ -18,7 +18,7 @@ use Rattle.word_table.proofs.Stepping.{IsStep, frame_at, runs_there, step_is, st
 use Rattle.word_table.proofs.Telling.{third, unconfirmed}
 use Rattle.word_table.proofs.tables.WordTable.store.Goals as goal
 
--- The next step of the seat is the store of word `i` of its draft.
+-- Lemmas on a seat whose next step is the store of word `i` of its draft.
 module _ (words : WordTable) (seat : Seat) (i word : ℕ) (fits : IsSeatOf words seat) (next : next_step words seat ≡ Some (Store (proc_id (proc_of seat)) i))
     (drafted : word ≡ word_in (drafted_words words (proc_of seat) (frame_of (seat_place seat))) i) where
   abbrev m : Flight
