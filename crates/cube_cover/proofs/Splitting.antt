@@ -15,7 +15,7 @@ use Rattle.cube_cover.proofs.Scopes.{has_digits}
 pub digits_in_scope : (spec : Parts) → IsSpec spec → (v : Env) → IsInScope spec v → HasDigits v
 digits_in_scope spec made v scope = has_digits spec made v scope.belongs
 
--- If no digit is open at a place, a cube holds no environment.
+-- A cube with no open digit at some place holds no environment.
 pub shut : (cube : Cube) (v : Env) (is_open : Bool) → is_open ≡ false → (holds cube v ≡ true → is_open ≡ true) → holds cube v ≡ false
 shut cube v is_open e h = by_bool (holds cube v) (λ t. let clash : true ≡ false = sym (h t) ∙ e in absurd (cc)) (λ f. f)
 

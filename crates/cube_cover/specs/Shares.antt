@@ -38,8 +38,8 @@ pub record AreShares (spec : Parts) (c : ConfId) (shares : List Share) : Type 0 
   pub width : length shares ≡ suc (length spec.rules)
   pub each : (k : ℕ) (share : Share) → slice_get shares k ≡ Some share → IsShare spec (is_ruled_by spec c k) share
 
--- In scope, the second list holds no environment that the rule fits, and holds each other environment as often as the
--- first list.
+-- No cube of the second list holds an environment in scope in which the rule fits configuration `c`. Each other
+-- environment in scope is held by the same number of cubes in both lists.
 abbrev pub HoldsRest : Parts → ConfId → Choice → List Cube → List Cube → Type 0
 HoldsRest spec c rule before after = (v : Env) → IsInScope spec v → holders after v ≡ (if rule_fits c v rule then 0 else holders before v)
 

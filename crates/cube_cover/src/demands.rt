@@ -78,8 +78,8 @@ fn met_by(spec: &Spec, demand: &Demand) -> u16
     bits
 }
 
-// Returns the first environment of the cube `by`, by number, whose target is not in the set `met`, or `None` if there
-// is no such environment.
+// Returns the first environment in scope, by number, that the cube `by` holds and that lies in a region whose target
+// is not in the set `met`. Returns `None` if there is no such environment.
 fn least_outside(spec: &Spec, regions: &[Region], met: u16, by: Cube) -> Option<Env>
     requires { IsSpec spec.now }
     ensures { IsLeastEnv spec.now (λ v. is_marked regions.now (is_outside met) v && holds by v) result }

@@ -26,7 +26,7 @@ pub(crate) fn count_held(spec: &Spec, cubes: &[Cube]) -> u32
 }
 
 // Returns the number of environments in scope that a cube holds. This is the number of sets of processors that may be
-// down times the number of combinations of open values.
+// down times the number of combinations of open values. It is 0 if `are_zeros_open` returns `false`.
 fn size_of(spec: &Spec, cube: Cube) -> u32
     requires { IsSpec spec.now }
     ensures { result ≡ count_where spec.now (holds cube) }
@@ -38,7 +38,8 @@ fn size_of(spec: &Spec, cube: Cube) -> u32
     }
 }
 
-// Returns whether digit 0 is open at each place past the last factor. All environments have digit 0 at these places.
+// Returns whether digit 0 is open at each place below 6 that belongs to no factor. All environments have digit 0 at
+// these places.
 fn are_zeros_open(spec: &Spec, cube: Cube) -> bool
     requires { IsSpec spec.now }
     ensures { result ≡ are_open cube (length spec.now.factors) (replicate (6 - length spec.now.factors) 0) }

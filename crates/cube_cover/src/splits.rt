@@ -56,7 +56,8 @@ fn split_cube(
     Ok(())
 }
 
-// Cuts off the parts of a cube outside of the cube `by`, place by place, and returns the part inside.
+// Cuts off the parts of a cube outside of the cube `by`, place by place, and appends them to `outside`. Returns the
+// part of the cube inside of `by`.
 fn cut(spec: &Spec, cube: Cube, by: Cube, outside: &mut Vec<Cube>) -> Result<Cube, NoMemory>
     requires { IsSpec spec.now }
     ensures beyond { OnOk result (Gain spec.now outside.old.items outside.new.items (λ v. holds cube v && not (holds by v))) }
