@@ -18,13 +18,13 @@ use Rattle.coverage_check.specs.Showing.{shown_in}
 abbrev pub first_missed_env : Parts → Demand → ConfId → Option Env
 first_missed_env spec demand c = first_passing_env spec (misses spec demand c)
 
--- The refusal for the first environment in which the table misses demand `k` from configuration `c`, or `None` if it
--- misses it in none. The demand is `demand`.
+-- The refusal for the first environment in scope in which the table misses demand `k` from configuration `c`, or
+-- `None` if it misses the demand in no such environment. Here `demand` is demand `k`.
 abbrev pub demand_refusal_of : Parts → ℕ → ℕ → Demand → Option Shown
 demand_refusal_of spec c k demand = option_map (λ (v : Env). shown_in 13 c v (other.Demand k)) (first_missed_env spec demand (conf_id c))
 
--- The refusal for the first environment in which the table misses demand `k` from configuration `c`, or `None` if it
--- misses it in none or there is no demand `k`.
+-- The refusal for the first environment in scope in which the table misses demand `k` from configuration `c`. The
+-- value is `None` if the table misses the demand in no such environment or there is no demand `k`.
 abbrev pub demand_refusal_at : Parts → ℕ → ℕ → Option Shown
 demand_refusal_at spec c k = option_map_or (demand_refusal_of spec c k) (slice_get spec.demands k) None
 

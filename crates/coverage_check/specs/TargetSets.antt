@@ -8,7 +8,7 @@ use Rattle.choice_table.specs.Choices.{IsTarget}
 use Rattle.cube_cover.specs.declared.answers.Cover.{Cover}
 use Rattle.cube_cover.specs.Covers.{IsCover}
 
--- The list has the cover of each configuration.
+-- For each configuration `i`, entry `i` of the list is the cover of `i`.
 abbrev pub HasCovers : Parts → List Cover → Type 0
 HasCovers spec covers = (i : ℕ) (cover : Cover) → i < length spec.confs → slice_get covers i ≡ Some cover → IsCover spec (conf_id i) cover
 

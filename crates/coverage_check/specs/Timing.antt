@@ -35,7 +35,8 @@ abbrev pub further : Policy → ℕ → ℕ
 further policy.Retarget changes = changes
 further policy.Settle changes = suc changes
 
--- The maximum length of the way from one target's choice to the next, over all configurations, in frames.
+-- The greatest sum, over all configurations, of the frames to prepare and to initialise, one frame, and the frames to
+-- halt. No more frames pass from the choice of one target to the choice of the next.
 abbrev pub slowest : Parts → ℕ
 slowest spec =
     greatest_below (λ k. preparing_time spec (conf_id k) + initialising_time spec (conf_id k) + 1 + halting_time spec (conf_id k)) (length spec.confs)
@@ -88,7 +89,7 @@ abbrev pub greatest_bound : List Bound → ℕ
 greatest_bound [] = 0
 greatest_bound (bound ∷ bounds) = max bound.frames (greatest_bound bounds)
 
--- Whether the window of the failure assumption is shorter than the longest reconfiguration and the frame after it.
+-- Whether the window of the failure assumption is not longer than the greatest bound that is given.
 abbrev pub has_short_window : Parts → Bool
 has_short_window spec = nat_lt spec.window (greatest_bound spec.bounds + 1)
 

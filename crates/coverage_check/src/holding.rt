@@ -15,8 +15,8 @@ use app_model::{after_init, during};
 use cube_cover::Cover;
 use scram_types::{AppId, ConfId, Invariant, KindId, Mode, Place, Precondition, Spec};
 
-// Returns the refusal for the first invariant that may be broken during a reconfiguration (A11), with the first
-// configuration that such a reconfiguration may leave, or `None` if no invariant may be broken.
+// Returns the refusal for the first invariant that may be broken during a reconfiguration (A11), at the first
+// configuration from which such a reconfiguration may begin. Returns `None` if no invariant may be broken.
 pub(crate) fn refuse_invariant(spec: &Spec, covers: &[Cover; 12]) -> Option<Shown>
     requires { HasCovers spec.now covers.now }
     ensures { result ≡ invariant_refusal spec.now }
@@ -76,8 +76,8 @@ fn holds_from(spec: &Spec, cover: &Cover, inv: &Invariant, i: u8) -> bool
         && holds_reached(spec, cover, inv, i)
 }
 
-// Returns whether the invariant's interval contains the values that are seen on the way from `i` to each of its
-// possible targets.
+// Returns whether the invariant's interval contains the values of its variable while each possible target of `i` is
+// reached and left again.
 fn holds_reached(spec: &Spec, cover: &Cover, inv: &Invariant, i: u8) -> bool
     requires { IsCover spec.now (conf_id i) cover.now }
     ensures { result ≡ holds_reached spec.now inv.now (conf_id i) }
@@ -99,8 +99,8 @@ fn holds_on_way(spec: &Spec, cover: &Cover, inv: &Invariant, i: u8, j: u8) -> bo
     !is_in(cover.targets, j) || holds_reaching(spec, inv, spec.place_of(ConfId(j), inv.app))
 }
 
-// Returns whether the invariant's interval contains the values that are seen while the application leaves its mode, or
-// zero if the application is off.
+// Returns whether the invariant's interval contains the values of its variable as the application initialises, runs
+// and halts at a place. With `None`, the application is off and the only value is zero.
 fn holds_leaving(spec: &Spec, inv: &Invariant, place: Option<Place>) -> bool
     ensures { result ≡ holds_leaving spec.now inv.now place }
 {
@@ -114,8 +114,8 @@ fn holds_leaving(spec: &Spec, inv: &Invariant, place: Option<Place>) -> bool
     }
 }
 
-// Returns whether the invariant's interval contains the values that are seen while the application reaches its mode
-// and leaves it again, or zero if the application is off.
+// Returns whether the invariant's interval contains the values of its variable as the application prepares,
+// initialises, runs and halts at a place. With `None`, the application is off and the only value is zero.
 fn holds_reaching(spec: &Spec, inv: &Invariant, place: Option<Place>) -> bool
     ensures { result ≡ holds_reaching spec.now inv.now place }
 {

@@ -18,7 +18,8 @@ use std::alloc::Global;
 
 /// Returns the minimum bound, in frames, that suffices for a reconfiguration from configuration `i` to `j`. It counts
 /// one frame, the frames that `i` takes to halt, and the frames that `j` takes to prepare and to initialise. For each
-/// further change of the environment, it adds the longest way from one target's choice to the next.
+/// further change of the environment, it adds the greatest number of frames from the choice of one target to the
+/// choice of the next.
 pub fn least(spec: &Spec, i: ConfId, j: ConfId) -> u32
     ensures { result ≡ least spec.now i j }
 {
@@ -71,7 +72,7 @@ fn further(spec: &Spec) -> u32
     }
 }
 
-// Returns the maximum length of the way from one target's choice to the next, in frames.
+// Returns the greatest number of frames from the choice of one target to the choice of the next.
 fn slowest(spec: &Spec) -> u32
     ensures value { result ≡ slowest spec.now }
     ensures most { result ≤ 196606 }
@@ -129,7 +130,8 @@ fn is_bound_asked(spec: &Spec, cover: &Cover, i: u8, j: u8) -> bool
     is_in(cover.targets, j) && may_end_in(spec, ConfId(i), ConfId(j))
 }
 
-// Returns whether a reconfiguration from `i` may end in `j`, which may be `i` itself.
+// Returns whether a reconfiguration from `i` may end in `j`. It may end in `i` itself only if `can_return` returns
+// `true`.
 fn may_end_in(spec: &Spec, i: ConfId, j: ConfId) -> bool
     ensures { result ≡ may_end_in spec.now i j }
 {
