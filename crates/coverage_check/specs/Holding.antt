@@ -86,7 +86,7 @@ holds_entering spec pre (Some place) = holds_range pre.least pre.greatest (after
 abbrev pub breaks_entering : Parts → Precondition → Bool
 breaks_entering spec pre = not (holds_entering spec pre (place_of spec pre.conf pre.app.0))
 
--- Whether a precondition may be broken as its configuration is entered.
+-- The refusal of precondition `k` if it may be broken, or `None` if it may not. Here `pre` is precondition `k`.
 abbrev pub precondition_refusal_of : Parts → ℕ → Precondition → Option Shown
 precondition_refusal_of spec k pre = shown_if (breaks_entering spec pre) (shown_at 12 pre.conf.0 (other.Item k))
 
