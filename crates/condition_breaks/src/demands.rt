@@ -13,8 +13,8 @@ use cube_cover::misses;
 use scram_types::{ConfId, Env, NoMemory, Spec};
 use std::alloc::Global;
 
-// Appends the place of A13 for each configuration and each demand that the table misses from it. A place has the first
-// environment in scope in which the demand is missed.
+// Appends the place of A13 for each configuration and each demand that the table misses from the configuration. A
+// place contains the first environment in scope in which the demand is missed.
 pub(crate) fn add_demand_breaks(
     alloc: Global,
     breaks: &mut Vec<Break>,
