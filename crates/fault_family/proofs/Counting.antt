@@ -39,7 +39,7 @@ pub uncounted : (spec : Parts) (script : ScriptParts) (f : ℕ) → is_change_fr
 uncounted spec script zero is = refl
 uncounted spec script (suc f) is = let none : changes_upto spec script f + 0 ≡ changes_upto spec script f = omega arith in let back : suc f - 1 ≡ f = omega arith in rw (back, is) (sym none)
 
--- A frame has a violation to show if and only if one of the two tests holds.
+-- The optional violation in a frame is not `None` if and only if one of the two tests of the frame passes.
 pub shown_by : (a b : Bool) (x y : Outside) → (a || b) ≡ is_some (if a then Some x else (if b then Some y else None))
 shown_by true b x y = refl
 shown_by false true x y = refl

@@ -70,7 +70,7 @@ impl Faults {
         self.faults.as_slice()
     }
 
-    /// Returns the list with the fault appended.
+    /// Returns the list with the fault appended. The list must contain fewer than [`MAX_FAULTS`] faults.
     pub fn with(&self, fault: &Fault) -> Faults
         requires { length self.now < 3 }
         ensures { result ≡ self.now ++ fault.now ∷ [] }
@@ -148,7 +148,8 @@ pub fn repeats(fault: &Fault, next: &Fault) -> bool
         && (rank(&fault.kind) != 0 || fault.frame == next.frame)
 }
 
-/// Returns whether the fault `next` may come after the fault `fault`.
+/// Returns whether the fault `next` may come after the fault `fault`: `next` comes later in the order and does not
+/// repeat `fault`.
 pub fn may_come_after(fault: &Fault, next: &Fault) -> bool
     ensures { result ≡ may_come_after next.now fault.now }
 {

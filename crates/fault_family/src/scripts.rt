@@ -24,7 +24,7 @@ impl<'a> FaultScript<'a> {
     ghost use Rattle.fault_family.specs.Scripts.{frames_of_faults, last_fault_frame};
 
     /// Returns the script of a list of faults. Its number of frames is the frame of the last fault plus the greatest
-    /// bound plus three.
+    /// bound plus three. The last fault must come in frame 4000 or earlier.
     pub fn new(spec: &Spec, faults: &'a [Fault]) -> FaultScript<'a>
         requires { last_fault_frame faults.now ≤ 4000 }
         ensures frames { result.frames ≡ frames_of_faults spec.now faults.now }
@@ -124,14 +124,14 @@ fn newest(fault: &Fault, factor: FactorId, frame: u32, value: u8) -> u8
     }
 }
 
-/// Returns whether a processor is up in a frame.
+/// Returns whether a processor is up in a frame of a script.
 pub fn is_up(script: &FaultScript<'_>, p: u8, frame: u32) -> bool
     ensures { result ≡ is_up (script_in_frames script.now.frames script.now.faults.now) p frame }
 {
     are_halts_over(script, p, frame)
 }
 
-// Returns whether a processor has restarted since each of its halts in the frames before a frame.
+// Returns whether a processor has restarted, up to and including a frame, after each of its halts in earlier frames.
 fn are_halts_over(script: &FaultScript<'_>, p: u8, frame: u32) -> bool
     ensures { result ≡ list_all (is_over (script_in_frames script.now.frames script.now.faults.now) p frame) (filter_map halt_of_fault script.now.faults.now) }
 {
@@ -143,8 +143,8 @@ fn are_halts_over(script: &FaultScript<'_>, p: u8, frame: u32) -> bool
     true
 }
 
-// Returns whether a fault leaves a processor up in a frame. It does if it is not a halt of the processor before the
-// frame, or if the processor has restarted since.
+// Returns whether a fault leaves a processor up in a frame. It does if it is not a halt of the processor in an
+// earlier frame, or if the processor has restarted between the halt and the frame.
 fn is_over(script: &FaultScript<'_>, fault: &Fault, p: u8, frame: u32) -> bool
     ensures { result ≡ list_all (is_over (script_in_frames script.now.frames script.now.faults.now) p frame) (filter_map halt_of_fault (fault.now ∷ [])) }
 {

@@ -28,8 +28,8 @@ pub fn is_within(spec: &Spec, script: &FaultScript<'_>) -> bool
     true
 }
 
-// The number of frames up to a frame that change the environment, and the number of such frames before the window that
-// ends with the frame.
+// The number of frames up to and including a frame that change the environment, and the number of such frames before
+// the window that ends with the frame.
 #[derive(Clone, Copy)]
 struct Counts {
     upto: u32,
@@ -53,7 +53,8 @@ fn counts_with(spec: &Spec, script: &FaultScript<'_>, counts: &Counts, frame: u3
     }
 }
 
-// Returns the number of frames up to a frame that change the environment, given that number for the previous frame.
+// Returns the number of frames up to and including a frame that change the environment, given that number for the
+// previous frame.
 fn count_with(spec: &Spec, script: &FaultScript<'_>, count: u32, frame: u32) -> u32
     requires frame { frame ≤ 5003 }
     requires count { count ≡ changes_upto spec.now (script_in_frames script.now.frames script.now.faults.now) (frame - 1) }
