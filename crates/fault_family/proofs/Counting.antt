@@ -53,7 +53,7 @@ upto_before spec script e (suc f) before = elim (at_or_below e f before) [
   | inr last ↦ rw last (omega arith)
 ]
 
--- Lemmas on the whole script.
+-- Lemmas on the tests of all frames of a script.
 
 outside_none : (o : Option Outside) → is_some o ≡ false → o ≡ None
 outside_none None e = refl
