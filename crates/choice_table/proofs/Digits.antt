@@ -104,7 +104,8 @@ pub digits_end : (fs : List Factor) (vs : List ℕ) (x number : ℕ) → length 
     → number * combinations (drop x fs) + digits_of (drop x fs) (drop x vs) ≡ digits_of fs vs → number ≡ digits_of fs vs
 digits_end fs vs x number past so_far = let end = rw (nothing_left fs x past) at so_far in omega (arith, end)
 
--- A step of that loop keeps the number small, even if the values are arbitrary bytes.
+-- After `x` steps of the loop that computes the number of the factors' values, the number is at most `85 * 4 ^ x -
+-- 85`, even if the values are arbitrary bytes.
 pub few_digits : (count value x number : ℕ) → count ≤ 4 → value < 256 → x < 6 → number + 85 ≤ 85 * 4 ^ x → number * count + value + 85 ≤ 85 * 4 ^ suc x
 few_digits count value x number few byte inside so_far =
     let product = mul-le number count number 4 (omega arith) few in
