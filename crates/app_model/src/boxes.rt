@@ -16,7 +16,7 @@ pub struct Boxes {
     pub ghost spares_len: { vec_len spares ≡ 8 },
 }
 
-/// Returns racks without boxes, or `Err` when out of memory. A flight with such racks computes each law itself.
+/// Returns racks without boxes, or an error if memory runs out. A flight with such racks computes each law itself.
 pub fn empty_boxes(alloc: Global) -> Result<Boxes, AllocError>
     ensures racks { IfOk result (λ boxes. All (λ r. r.boxes.items ≡ []) boxes.racks.items) }
     ensures spares { IfOk result (λ boxes. All (λ r. r.boxes.items ≡ []) boxes.spares.items) }

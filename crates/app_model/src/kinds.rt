@@ -51,7 +51,7 @@ pub mod flight_control {
     pub const COMMAND_ROLL: usize = 4;
 }
 
-/// The power monitor: it keeps account of the battery's charge.
+/// The power monitor: it tracks the battery's charge.
 pub mod power_monitor {
     /// The kind's number.
     pub const KIND: u8 = 2;
