@@ -5,8 +5,8 @@ ghost use Rattle.std.specs.Prelude.{◌≡◌, All, IfOk, [], vec_len};
 use crate::racks::{Rack, empty_racks};
 use std::alloc::{AllocError, Global};
 
-/// The racks with which a mission is flown. `racks[p]` is the rack of processor `p`, and `spares[p]` is its rack after a
-/// restart.
+/// The racks with which a mission is flown. `racks[p]` is the rack of processor `p`, and `spares[p]` is the rack of
+/// `p` after a restart.
 #[derive(Drop)]
 pub struct Boxes {
     pub racks: Vec<Rack>,
