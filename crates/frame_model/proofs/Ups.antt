@@ -17,7 +17,8 @@ use Rattle.fault_script.specs.Times.{commits, halts_before_mark, halts_in, is_ha
 use Rattle.fault_script.specs.Inputs.{input_at}
 use Rattle.frame_model.specs.Standing.{is_up_before, up_before}
 
--- A restart after a halt is at or before frame `f` + 1 exactly if it is at or before frame `f`, or in frame `f` + 1.
+-- A restart after a halt is at or before frame `f + 1` if and only if it is at or before frame `f`, or in frame `f +
+-- 1`.
 one_more : (b : Bool) (h f r : ℕ) → h ≤ f → ((b && nat_lt h r) && nat_le r (suc f)) ≡ (((b && nat_lt h r) && nat_le r f) || (b && (r == suc f)))
 one_more true h f r below = grind (arith, nat_tests)
 one_more false h f r below = refl

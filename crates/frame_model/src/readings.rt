@@ -74,7 +74,7 @@ pub fn close(reading: Reading, frames: u32) -> Option<Report>
     }
 }
 
-/// Returns the reconfigurations that rows show, in order. The first row is that of frame 0, and the start
+/// Returns the reconfigurations that are read off rows, in order. The first row is that of frame 0, and the start
 /// configuration runs before it. The last reconfiguration may be cut off by the end of the rows. Returns an error
 /// only if memory runs out.
 pub fn reports(alloc: Global, spec: &Spec, rows: &[Row]) -> Result<Vec<Report>, NoMemory>
