@@ -1,4 +1,4 @@
--- The environment of a frame of a script that fits.
+-- In a script that fits, the environment of each frame satisfies `Shows`.
 use Rattle.std.proofs.Common.{◌≡◌, ℕ, suc, ◌<◌, Bool, true, false, refl, arith, ap, sym, ◌∙◌, List, [], ◌∷◌, length, subst}
 use Rattle.std.specs.Prelude.{◌&&◌, ◌==◌, Some, if◌then◌else◌, nat_le, slice_get}
 use Rattle.std.proofs.lemmas.Option.{slice_get_within}

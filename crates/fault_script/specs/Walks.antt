@@ -46,7 +46,8 @@ pub record IsWalk (spec : Parts) (script : ScriptParts) (f : ℕ) (walk : Walk) 
   pub env : walk.env ≡ env_at spec script f
 
 -- A window ends with frame `f`. Its walk `lead` is at `f`, and its walk `trail` is at the frame before the window, or
--- at frame 0. It has the number of change frames since `trail`, and whether `f` is a change frame.
+-- at frame 0. `changes` is the number of change frames after the frame of `trail` and up to `f`. `changed` is `true`
+-- if `f` is a change frame.
 pub record IsWindow (spec : Parts) (script : ScriptParts) (f : ℕ) (window : Window) : Type 0 where
   pub lead : IsWalk spec script f window.lead
   pub trail : IsWalk spec script (f - spec.window) window.trail

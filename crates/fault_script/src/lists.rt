@@ -16,7 +16,7 @@ use scram_types::{Change, FactorId, HaltAt, List, ProcId, RestartAt, Spec};
 use serde_json::Value;
 use std::alloc::Global;
 
-// Returns the fault of a rule at a path if the test fails.
+// Returns an error with the fault of a rule at a path if the test fails.
 pub(crate) fn check(test: bool, rule: u8, at: &Path) -> Result<(), ScriptFault>
     ensures { result ≡ check test rule at.now }
 {
