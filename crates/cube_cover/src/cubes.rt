@@ -39,7 +39,7 @@ pub(crate) fn whole(spec: &Spec) -> Cube
     Cube { bits }
 }
 
-// Returns whether an environment can have digit `d` at place `x`.
+// Returns `true` if an environment can have digit `d` at place `x`.
 #[tactic(auto, unfolding(crate::specs::Cubes::is_digit))]
 pub(crate) fn is_digit(spec: &Spec, x: u8, d: u8) -> bool
     ensures { result ≡ is_digit spec.now x d }
@@ -207,7 +207,7 @@ pub(crate) fn outside_at(cube: Cube, by: Cube, x: u8) -> Cube
     }
 }
 
-// Returns whether some digit is open at place `x`. If no digit is open, the cube holds no environment.
+// Returns `true` if some digit is open at place `x`. If no digit is open, the cube holds no environment.
 pub(crate) fn is_open_at(cube: Cube, x: u8) -> bool
     requires { x < 14 }
     ensures { (v : Env) → HasDigits v → holds cube v ≡ true → result ≡ true }
@@ -232,8 +232,8 @@ pub(crate) fn both(one: Cube, other: Cube) -> Cube
     }
 }
 
-// Returns whether each place has a digit that is open in both cubes. If some place has no such digit, the cubes share
-// no environment.
+// Returns `true` if each place has a digit that is open in both cubes. If some place has no such digit, the cubes
+// share no environment.
 pub(crate) fn meet(one: Cube, other: Cube) -> bool
     ensures { (v : Env) → HasDigits v → (holds one v && holds other v) ≡ true → result ≡ true }
 {
@@ -243,7 +243,7 @@ pub(crate) fn meet(one: Cube, other: Cube) -> bool
     digits & FIRST_DIGITS == FIRST_DIGITS
 }
 
-// Returns whether digit `d` is open at place `x`.
+// Returns `true` if digit `d` is open at place `x`.
 pub(crate) fn is_open(cube: Cube, x: u8, d: u8) -> bool
     requires place { x < 14 }
     requires digit { d < 4 }

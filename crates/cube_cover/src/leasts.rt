@@ -105,7 +105,7 @@ fn least_digit(cube: Cube, x: u8) -> u8
     }
 }
 
-// Returns whether each factor of an environment has a value that the specification allows.
+// Returns `true` if each factor of an environment has a value that the specification allows.
 fn belongs(spec: &Spec, env: &Env) -> bool
     ensures { result ≡ belongs spec.now env.now }
 {
