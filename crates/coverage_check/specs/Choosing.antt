@@ -1,4 +1,5 @@
--- The conditions A5 to A8: the results that the choice table must give in each environment in scope.
+-- The conditions A5 to A7 on the choices of the table in each environment in scope, and the condition A8 on the
+-- choice from the start configuration in the opening environment.
 use Rattle.std.specs.Prelude.{ℕ, Bool, not, ◌==◌, length, Option, option_map}
 use Rattle.scram_types.specs.Lookups.{opening_env, conf_id}
 use Rattle.scram_types.specs.declared.ids.ConfId.{ConfId}

@@ -32,8 +32,8 @@ demand_refusal_at spec c k = option_map_or (demand_refusal_of spec c k) (slice_g
 abbrev pub demand_refusal_in : Parts → ℕ → Option Shown
 demand_refusal_in spec c = first_below (demand_refusal_at spec c) (length spec.demands)
 
--- The refusal for demand `k` and configuration `c`, given the list `found`, which has for each demand the first
--- environment in which it is missed from `c`. `None` if demand `k` is not missed or the list has no entry `k`.
+-- The refusal for demand `k` and configuration `c`, or `None` if the demand is not missed or the list `found` has no
+-- entry `k`. The list contains for each demand the first environment in which the demand is missed from `c`.
 abbrev pub miss_shown : List (Option Env) → ℕ → ℕ → Option Shown
 miss_shown found c k =
     option_and_then (λ (least : Option Env). option_map (λ (v : Env). shown_in 13 c v (other.Demand k)) least) (slice_get found k)

@@ -12,7 +12,7 @@ use Rattle.cube_cover.specs.Covers.{IsCover}
 abbrev pub HasCovers : Parts → List Cover → Type 0
 HasCovers spec covers = (i : ℕ) (cover : Cover) → i < length spec.confs → slice_get covers i ≡ Some cover → IsCover spec (conf_id i) cover
 
--- `set` has the possible targets of `i` as bits, and no other bits.
+-- `set` contains the possible targets of `i` as bits, and no other bits.
 pub record AreTargets (spec : Parts) (i : ConfId) (set : ℕ) : Type 0 where
   pub only : (j : ConfId) → j.0 < length spec.confs → has_bit set j.0 ≡ true → IsTarget spec i j
   pub all : (j : ConfId) → IsTarget spec i j → has_bit set j.0 ≡ true

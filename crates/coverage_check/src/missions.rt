@@ -75,8 +75,8 @@ impl Mission {
         &self.script
     }
 
-    /// States by its contract that the mission has an accepted specification, and a script that fits it and keeps to
-    /// its failure assumption. The call has no effect.
+    /// States by its contract that the mission has an accepted specification, and a script that fits the
+    /// specification and keeps to its failure assumption. The call has no effect.
     pub fn holds(&self)
         ensures spec { IsSpec self.now.spec }
         ensures mission { IsMission self.now }

@@ -43,7 +43,7 @@ pub(crate) fn find_covers(alloc: Global, spec: &Spec) -> Result<[Cover; 12], NoM
     Ok(covers)
 }
 
-// Returns whether `j` is an element of a set of numbers, given as bits.
+// Returns `true` if `j` is an element of a set of numbers, given as bits.
 pub(crate) fn is_in(set: u16, j: u8) -> bool
     requires { j < 16 }
     ensures { result ≡ has_bit set j }

@@ -120,7 +120,7 @@ fn refuse_bound_of(spec: &Spec, cover: &Cover, i: u8) -> Option<Shown>
     None
 }
 
-// Returns whether a bound from `i` to `j` is required, given the cover of `i`.
+// Returns `true` if a bound from `i` to `j` is required, given the cover of `i`.
 fn is_bound_asked(spec: &Spec, cover: &Cover, i: u8, j: u8) -> bool
     requires known { IsSpec spec.now }
     requires cover { IsCover spec.now (conf_id i) cover.now }
@@ -130,7 +130,7 @@ fn is_bound_asked(spec: &Spec, cover: &Cover, i: u8, j: u8) -> bool
     is_in(cover.targets, j) && may_end_in(spec, ConfId(i), ConfId(j))
 }
 
-// Returns whether a reconfiguration from `i` may end in `j`. It may end in `i` itself only if `can_return` returns
+// Returns `true` if a reconfiguration from `i` may end in `j`. It may end in `i` itself only if `can_return` returns
 // `true`.
 fn may_end_in(spec: &Spec, i: ConfId, j: ConfId) -> bool
     ensures { result ≡ may_end_in spec.now i j }
@@ -144,7 +144,7 @@ fn can_return(spec: &Spec) -> bool
     0 < further(spec)
 }
 
-/// Returns whether a bound from `i` to `j` is given and suffices.
+/// Returns `true` if a bound from `i` to `j` is given and suffices.
 pub fn is_bounded(spec: &Spec, i: ConfId, j: ConfId) -> bool
     ensures { result ≡ is_bounded spec.now i j }
 {
