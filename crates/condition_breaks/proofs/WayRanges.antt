@@ -61,7 +61,7 @@ neither : (a b : Bool) → (a || b) ≡ false → (a ≡ false) × (b ≡ false)
 neither false b e = (refl, e)
 neither true b e = true_false true refl e
 
--- Lemmas on an interval, which contains the statuses 4, 1 and 2 if and only if it contains the range from 1 to 4.
+-- An interval contains the statuses 4, 1 and 2 if and only if it contains the range from 1 to 4.
 module _ (low high : ℤ) where
   holds : ℤ × ℤ → Bool
   holds range = holds_range low high range

@@ -161,7 +161,8 @@ abbrev pub demand_breaks : Parts → List Break
 demand_breaks spec = gathered_below (demand_breaks_in spec) (length spec.confs)
 
 -- The place of A13 for configuration `c` and demand `k`, or `None` if the demand is not missed or does not exist.
--- `found` has for each demand the first environment in which it is missed, or `None` if it is not missed.
+-- `found` contains for each demand the first environment in which the demand is missed, or `None` if it is not
+-- missed.
 abbrev pub missed_at : List (Option Env) → ℕ → ℕ → Option Break
 missed_at found c k =
     option_and_then (λ (first : Option Env). option_map (λ (v : Env). broken.DemandMissed (conf_id c) k v) first) (slice_get found k)

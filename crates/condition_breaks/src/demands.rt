@@ -29,8 +29,8 @@ pub(crate) fn add_demand_breaks(
     Ok(())
 }
 
-// Appends the places of A13 for configuration `c`. `found` has for each demand the first environment in which it is
-// missed.
+// Appends the places of A13 for configuration `c`. `found` contains for each demand the first environment in which
+// the demand is missed.
 fn add_demand_breaks_in(
     breaks: &mut Vec<Break>,
     spec: &Spec,

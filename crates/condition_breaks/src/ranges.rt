@@ -64,7 +64,7 @@ fn add_way_to(ways: &mut Vec<Way>, spec: &Spec, set: u16, i: u8, j: u8) -> Resul
     Ok(())
 }
 
-// Returns whether configuration `j` is in `set`, the possible targets of configuration `i`, and differs from `i`.
+// Returns `true` if configuration `j` is in `set`, the possible targets of configuration `i`, and differs from `i`.
 fn is_other_target(spec: &Spec, set: u16, i: u8, j: u8) -> bool
     requires set { set ≡ targets spec.now (conf_id i) }
     requires inside { j < length spec.now.confs }
@@ -125,7 +125,7 @@ fn is_unheld(spec: &Spec, inv: &Invariant, way: &Way) -> bool
     speaks_of(inv, way) && !holds(inv, &range_on(spec, inv, way))
 }
 
-// Returns whether an invariant applies to the source of a way.
+// Returns `true` if an invariant applies to the source of a way.
 fn speaks_of(inv: &Invariant, way: &Way) -> bool
     ensures { result ≡ has_source inv.now.from way.now.from }
 {
