@@ -15,8 +15,8 @@ length_mapped f [] = refl
 length_mapped f (x ∷ xs) = ap suc (length_mapped f xs)
 
 module _ {A B C : Type 0} (made : A → B → C) (bs : List B) where
-  -- The rows of the elements of a list, joined. The row of an element `x` has the value of `made x` for each element
-  -- of `bs`.
+  -- The rows of the elements of a list, joined. The row of an element `x` contains the value of `made x` for each
+  -- element of `bs`.
   pub rows : List A → List C
   rows [] = []
   rows (x ∷ xs) = map (made x) bs ++ rows xs

@@ -124,14 +124,15 @@ fn newest(fault: &Fault, factor: FactorId, frame: u32, value: u8) -> u8
     }
 }
 
-/// Returns whether a processor is up in a frame of a script.
+/// Returns `true` if a processor is up in a frame of a script.
 pub fn is_up(script: &FaultScript<'_>, p: u8, frame: u32) -> bool
     ensures { result ≡ is_up (script_in_frames script.now.frames script.now.faults.now) p frame }
 {
     are_halts_over(script, p, frame)
 }
 
-// Returns whether a processor has restarted, up to and including a frame, after each of its halts in earlier frames.
+// Returns `true` if a processor has restarted, up to and including a frame, after each of its halts in earlier
+// frames.
 fn are_halts_over(script: &FaultScript<'_>, p: u8, frame: u32) -> bool
     ensures { result ≡ list_all (is_over (script_in_frames script.now.frames script.now.faults.now) p frame) (filter_map halt_of_fault script.now.faults.now) }
 {
@@ -143,8 +144,8 @@ fn are_halts_over(script: &FaultScript<'_>, p: u8, frame: u32) -> bool
     true
 }
 
-// Returns whether a fault leaves a processor up in a frame. It does if it is not a halt of the processor in an
-// earlier frame, or if the processor has restarted between the halt and the frame.
+// Returns `true` if a fault leaves a processor up in a frame: it is not a halt of the processor in an earlier frame,
+// or if the processor has restarted between the halt and the frame.
 fn is_over(script: &FaultScript<'_>, fault: &Fault, p: u8, frame: u32) -> bool
     ensures { result ≡ list_all (is_over (script_in_frames script.now.frames script.now.faults.now) p frame) (filter_map halt_of_fault (fault.now ∷ [])) }
 {
@@ -158,7 +159,7 @@ fn is_over(script: &FaultScript<'_>, fault: &Fault, p: u8, frame: u32) -> bool
     }
 }
 
-// Returns whether a processor restarts after frame `after` and no later than frame `frame`.
+// Returns `true` if a processor restarts after frame `after` and no later than frame `frame`.
 fn has_restarted(faults: &[Fault], p: u8, after: u32, frame: u32) -> bool
     ensures { result ≡ list_any (is_restart_between p after frame) (filter_map restart_of_fault faults.now) }
 {
@@ -179,7 +180,7 @@ fn is_restart_between(fault: &Fault, p: u8, after: u32, frame: u32) -> bool
     }
 }
 
-/// Returns whether a processor has a halt at least two frames before a frame.
+/// Returns `true` if a processor has a halt at least two frames before a frame.
 pub fn has_halted_before(faults: &[Fault], proc: ProcId, frame: u32) -> bool
     ensures { result ≡ list_any (is_halt_before proc.0 frame) (filter_map halt_of_fault faults.now) }
 {
