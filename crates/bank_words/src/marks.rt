@@ -1,11 +1,11 @@
 //! Marks: the number of frames up to and including the last frame that a processor committed, or 0 if it has
-//! committed none, and the bank that holds its image.
+//! committed none, and the bank that holds the processor's image.
 
 ghost use Rattle.std.specs.Prelude.{◌≡◌, ◌≤◌, ◌/◌, ◌%◌};
 ghost use Rattle.bank_words.specs.Marks.{mark_word, pick};
 
 /// Returns the mark of a processor, given the number `count` of frames up to and including its last committed frame,
-/// and the bank that holds its image, 0 or 1. The mark is twice the count plus the bank.
+/// and the bank that holds the processor's image, 0 or 1. The mark is twice the count plus the bank.
 pub fn mark_word(count: u32, bank: u8) -> u64
     requires { bank ≤ 1 }
     ensures mark { result ≡ mark_word count bank }
