@@ -64,7 +64,8 @@ open_list cube (a ∷ b ∷ c ∷ d ∷ []) six = absurd (omega arith)
 open_list cube (a ∷ b ∷ c ∷ d ∷ e ∷ []) six = absurd (omega arith)
 open_list cube (a ∷ b ∷ c ∷ d ∷ e ∷ f ∷ g ∷ more) six = absurd (omega arith)
 
--- A cube holds an environment if and only if the values of its factors and the digits of its processors are open.
+-- A cube holds an environment if and only if the values of the environment's factors and the digits of its processors
+-- are open.
 pub held_by_parts : (cube : Cube) (v : Env) → length v.factors ≡ 6 → holds cube v ≡ (are_open cube 0 v.factors && allows_up cube v.up)
 unfolding holds
 held_by_parts cube v six =
@@ -108,8 +109,9 @@ module _ (spec : Parts) (made : IsSpec spec) (cube : Cube) where
       let few = made.factors_count in
       length-append (values_of spec.factors n) zeros ∙ rw (values_length spec.factors n, length-replicate {A = ℕ} (6 - length spec.factors) 0) (omega arith)
 
-  -- If digit 0 is open at each place past the last factor, the environment with number `n` is in scope and held by
-  -- the cube if and only if its set of processors is allowed and its combination of values is open.
+  -- If digit 0 is open at each place past the last factor, the cube holds the environment with number `n` and the
+  -- environment is in scope if and only if the environment's set of processors is allowed and its combination of
+  -- values is open.
   held_number : (n : ℕ) → are_open cube (length spec.factors) zeros ≡ true → passes_at spec (holds cube) n
       ≡ (is_down_held spec cube (n / combinations spec.factors) && are_open cube 0 (values_of spec.factors (n % combinations spec.factors)))
   held_number n shut =

@@ -63,7 +63,7 @@ none_split spec by inside outside e f = record {
     either_zero true n e = e
     either_zero false n e = refl
 
--- A cube that shares no environment with another cube lies outside of it as a whole.
+-- If two cubes share no environment, the whole of the first lies outside of the second.
 
 pub apart_beyond : (cube by : Cube) (v : Env) → (holds cube v && holds by v) ≡ false → holds cube v ≡ (holds cube v && not (holds by v))
 apart_beyond cube by v e = part (holds cube v) (holds by v) e

@@ -51,8 +51,8 @@ fn chosen_regions(alloc: Global, spec: &Spec, i: ConfId) -> Result<Vec<Region>, 
     Ok(regions)
 }
 
-// Returns the first environment, by number, in which the table misses a demand from configuration `i`, or `None` if
-// there is no such environment. `regions` are the regions of `i`.
+// Returns the first environment in scope, by number, in which the table misses a demand from configuration `i`, or
+// `None` if there is no such environment. `regions` are the regions of `i`.
 fn least_miss(spec: &Spec, i: ConfId, demand: &Demand, regions: &[Region]) -> Option<Env>
     requires known { IsSpec spec.now }
     requires inside { i.0 < length spec.now.confs }

@@ -12,8 +12,8 @@ use choice_table::{in_scope, number_of};
 use scram_types::bits::has_bit;
 use scram_types::{Env, Spec};
 
-// Returns the environment in scope with the smallest number that one of the cubes holds, or `None` if they hold no
-// environment in scope.
+// Returns the environment in scope with the smallest number that one of the cubes holds, or `None` if the cubes hold
+// no environment in scope.
 pub(crate) fn least_of(spec: &Spec, cubes: &[Cube]) -> Option<Env>
     requires { IsSpec spec.now }
     ensures { IsLeastEnv spec.now (is_in cubes.now) result }
