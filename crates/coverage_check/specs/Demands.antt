@@ -13,8 +13,8 @@ use Rattle.coverage_check.specs.declared.shown.Other.TheVariants as other
 use Rattle.coverage_check.specs.Search.{first_passing_env}
 use Rattle.coverage_check.specs.Showing.{shown_in}
 
--- The first environment in scope in which the table misses a demand from configuration `c`, or `None` if it misses it
--- in none.
+-- The first environment in scope in which the table misses a demand from configuration `c`, or `None` if there is no
+-- such environment.
 abbrev pub first_missed_env : Parts → Demand → ConfId → Option Env
 first_missed_env spec demand c = first_passing_env spec (misses spec demand c)
 

@@ -68,7 +68,7 @@ breaks_from spec inv i = has_source inv.from i && not (holds_from spec inv i)
 abbrev pub invariant_refusal_of : Parts → ℕ → Invariant → Option Shown
 invariant_refusal_of spec k inv = first_below (λ i. shown_if (breaks_from spec inv (conf_id i)) (shown_at 11 i (other.Item k))) (length spec.confs)
 
--- The refusal of invariant `k`, or `None` if it cannot be broken or there is no invariant `k`.
+-- The refusal of invariant `k`, or `None` if the invariant cannot be broken or there is no invariant `k`.
 abbrev pub invariant_refusal_at : Parts → ℕ → Option Shown
 invariant_refusal_at spec k = option_map_or (invariant_refusal_of spec k) (slice_get spec.invariants k) None
 
@@ -86,11 +86,12 @@ holds_entering spec pre (Some place) = holds_range pre.least pre.greatest (after
 abbrev pub breaks_entering : Parts → Precondition → Bool
 breaks_entering spec pre = not (holds_entering spec pre (place_of spec pre.conf pre.app.0))
 
--- The refusal of precondition `k` if it may be broken, or `None` if it may not. Here `pre` is precondition `k`.
+-- The refusal of precondition `k` if the precondition may be broken, or `None` if it may not. Here `pre` is
+-- precondition `k`.
 abbrev pub precondition_refusal_of : Parts → ℕ → Precondition → Option Shown
 precondition_refusal_of spec k pre = shown_if (breaks_entering spec pre) (shown_at 12 pre.conf.0 (other.Item k))
 
--- The refusal of precondition `k`, or `None` if it cannot be broken or there is no precondition `k`.
+-- The refusal of precondition `k`, or `None` if the precondition cannot be broken or there is no precondition `k`.
 abbrev pub precondition_refusal_at : Parts → ℕ → Option Shown
 precondition_refusal_at spec k = option_map_or (precondition_refusal_of spec k) (slice_get spec.preconditions k) None
 

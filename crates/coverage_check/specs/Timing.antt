@@ -54,8 +54,7 @@ can_return spec = nat_lt 0 (further spec.policy spec.changes)
 abbrev pub is_bounded : Parts → ConfId → ConfId → Bool
 is_bounded spec i j = option_map_or (λ (t : ℕ). nat_le (least spec i j) t) (bound_in spec.bounds i.0 j.0) false
 
--- Whether a reconfiguration from `i` may end in `j`. It may end in `i` itself only if a reconfiguration may return to
--- where it began.
+-- Whether a reconfiguration from `i` may end in `j`. It may end in `i` itself only if `can_return` is `true`.
 abbrev pub may_end_in : Parts → ConfId → ConfId → Bool
 may_end_in spec i j = not (i.0 == j.0) || can_return spec
 

@@ -40,7 +40,7 @@ impl Mission {
     ghost use Rattle.coverage_check.specs.Missions.{IsMission, mission_of};
     ghost use Rattle.coverage_check.specs.Refusals.{IsNotWithin};
 
-    /// Creates the mission of an accepted specification and a script that fits it.
+    /// Creates the mission of an accepted specification and a script that fits the specification.
     ///
     /// # Errors
     ///

@@ -28,8 +28,9 @@ pub fn least(spec: &Spec, i: ConfId, j: ConfId) -> u32
     before + u32::from(target.p) + u32::from(target.i)
 }
 
-/// Returns the configurations, as bits, to which a specification must give a bound from configuration `i`. They are the
-/// possible targets of `i`, with `i` itself only if a reconfiguration may return to where it began.
+/// Returns the configurations, as bits, to which a specification must give a bound from configuration `i`. They are
+/// the possible targets of `i`. Configuration `i` itself is one of them only if a reconfiguration may return to the
+/// configuration in which it began.
 ///
 /// # Errors
 ///
