@@ -1,5 +1,5 @@
--- The test `has_off_need` passes for an application if and only if `is_needed` holds between it and some application
--- that is off.
+-- The test `has_off_need` passes for an application if and only if the application needs (`is_needed`) some
+-- application that is off.
 use Rattle.std.proofs.Common.{ℕ, ◌≡◌, Bool, true, false, not, length, refl, subst, sym}
 use Rattle.std.specs.Prelude.{◌&&◌, ◌==◌, Option, Some, None, slice_get}
 use Rattle.std.specs.Option.{option_map_or}

@@ -148,7 +148,7 @@ demand_break_of spec c k demand =
     option_to_list (option_map (λ (v : Env). broken.DemandMissed (conf_id c) k v) (first_missed_env spec demand (conf_id c)))
 
 -- The place of A13 for configuration `c` and demand `k`, or the empty list if there is no demand `k` or the table
--- does not miss it from `c`.
+-- does not miss the demand from `c`.
 abbrev pub demand_break : Parts → ℕ → ℕ → List Break
 demand_break spec c k = option_map_or (demand_break_of spec c k) (slice_get spec.demands k) []
 
