@@ -83,7 +83,7 @@ Later fault next = may_come_after next fault ≡ true
 
 -- Facts about the faults of a script. Each kind is one of the specification, and each fault may come after the
 -- earlier ones. No fault comes before frame 1 or after the frame of the last fault. That frame is at most 1001 times
--- the number of faults. Each restart comes well after a halt of its processor.
+-- the number of faults. Each restart comes two frames or more after a halt of its processor.
 record Keeps (spec : Parts) (faults : List Fault) : Type 0 where
   kinds : Each (λ (fault : Fault). IsKind spec fault.kind) faults
   later : EachLater Later faults

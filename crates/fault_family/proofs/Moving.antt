@@ -127,7 +127,7 @@ module _ (spec : Parts) (b d : ℕ) (script : ScriptParts) where
       (any_where (λ (halt : HaltAt). is_halt_in p f halt && nat_le halt.step (words spec)) (λ (halt : HaltAt). is_halt_in p g halt && nat_le halt.step (words spec)) script.halts
       (λ i halt there. rw (here i halt there) refl))
 
-  -- Lemmas on frames before the rest, in it, and after it.
+  -- Lemmas on frames before, in and after the rest.
 
   lt_before : (x f : ℕ) → f < b → nat_lt (later_frame b d x) f ≡ nat_lt x f
   lt_before x f early = by_side (nat_lt x b) refl

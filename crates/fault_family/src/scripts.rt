@@ -89,7 +89,7 @@ pub fn last_fault_frame(faults: &[Fault]) -> u32
     }
 }
 
-/// Returns the greatest bound of the specification, in frames, or 0 if it has none.
+/// Returns the greatest bound of the specification, in frames, or 0 if it has no bound.
 pub fn greatest(spec: &Spec) -> u32
     ensures value { result ≡ greatest_bound spec.now.bounds }
     ensures few { result ≤ 1000 }
@@ -144,8 +144,8 @@ fn are_halts_over(script: &FaultScript<'_>, p: u8, frame: u32) -> bool
     true
 }
 
-// Returns `true` if a fault leaves a processor up in a frame: it is not a halt of the processor in an earlier frame,
-// or if the processor has restarted between the halt and the frame.
+// Returns `true` if a fault leaves a processor up in a frame: the fault is not a halt of the processor in an earlier
+// frame, or the processor has restarted since the halt, up to and including the frame.
 fn is_over(script: &FaultScript<'_>, fault: &Fault, p: u8, frame: u32) -> bool
     ensures { result ≡ list_all (is_over (script_in_frames script.now.frames script.now.faults.now) p frame) (filter_map halt_of_fault (fault.now ∷ [])) }
 {
