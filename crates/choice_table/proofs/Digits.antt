@@ -40,7 +40,7 @@ value_count_most (f ∷ fs) zero known h = (known 0 f refl).count.few
 value_count_most (f ∷ fs) (suc x) known h = value_count_most fs x (after f fs known) (omega arith)
 
 -- The number of combinations from factor `x` on is the number of values of `x` times the number of combinations after
--- it.
+-- `x`.
 pub combinations_drop : (fs : List Factor) (x : ℕ) → x < length fs → combinations (drop x fs) ≡ value_count fs x * combinations (drop (suc x) fs)
 combinations_drop [] x h = absurd (omega arith)
 combinations_drop (f ∷ fs) zero h = refl

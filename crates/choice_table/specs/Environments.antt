@@ -22,9 +22,9 @@ down_count spec v = count_below (λ p. not (is_up_in v p)) (length spec.procs)
 abbrev pub in_scope : Parts → Env → Bool
 in_scope spec v = nat_le (down_count spec v) spec.halts
 
--- Environment `v` belongs to the specification. Its set of processors has no bit past the last processor. It has six
--- entries for factors. The entry of each factor is the index of one of the factor's values, and the entries past the
--- last factor are zero.
+-- Environment `v` belongs to the specification. Its set of processors has no bit past the last processor. The
+-- environment has six entries for factors. The entry of each factor is the index of one of the factor's values, and
+-- the entries past the last factor are zero.
 pub record IsEnv (spec : Parts) (v : Env) : Type 0 where
   pub up : v.up < 2 ^ length spec.procs
   pub width : length v.factors ≡ 6

@@ -24,8 +24,8 @@ pub fn applies_from(demand: &Demand, c: ConfId) -> bool
 }
 
 /// Returns `true` if configuration `c` meets a demand. The configuration must be one of `to`, unless `to` is empty.
-/// Each application of `on` must be on in `c`. If the demand lists modes for the application, it must be in one of
-/// these modes. Each application of `off` must be off in `c`.
+/// Each application of `on` must be on in `c`. If the demand lists modes for the application, the application must be
+/// in one of these modes. Each application of `off` must be off in `c`.
 pub fn is_met(spec: &Spec, demand: &Demand, c: ConfId) -> bool
     ensures { result ≡ is_met spec.now demand.now c }
 {

@@ -56,7 +56,7 @@ pub fn states(spec: &Spec) -> u32
 }
 
 /// Returns the environment in scope with the smallest number that is at least `low`, or `None` if there is none. If a
-/// set of down processors is out of scope, the function skips all its environments at once.
+/// set of down processors is out of scope, the function skips all environments with this set at once.
 pub fn next_in_scope(spec: &Spec, low: u32) -> Option<Numbered>
     ensures next { MatchOption result (NoneInScope spec.now low) (λ found. IsNextInScope spec.now low found.number) }
     ensures env { IfSome result (λ found. env_of spec.now found.number ≡ Some found.env) }
