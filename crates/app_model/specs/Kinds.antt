@@ -69,7 +69,7 @@ ticks = lasting (codes "ticks") (always 0 1000000) 0
 abbrev pub unused : Variable
 unused = record { name = None; ranges = at_zero; initialised = at_zero; moves = false; start = pos 0 }
 
--- The kind that commands pitch and roll. An init phase sets its targets to the aircraft's altitude and heading.
+-- The kind that commands pitch and roll. An init phase sets the targets to the aircraft's altitude and heading.
 abbrev pub autopilot : Kind
 autopilot = record {
   name = codes "autopilot";
