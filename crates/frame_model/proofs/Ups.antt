@@ -54,7 +54,7 @@ up_step : (script : ScriptParts) (p f : ℕ) (b : Bool) → IfSome (latest_halt 
 up_step script p f true below = restarted_more script p f f (omega arith) ∙ rw (not_restarted script p f, and-false (is_up script p f)) refl
 up_step script p f false below = since_more script p f (latest_halt script p f) below ∙ rw (and-true (is_up script p f)) refl
 
--- A processor is up in a frame if it was up at the end of the preceding frame or restarts in this one.
+-- A processor is up in a frame if and only if it was up at the end of the preceding frame or restarts in the frame.
 pub up_again : (script : ScriptParts) (p f : ℕ) → is_up script p f ≡ (is_up_before script p f || restarts_in script p f)
 up_again script p zero = refl
 up_again script p (suc f) = up_step script p f (halts_in script p f) (latest_below script p f)

@@ -25,8 +25,8 @@ committing sys input = bit_and (frame_env sys input).up (bit_not w8 input.early)
 abbrev pub commits_in : Sys → Input → ℕ → Bool
 commits_in sys input p = has_bit (committing sys input) p
 
--- The processors that are up at the end of the frame, as bits: those that are up and do not halt, before or after their
--- mark.
+-- The processors that are up at the end of the frame, as bits: those that are up in the frame and do not halt in it,
+-- before or after their mark.
 abbrev pub up_after : Sys → Input → ℕ
 up_after sys input = bit_and (frame_env sys input).up (bit_not w8 (bit_or input.early input.late))
 

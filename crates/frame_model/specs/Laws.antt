@@ -35,7 +35,7 @@ abbrev pub AreasAreKept : Type 0
 AreasAreKept = (spec : Parts) (script : ScriptParts) (f a : ℕ) → a < 8
     → IsSlotOfKeeper (keeper_at (state_after spec script f).keepers a) (area_at (state_after spec script f).areas a) (λ p. slot_after spec script p f a)
 
--- If two scripts agree up to frame `f`, they have the same row of frame `f` and the same state after it.
+-- If two scripts agree up to frame `f`, they have the same row of frame `f` and the same state after frame `f`.
 abbrev pub LaterIsUnseenInRows : Type 0
 LaterIsUnseenInRows = (spec : Parts) (one other : ScriptParts) (f : ℕ) → AgreeUpTo f one other
     → (row_at spec one f ≡ row_at spec other f) × (state_after spec one (suc f) ≡ state_after spec other (suc f))

@@ -26,8 +26,8 @@ after_halting spec to age =
     else (if nat_lt (age - preparing_time spec to) (initialising_time spec to) then Initialising to (age - preparing_time spec to)
     else Running to)
 
--- The phase of a reconfiguration to `to` in the frame that is `age` frames after its first frame. The halting phase
--- comes first if a configuration halts.
+-- The phase of a reconfiguration to `to`, `age` frames after its phases began. The halting phase comes first if a
+-- configuration halts.
 abbrev pub moving_phase : Parts → Option ConfId → ConfId → ℕ → Phase
 moving_phase spec None to age = after_halting spec to age
 moving_phase spec (Some c) to age =

@@ -84,7 +84,7 @@ ShowAlike seen other = (mode : Mode) (own : List ℤ) → seen_in other mode own
 abbrev pub seen_by : Parts → Env → State → Mode → ℕ → Seen
 seen_by spec v state mode a = seen_in (seen_by_all spec v state) mode (area_at state.areas a)
 
--- The area of application `a` after a task by the law of its kind.
+-- The area of application `a` after a task, by the law of the application's kind.
 abbrev pub law_of : Parts → Env → State → Task → ℕ → List ℤ
 law_of spec v state task a = law (kind_of_app spec a) task.order (seen_by spec v state task.mode a)
 

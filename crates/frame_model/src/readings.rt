@@ -17,9 +17,9 @@ pub enum Reading {
 }
 
 /// Reads the row of a frame. Returns the new reading, and the reconfiguration that ends with the row, if any. The
-/// first row that does not run the configuration makes the reading `Leaving`. The first later row that runs some
-/// configuration makes the reading `Steady` and ends the reconfiguration. If that row runs several, the one with the
-/// smallest number counts.
+/// first row that does not run the configuration of a `Steady` reading makes the reading `Leaving`. The first later
+/// row that runs some configuration makes the reading `Steady` and ends the reconfiguration. If that row runs
+/// several, the one with the smallest number counts.
 pub fn read_row(
     spec: &Spec,
     reading: Reading,
