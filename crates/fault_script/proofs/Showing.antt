@@ -13,8 +13,8 @@ use Rattle.fault_script.specs.Times.{is_up, value_after}
 use Rattle.fault_script.specs.Fits.{IsChange}
 use Rattle.fault_script.specs.Laws.{EnvironmentsShow}
 
--- If the value before a change has a property, and the change sets a value with that property, so does the value
--- after it.
+-- If the value before a change has a property, and the change sets a value with that property, the value after the
+-- change has the property.
 keeps : (P : ℕ → Type 0) (b : Bool) (new old : ℕ) → (b ≡ true → P new) → P old → P (if b then new else old)
 keeps P true new old made had = made refl
 keeps P false new old made had = had

@@ -9,7 +9,8 @@ use Rattle.scram_types.specs.Scripts.{ScriptParts}
 use Rattle.scram_types.specs.Specification.{Each, Parts}
 use Rattle.fault_script.specs.Times.{words}
 
--- A change is in a frame after frame 0 and before frame `frames`. Its factor exists and has the value.
+-- A change is in a frame after frame 0 and before frame `frames`. Its factor exists and has a value with the index
+-- that the change sets.
 pub record IsChange (spec : Parts) (frames : ℕ) (change : Change) : Type 0 where
   pub least : 1 ≤ change.frame
   pub most : change.frame < frames

@@ -1,4 +1,4 @@
--- The script that a document encodes, or the first rule that it breaks.
+-- The script that a document encodes, or the first rule that the document breaks.
 use Rattle.std.specs.Prelude.{ℕ, suc, ◌+◌, ◌==◌, ◌||◌, Bool, List, [], ◌∷◌, ◌++◌, length, codes, Option, Some, None, option_and_then, slice_get, Result, Ok, nat_le, if◌then◌else◌, ⊤}
 use Rattle.serde_json.specs.Data.{Data}
 use Rattle.scram_doc.specs.declared.fault.DocFault.{DocFault}

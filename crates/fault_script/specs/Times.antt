@@ -1,4 +1,4 @@
--- The factors' values in a frame, and the processors that are up in it and commit it.
+-- The factors' values in a frame, the processors that are up in the frame, and the processors that commit it.
 use Rattle.std.specs.Prelude.{ℕ, zero, suc, ◌*◌, Bool, true, not, ◌&&◌, ◌==◌, nat_lt, nat_le, List, [], ◌∷◌, length, find, Option, Some, None, option_map, if◌then◌else◌}
 use Rattle.std.specs.List.{list_any}
 use Rattle.scram_types.specs.declared.scripts.Change.{Change}

@@ -1,4 +1,4 @@
--- Walks along the frames of a script. A walk has the factors' values after the changes up to its frame.
+-- Walks along the frames of a script. A walk contains the factors' values after the changes up to its frame.
 use Rattle.std.specs.Prelude.{◌≡◌, ℕ, zero, suc, ◌+◌, ◌-◌, ◌<◌, ◌≤◌, ◌==◌, List, [], ◌∷◌, slice_get, slice_index, Some, if◌then◌else◌}
 use Rattle.scram_types.specs.declared.scripts.Change.{Change}
 use Rattle.scram_types.specs.Scripts.{ScriptParts}
@@ -38,7 +38,7 @@ HaveCome changes f n = (k : ℕ) (change : Change) → k < n → slice_get chang
 abbrev pub IsWhole : List Change → ℕ → ℕ → Type 0
 IsWhole changes f n = (change : Change) → slice_get changes n ≡ Some change → f < change.frame
 
--- A walk is at frame `f`. It has the environment of that frame, and the number of changes that it has taken.
+-- A walk is at frame `f`. It contains the environment of that frame, and the number of changes that it has taken.
 pub record IsWalk (spec : Parts) (script : ScriptParts) (f : ℕ) (walk : Walk) : Type 0 where
   pub frame : walk.frame ≡ f
   pub taken : HaveCome script.changes f walk.taken

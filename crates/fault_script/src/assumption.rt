@@ -32,9 +32,9 @@ pub struct Outside {
 ///
 /// # Errors
 ///
-/// Returns an error with the first frame that leaves the assumption. A processor halts in that frame, which brings
-/// too many processors down, or else the frame changes the environment once too often for the window that ends with
-/// it.
+/// Returns an error with the first frame that leaves the assumption. Either a processor that halts in that frame
+/// brings too many processors down, or the environment changes in that frame once too often for the window that ends
+/// with the frame.
 pub fn within(spec: &Spec, script: &Script) -> Result<(), Outside>
     requires { Fits spec.now script.now }
     ensures within { OnOk result (first_outside spec.now script.now ≡ None) }

@@ -219,7 +219,8 @@ fn read_restart(spec: &Spec, frames: u32, v: &Value, at: &Path) -> Result<Restar
     Ok(RestartAt { proc, frame })
 }
 
-/// A reader of the restarts of a script with `frames` frames. Each restart must come after the preceding ones.
+/// A reader of the restarts of a script with `frames` frames. Each restart must follow the preceding ones and the
+/// halts as `restart_follows` requires.
 #[derive(Clone, Copy)]
 pub(crate) struct Restarts<'a> {
     pub(crate) spec: &'a Spec,

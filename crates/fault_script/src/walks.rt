@@ -11,8 +11,8 @@ use crate::inputs::{Input, input_at};
 use crate::times::up_at;
 use scram_types::{Change, Env, ProcId, Script, Spec};
 
-/// A walk along the frames of a script, which visits each change once. It has its current frame and the environment
-/// of that frame.
+/// A walk along the frames of a script, which visits each change once. It contains its current frame and the
+/// environment of that frame.
 #[derive(Clone, Copy, Debug)]
 pub struct Walk {
     pub frame: u32,
