@@ -2,8 +2,8 @@
 use Rattle.std.specs.Prelude.{◌≡◌, ℕ, zero, suc, ◌+◌, ◌<◌, ◌≤◌, Bool, true, ◌&&◌, List, [], ◌∷◌, if◌then◌else◌}
 use Rattle.scram_types.specs.Searches.{greatest_below}
 
--- A chart of applications by number, of which there are `apps`. Application `a` is on if `on a` is `true`, and `time
--- a` is the number of frames that it takes. Application `b` goes before `a` if `before b a` is `true`.
+-- A chart of the applications with the numbers below `apps`. Application `a` is on if `on a` is `true`, and `time a`
+-- is the number of frames that `a` takes. Application `b` goes before `a` if `before b a` is `true`.
 pub record Chart : Type 0 where
   pub apps : ℕ
   pub on : ℕ → Bool

@@ -58,17 +58,17 @@ init_offset spec c a = offset (init_chart spec c) a
 abbrev pub where_on : Parts → ConfId → ℕ → ℕ → ℕ
 where_on spec c a n = if is_on spec c a then n else 0
 
--- The number of frames of the halt phase of a configuration, or 0 if nothing is on.
+-- The number of frames of the halt phase of a configuration, or 0 if no application is on.
 abbrev pub halting_time : Parts → ConfId → ℕ
 halting_time spec c = greatest_below (λ a. where_on spec c a (halt_offset spec c a + halt_time spec c a)) (length spec.apps)
 
 -- The number of frames of the prepare phase of a configuration: the maximum prepare time of its applications, or 0 if
--- nothing is on.
+-- no application is on.
 abbrev pub preparing_time : Parts → ConfId → ℕ
 preparing_time spec c = greatest_below (prepare_time spec c) (length spec.apps)
 
 -- The number of frames of the init phase of a configuration, up to the end of the last application's initialisation,
--- or 0 if nothing is on.
+-- or 0 if no application is on.
 abbrev pub initialising_time : Parts → ConfId → ℕ
 initialising_time spec c = greatest_below (λ a. where_on spec c a (init_offset spec c a + init_time spec c a)) (length spec.apps)
 

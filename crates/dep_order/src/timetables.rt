@@ -10,8 +10,8 @@ ghost use Rattle.dep_order.specs.Timetables.{AtMost, Holds, goes_before, is_name
 use scram_types::{AppId, ConfId, Spec};
 
 /// The timetable of a configuration, in frames. `halt` and `init` hold the offset of each application from the
-/// beginning of the halt and of the init phase, or 0 if the application is off. `h`, `p` and `i` are the lengths of the
-/// halt, prepare and init phases, or 0 if nothing is on.
+/// beginning of the halt and of the init phase, or 0 if the application is off. `h`, `p` and `i` are the lengths of
+/// the halt, prepare and init phases, or 0 if no application is on.
 #[derive(Clone, Copy, Debug, PartialEq, Eq)]
 pub struct Times {
     pub halt: [u16; 8],
