@@ -26,8 +26,8 @@ pub fn targets(alloc: Global, spec: &Spec, i: ConfId) -> Result<u16, NoMemory>
     Ok(found.targets)
 }
 
-// Returns the cover of each configuration, followed by empty covers up to 12. The memory of a cover is freed before
-// the next one is computed.
+// Returns the cover of each configuration. The entries past the last configuration are empty covers. The memory of a
+// cover is freed before the next one is computed.
 pub(crate) fn find_covers(alloc: Global, spec: &Spec) -> Result<[Cover; 12], NoMemory>
     ensures { IfOk result (λ covers. HasCovers spec.now covers) }
 {
