@@ -1,4 +1,4 @@
--- The number of environments in scope that a cube holds, and cubes that hold no environment twice.
+-- The number of environments in scope that a cube holds, and lists of cubes that hold no environment twice.
 use Rattle.std.proofs.Common.{◌≡◌, ◌∙◌, ℕ, zero, suc, ◌+◌, ◌-◌, ◌*◌, ◌^◌, ◌<◌, ◌≤◌, ◌/◌, ◌%◌, refl, ap, sym, arith, Bool, true, false, ◌&&◌, List, [], ◌∷◌, ◌++◌, length, drop, take, get_or}
 use mathlib.Core.Logic.{inl, inr}
 use Rattle.std.specs.Prelude.{replicate, slice_index, if◌then◌else◌}

@@ -35,8 +35,8 @@ module _ (spec : Parts) (cube by rest next : Cube) (x : ℕ) where
       ∙ cut_more (holders old v) (holds cube v) (all_below (allows by v) x) (allows by v x)
       ∙ ap (λ (n : ℕ). holders old v + once (holds cube v && not (all_below (allows by v) n))) (plus_one x)
 
--- If a list holds the parts of the first `k` cubes that pass a test, and the part of the next cube is added, the list
--- holds the parts of the first `k + 1` cubes.
+-- Suppose that a list holds those environments of the first `k` cubes that are in a part, and that those of the next
+-- cube are added. Then the list holds those of the first `k + 1` cubes.
 pub parts_more : (spec : Parts) (cubes : List Cube) (k : ℕ) (d : Cube) (part : Env → Bool) (old new : List Cube) → k < length cubes
     → ((v : Env) → IsInScope spec v → holders old v ≡ (if part v then holders (take k cubes) v else 0)) → Gain spec old new (λ v. holds (get_or cubes k d) v && part v)
     → (v : Env) → IsInScope spec v → holders new v ≡ (if part v then holders (take (k + 1) cubes) v else 0)
