@@ -65,7 +65,7 @@ pub record IsMember (spec : Parts) (count : ℕ) (faults : List Fault) : Type 0 
 abbrev pub Contains : {A : Type 0} → List A → A → Type 0
 Contains {A} xs x = (i : ℕ) × (slice_get xs i ≡ Some x)
 
--- The family contains a list of faults if and only if the list is a member.
+-- The family contains a list of faults if and only if the list satisfies `IsMember`.
 pub record HasMembers (spec : Parts) (count : ℕ) (faults : List Fault) : Type 0 where
   pub sound : Contains (family spec count) faults → IsMember spec count faults
   pub complete : IsMember spec count faults → Contains (family spec count) faults
