@@ -11,8 +11,9 @@ pub fn offsets_are_greatest_sums()
 {}
 
 /// States that each phase of an application that is on ends within the same phase of the configuration and takes at
-/// least one frame. If an application is on, some application has halt offset 0 and some application has init offset
-/// 0. The halt phase and the init phase take at most 128 frames, and the prepare phase takes at most 16.
+/// least one frame. If an application is on, some application has a halt offset of 0, and some application has an
+/// init offset of 0. The halt phase and the init phase take at most 128 frames, and the prepare phase takes at
+/// most 16.
 pub fn phases_end_in_time()
     ensures { PhasesEndInTime }
 {}
