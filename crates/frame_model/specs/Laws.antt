@@ -79,7 +79,7 @@ pub record RunsFirst (spec : Parts) (j : ConfId) (row : Row) : Type 0 where
   pub here : runs spec row.acts j ≡ true
   pub least : (c : ℕ) → c < j.0 → runs spec row.acts (conf_id c) ≡ false
 
--- The readings of rows from frame `f` on, before which configuration `c` runs.
+-- Rows from frame `f` on, before which configuration `c` runs, are read in the following way.
 pub record ReadsAsTold (spec : Parts) (c : ConfId) (f : ℕ) : Type 0 where
   -- If each row runs `c`, no reconfiguration is read.
   pub quiet : (rows : List Row) → All (Runs spec c) rows → (ended_in spec (Steady c) f rows ≡ []) × (reading_after spec (Steady c) f rows ≡ Steady c)
