@@ -68,7 +68,7 @@ pub record IsKept (spec : Parts) (inv : Invariant) (i : ConfId) : Type 0 where
   pub leaving : holds_leaving spec inv (place_of spec i inv.app.0) ≡ true
   pub reaching : (j : ConfId) → IsTarget spec i j → holds_reaching spec inv (place_of spec j inv.app.0) ≡ true
 
--- The conditions A1 to A13, under which a specification is accepted.
+-- The specification satisfies the conditions A1 to A13, under which it is accepted.
 pub record Accepts (spec : Parts) : Type 0 where
   pub needs_on : (c : ConfId) (a : ℕ) → c.0 < length spec.confs → a < length spec.apps → lacks_need spec c a ≡ false
   pub few_states : states spec ≤ MAX_ENVIRONMENTS
