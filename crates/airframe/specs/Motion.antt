@@ -1,15 +1,16 @@
--- One step of the aircraft. Each number that is read is clamped to its range.
+-- One step of the aircraft. Each number that is read is clamped to its range. The new climb, bank and altitude are
+-- clamped too.
 use Rattle.std.specs.Prelude.{ℕ, ℤ, ◌+ℤ◌, ◌-ℤ◌, ◌≤ℤ◌, pos}
 use Rattle.scram_types.specs.declared.rows.World.{World}
 use Rattle.scram_types.specs.Numbers.{minus, part, modulo}
 use Rattle.scram_types.specs.Ranges.{clamp_in, limit}
 use Rattle.airframe.specs.declared.motion.Motion.{Motion}
 
--- The number `x`, moved toward `target` by one part in `n` of the difference, rounded toward zero.
+-- The number `x`, moved toward `target` by one part in `n` of the difference. The part is rounded toward zero.
 unfoldable pub toward : ℤ → ℤ → ℕ → ℤ
 toward x target n = x +ℤ part (target -ℤ x) n
 
--- The number `x` plus a tenth of `y`, rounded toward zero.
+-- The number `x` plus a tenth of `y`. The tenth is rounded toward zero.
 unfoldable pub plus_tenth : ℤ → ℤ → ℤ
 plus_tenth x y = x +ℤ part y 10
 

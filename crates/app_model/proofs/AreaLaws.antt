@@ -1,4 +1,4 @@
--- The areas that the laws give lie in the ranges of the tables.
+-- The areas that the laws define lie in the ranges of the tables.
 use Rattle.std.proofs.Common.{◌≡◌, refl, sym, subst, ℕ, zero, suc, ℤ, pos, ◌<◌, ◌+◌, ◌-◌, ◌==◌, eq-eqb, Bool, true, false, if◌then◌else◌, arith}
 use Rattle.std.specs.Prelude.{List}
 use Rattle.std.proofs.lemmas.Int.{ints}

@@ -1,4 +1,4 @@
--- Each area that a kind's law gives has eight words.
+-- Each area that the law of a kind defines has eight words.
 use Rattle.std.proofs.Common.{◌≡◌, ℕ, zero, suc, ◌+◌, refl, Bool, true, false, List, length}
 use Rattle.std.specs.Prelude.{ℤ, ◌==◌, if◌then◌else◌}
 use Rattle.scram_types.specs.declared.orders.Order.{Order}

@@ -1,4 +1,4 @@
--- The area after a run of an application of any kind lies in the ranges of its mode.
+-- The area after a run of an application of any kind lies in the ranges of the application's mode.
 use Rattle.std.proofs.Common.{◌≡◌, refl, ℕ, ℤ, pos, ◌+ℤ◌, ◌-ℤ◌, ◌≤ℤ◌, ◌<◌, ◌==◌, if◌then◌else◌, arith}
 use Rattle.std.proofs.lemmas.Int.{ints, clamps}
 use Rattle.app_model.specs.declared.seen.Seen.{Seen}

@@ -10,7 +10,7 @@ use Rattle.scram_types.proofs.Booleans.{and_right}
 use Rattle.scram_types.proofs.Equality.{same_text}
 use Rattle.app_model.proofs.Within.{each_kind}
 
--- The text is a name of the table.
+-- Whether the text is a name of the table.
 abbrev stands : List (Option (List ℕ)) → List ℕ → Bool
 stands [] text = false
 stands (name ∷ names) text = is_spelled name text || stands names text
@@ -19,7 +19,7 @@ abbrev is_new : Option (List ℕ) → List (Option (List ℕ)) → Bool
 is_new None names = true
 is_new (Some name) names = not (stands names name)
 
--- No name of the table occurs twice.
+-- Whether no name of the table occurs twice.
 abbrev differ : List (Option (List ℕ)) → Bool
 differ [] = true
 differ (name ∷ names) = is_new name names && differ names

@@ -1,4 +1,5 @@
--- The ranges of one table lie within the ranges of another.
+-- The ranges after a halt or an init phase lie within those during the phase, and the sane ranges contain all ranges
+-- of a word.
 use Rattle.std.proofs.Common.{◌≡◌, ◌≤◌, ℕ, zero, suc, ℤ, pos, ◌<◌, ◌==◌, Bool, true, false, if◌then◌else◌, arith, refl}
 use Rattle.std.proofs.lemmas.Int.{ints}
 use Rattle.scram_types.specs.declared.ranges.Range.{Range}
@@ -124,7 +125,7 @@ task_widest mode = each (λ i. Narrower (mode_range 5 mode i) (mode_range 5 (wid
 widest_holds : (kind : ℕ) → kind < 6 → WidestHolds kind
 widest_holds = each_kind WidestHolds autopilot_widest flight_control_widest power_monitor_widest navigator_widest data_link_widest task_widest
 
--- If one range is narrower than another, the minimum and the maximum of the one lie within those of the other.
+-- If range `r` is narrower than range `s`, the minimum and the maximum of `r` lie within those of `s`.
 inside : (r s : Range) → Narrower r s → Inside (ends r) (ends s)
 inside r s n = record { least = omega (arith, ints, n.below); greatest = omega (arith, ints, n.above) }
 
@@ -147,7 +148,7 @@ sane_is : (kind i : ℕ) → 0 < i → i < 8 → sane kind i ≡ ends (mode_rang
 unfolding sane sane_range
 sane_is kind = each (λ i. sane kind i ≡ ends (mode_range kind (widest_mode kind) i)) refl refl refl refl refl refl refl
 
--- A halt does not move the status.
+-- The status is not a variable that a halt brings to 0.
 pub status_stays : (kind : ℕ) → kind < 6 → is_moving kind 0 ≡ false
 unfolding is_moving kind_variable
 status_stays = each_kind (λ kind. is_moving kind 0 ≡ false) refl refl refl refl refl refl

@@ -1,4 +1,4 @@
--- The ranges in which the words of the areas given by the laws lie.
+-- The ranges in which the words of an area lie after an order.
 use Rattle.std.specs.Prelude.{ℕ, ℤ, ◌≤ℤ◌, ◌<◌, ◌≤◌, ◌+◌, ◌≡◌, List, Option, Some, None}
 use Rattle.scram_types.specs.declared.orders.Order.{Order}
 use Rattle.scram_types.specs.declared.orders.Order.TheVariants.{Run, Hold, Halt, Prepare, Init, Off}
@@ -17,7 +17,8 @@ pub record Between (range : ℤ × ℤ) (x : ℤ) : Type 0 where
 abbrev pub AreaLies : (ℕ → ℤ × ℤ) → List ℤ → Type 0
 AreaLies range area = (i : ℕ) → i < 8 → Between (range i) (word area i)
 
--- The status that an order leaves in an area, or `None` if the order leaves the area unchanged or sets it to zeros.
+-- The status of an application after an order. The value is `None` for `Hold`, which does not change the area, and
+-- for `Off`, which sets the area to zeros.
 abbrev pub status_of : Order → Option ℕ
 status_of Run = Some 1
 status_of (Halt k n) = Some 2
@@ -26,8 +27,8 @@ status_of (Prepare k n) = Some 3
 status_of (Init k n) = Some 4
 status_of Off = None
 
--- For every kind, order and mode, and whatever the application sees, the area that the law gives lies in the ranges
--- of the status that the order leaves.
+-- Whatever an application of one of the six kinds sees, its area after an order with a status lies in the ranges of
+-- that status in the application's mode.
 abbrev pub LawLiesDuring : Type 0
 LawLiesDuring = (kind status : ℕ) (order : Order) (seen : Seen) → kind < 6 → status_of order ≡ Some status
     → AreaLies (during kind status seen.mode.0) (law kind order seen)
@@ -51,8 +52,8 @@ pub record Inside (inner outer : ℤ × ℤ) : Type 0 where
   pub least : outer.0 ≤ℤ inner.0
   pub greatest : inner.1 ≤ℤ outer.1
 
--- The ranges of word `i` after a halt and after an init phase lie in the range during that phase, and the sane range
--- contains the range of every status.
+-- The range of word `i` after a halt lies in its range during a halt, and the range after an init phase lies in the
+-- range during an init phase. The sane range contains the range of every status from 0 to 4.
 pub record TablesNarrow (kind mode i : ℕ) : Type 0 where
   pub halt : Inside (after_halt kind mode i) (during kind 2 mode i)
   pub init : Inside (after_init kind mode i) (during kind 4 mode i)

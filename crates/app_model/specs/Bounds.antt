@@ -1,4 +1,4 @@
--- The tables of ranges, given as minima and maxima. They include the status, which is word 0.
+-- The tables of ranges, given as minima and maxima. The tables include the status, which is word 0.
 use Rattle.std.specs.Prelude.{ℕ, ℤ, pos, ◌==◌, if◌then◌else◌}
 use Rattle.scram_types.specs.declared.ranges.Range.{Range}
 use Rattle.scram_types.specs.Numbers.{minus}

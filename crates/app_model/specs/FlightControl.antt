@@ -8,7 +8,8 @@ use Rattle.app_model.specs.declared.kinds.flight_control.TheConstants.{AILERON, 
 use Rattle.scram_types.specs.Ranges.{clamp_in, limit}
 use Rattle.app_model.specs.Reads.{own_word, lead_word, ticks_after}
 
--- The autopilot's command in word `i` of its area, the pitch or the roll, or 0 if the autopilot does not run.
+-- Word `i` of the area of the lowest-numbered autopilot, which is the pitch or the roll command. The value is 0 if
+-- the status of this autopilot is not 1.
 unfoldable pub command : Seen → ℕ → ℤ
 command seen i = if int_eq (lead_word autopilot.KIND seen STATUS) (pos 1) then lead_word autopilot.KIND seen i else pos 0
 
@@ -16,15 +17,15 @@ command seen i = if int_eq (lead_word autopilot.KIND seen STATUS) (pos 1) then l
 unfoldable pub closer : ℤ → ℤ → ℕ → ℤ
 closer x target step = x +ℤ clamp_in (limit step step) (target -ℤ x)
 
--- The elevator, in tenths of a degree: moved toward the pitch command in `augmented`, and twice that command in every
--- other mode.
+-- The elevator, in tenths of a degree. In `augmented` it is moved toward the pitch command by at most 40 and clamped
+-- to the range from -100 to 100. In every other mode it is twice the pitch command.
 unfoldable pub elevator_after : Seen → ℤ
 elevator_after seen =
     if seen.mode.0 == AUGMENTED then clamp_in (limit 100 100) (closer (own_word KIND seen ELEVATOR) (command seen autopilot.PITCH) 40)
     else pos 2 *ℤ command seen autopilot.PITCH
 
--- The aileron, in tenths of a degree: moved toward the roll command in `augmented`, and twice that command in every
--- other mode.
+-- The aileron, in tenths of a degree. In `augmented` it is moved toward the roll command by at most 60 and clamped to
+-- the range from -150 to 150. In every other mode it is twice the roll command.
 unfoldable pub aileron_after : Seen → ℤ
 aileron_after seen =
     if seen.mode.0 == AUGMENTED then clamp_in (limit 150 150) (closer (own_word KIND seen AILERON) (command seen autopilot.ROLL) 60)

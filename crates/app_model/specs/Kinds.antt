@@ -11,8 +11,9 @@ use Rattle.app_model.specs.declared.kinds.navigator.TheConstants.{ROUTE}
 use Rattle.app_model.specs.declared.kinds.data_link.TheConstants.{FAST}
 use Rattle.app_model.specs.declared.kinds.task.TheConstants.{FULL}
 
--- A word of a kind's area: its name, or `None` if the kind does not use the word, its ranges by mode, its ranges
--- after an init phase, whether a halt brings it to 0, and the value that an application begins with.
+-- A word of a kind's area. `name` is `None` if the kind does not use the word. `ranges` are the word's ranges by
+-- mode, and `initialised` are its ranges after an init phase. `moves` is `true` if a halt brings the word to 0.
+-- `start` is the value with which the word begins.
 pub record Variable : Type 0 where
   pub name : Option (List ℕ)
   pub ranges : List Range
@@ -20,8 +21,8 @@ pub record Variable : Type 0 where
   pub moves : Bool
   pub start : ℤ
 
--- A kind: its name, the names of its modes by number, the mode that has the widest range of each variable, and the
--- eight words of its area. Mode 0, off, has no name.
+-- A kind of application. `modes` are the names of its modes by number, and mode 0, off, has no name. `widest` is the
+-- mode that has the widest range of each variable. `variables` are the eight words of its area.
 pub record Kind : Type 0 where
   pub name : List ℕ
   pub modes : List (Option (List ℕ))
@@ -48,7 +49,7 @@ always below above = limit below above ∷ []
 abbrev pub at_zero : List Range
 at_zero = always 0 0
 
--- The range `first` for mode 1 and the range `second` for mode 2.
+-- The range `first` for mode 1 and the range `second` for every other mode.
 abbrev pub by_mode : Range → Range → List Range
 by_mode first second = first ∷ second ∷ []
 
@@ -68,7 +69,7 @@ ticks = lasting (codes "ticks") (always 0 1000000) 0
 abbrev pub unused : Variable
 unused = record { name = None; ranges = at_zero; initialised = at_zero; moves = false; start = pos 0 }
 
--- The kind that commands pitch and roll. An init phase sets its targets to the aircraft's altitude and heading.
+-- The kind that commands pitch and roll. An init phase sets the targets to the aircraft's altitude and heading.
 abbrev pub autopilot : Kind
 autopilot = record {
   name = codes "autopilot";
@@ -104,7 +105,7 @@ flight_control = record {
       [];
 }
 
--- The kind that keeps account of the alternators and the battery.
+-- The kind that tracks the supply of the alternators and the charge of the battery.
 abbrev pub power_monitor : Kind
 power_monitor = record {
   name = codes "power_monitor";
@@ -184,7 +185,7 @@ unfoldable pub kind_variable : ℕ → ℕ → Variable
 kind_variable kind i = slice_index_or (kind_or_last kind).variables i unused
 
 -- The range of mode `mode` in a list of up to three ranges for modes 1, 2 and 3. Every other mode has the last range
--- of the list.
+-- of the list. If the list is empty, the range contains only 0.
 abbrev pub range_in : List Range → ℕ → Range
 range_in [] mode = limit 0 0
 range_in (only ∷ []) mode = only

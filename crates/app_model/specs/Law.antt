@@ -11,7 +11,7 @@ use Rattle.app_model.specs.Navigator.{navigator_ran}
 use Rattle.app_model.specs.DataLink.{data_link_ran}
 use Rattle.app_model.specs.Tasks.{task_ran}
 
--- The functions that give the area after a run, in the order of the kinds' numbers.
+-- The functions that return the area after a run, in the order of the kinds' numbers.
 abbrev pub runs_of_kinds : List (Seen → List ℤ)
 runs_of_kinds = autopilot_ran ∷ flight_control_ran ∷ power_monitor_ran ∷ navigator_ran ∷ data_link_ran ∷ task_ran ∷ []
 

@@ -27,7 +27,7 @@ name_in names number = option_and_then (λ (name : Option (List ℕ)). name) (sl
 abbrev pub mode_text : ℕ → ℕ → List ℕ
 mode_text kind mode = option_map_or (λ (name : List ℕ). name) (name_in (mode_names kind) mode) []
 
--- The entry of a table is a name with this text.
+-- Whether the entry of a table is a name that equals `text`.
 abbrev pub is_spelled : Option (List ℕ) → List ℕ → Bool
 is_spelled None text = false
 is_spelled (Some name) text = bytes_eq name text
@@ -52,8 +52,8 @@ pub record NamesAgree (names : List (Option (List ℕ))) : Type 0 where
   pub named : (number : ℕ) (text : List ℕ) → name_in names number ≡ Some text → number_in names text ≡ Some number
   pub spelled : (number : ℕ) (text : List ℕ) → number_in names text ≡ Some number → name_in names number ≡ Some text
 
--- The kind has a name. Each of its modes and no other number has a name as a mode, the look-ups agree, and each named
--- variable is one of the eight words.
+-- The kind has a name. A number has a name as a mode if and only if it is the number of a mode of the kind. The
+-- look-ups of modes agree, and so do those of variables. Each named variable is one of the eight words.
 pub record KindIsNamed (kind : ℕ) : Type 0 where
   pub name : IsSome (name_in kind_names kind)
   pub modes : NamesAgree (mode_names kind)

@@ -16,7 +16,7 @@ bearing_error_after seen = short_turn (goal_heading seen) (heading seen)
 unfoldable pub climb_left_after : Seen → ℤ
 climb_left_after seen = if seen.mode.0 == ROUTE then clamp_in (limit 5000 5000) (goal_altitude seen -ℤ altitude seen) else pos 0
 
--- The number `x` lies between `-most` and `most`, inclusive.
+-- Whether the number `x` lies between `-most` and `most`, inclusive.
 unfoldable pub near : ℤ → ℕ → Bool
 near x most = int_le (minus most) x && int_le x (pos most)
 

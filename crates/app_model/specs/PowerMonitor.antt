@@ -5,16 +5,16 @@ use Rattle.app_model.specs.declared.kinds.power_monitor.TheConstants.{CHARGE, KI
 use Rattle.scram_types.specs.Ranges.{clamp_in, limit}
 use Rattle.app_model.specs.Reads.{own_word, ticks_after}
 
--- The charge units that an alternator gives in a frame, given the value of its factor: 60 if the value is 0, for
--- which the alternator works, and 0 otherwise.
+-- The charge units that an alternator supplies in a frame, given the value of its factor. They are 60 if the value is
+-- 0, at which the alternator works, and 0 otherwise.
 unfoldable pub alternator_gives : ℕ → ℤ
 alternator_gives value = if value == 0 then pos 60 else pos 0
 
--- The charge units that both alternators give in a frame.
+-- The charge units that both alternators supply in a frame.
 unfoldable pub supply_after : Seen → ℤ
 supply_after seen = alternator_gives (slice_index seen.factors 0) +ℤ alternator_gives (slice_index seen.factors 1)
 
--- The charge units that the mode takes in a frame.
+-- The charge units that the loads take in a frame in this mode.
 unfoldable pub demand_after : Seen → ℤ
 demand_after seen = if seen.mode.0 == NORMAL then pos 100 else (if seen.mode.0 == SAVER then pos 60 else pos 20)
 

@@ -19,6 +19,6 @@ widest_mode kind = (kind_or_last kind).widest
 unfoldable pub sane_range : ℕ → ℕ → Range
 sane_range kind i = mode_range kind (widest_mode kind) i
 
--- A halt brings word `i` to 0.
+-- Whether a halt brings word `i` to 0.
 unfoldable pub is_moving : ℕ → ℕ → Bool
 is_moving kind i = (kind_variable kind i).moves

@@ -6,8 +6,8 @@ ghost use Rattle.app_model.specs.Law.{law};
 use crate::seen::Seen;
 use scram_types::{Area, KindId, Order};
 
-/// An application of a kind. It may keep any state, but its answer in a frame depends only on the order and on what
-/// the application sees.
+/// An application of a kind. It may keep any state, but the area that it returns in a frame depends only on the order
+/// and on what the application sees.
 pub trait App: Drop {
     ghost kind_of: { Self → ℕ };
 

@@ -7,8 +7,8 @@ use crate::comparisons::{same_order, same_seen};
 use crate::seen::Seen;
 use scram_types::{Area, Order};
 
-/// The last call of an application: the kind, the order, the view of the application, and the answer, which is the
-/// law of the kind.
+/// The last call of an application: the kind, the order, the view of the application, and the answer. The answer is
+/// the area that the law of the kind defines for this call.
 #[derive(Clone, Copy)]
 pub struct LastCall {
     kind: u8,

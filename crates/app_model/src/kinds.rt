@@ -51,7 +51,7 @@ pub mod flight_control {
     pub const COMMAND_ROLL: usize = 4;
 }
 
-/// The power monitor: it keeps account of the battery's charge.
+/// The power monitor: it tracks the battery's charge.
 pub mod power_monitor {
     /// The kind's number.
     pub const KIND: u8 = 2;
@@ -63,7 +63,7 @@ pub mod power_monitor {
     pub const ESSENTIAL: u8 = 3;
     /// The battery's charge, in charge units: 0 to 10,000.
     pub const CHARGE: usize = 1;
-    /// The charge units that the alternators give in a frame: 0 to 120.
+    /// The charge units that the alternators supply in a frame: 0 to 120.
     pub const SUPPLY: usize = 2;
     /// The charge units that the loads take in a frame: 0 to 100 in `normal`, 0 to 60 in `saver`, 0 to 20 in
     /// `essential`.

@@ -1,10 +1,10 @@
-//! Theorems on the definitions: the laws of all kinds keep the ranges of the tables. Each function here states a
-//! theorem by its contract and does nothing.
+//! Theorems on the definitions: the areas that the laws of all kinds define lie in the ranges of the tables. Each
+//! function here states a theorem by its contract and does nothing.
 
 ghost use Rattle.app_model.specs.Areas.{LawLiesDuring, LawLiesAfterHalt, LawLiesAfterInit, StartLiesAfterInit, AllTablesNarrow};
 
-/// States that the area that the law of a kind gives lies in the ranges of the status that the order leaves, whatever
-/// the application sees. The ranges are those of the mode that the application is to be in.
+/// States that whatever an application sees, its area after an order with a status lies in the ranges of that status.
+/// The ranges are those of the mode that the application is to be in.
 pub fn law_lies_during()
     ensures { LawLiesDuring }
 {}
@@ -24,8 +24,8 @@ pub fn start_lies_after_init()
     ensures { StartLiesAfterInit }
 {}
 
-/// States that the ranges after a halt and after an init phase lie in the ranges during that phase, and that the sane
-/// ranges contain all other ranges.
+/// States that the ranges after a halt lie in those during a halt, and the ranges after an init phase in those during
+/// an init phase. The sane ranges contain all other ranges.
 pub fn tables_narrow()
     ensures { AllTablesNarrow }
 {}

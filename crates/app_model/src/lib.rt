@@ -1,6 +1,6 @@
-//! Applications in boxes, and their laws. Whatever state an application keeps, its answer in a frame is the law of
-//! its kind, computed from the order and from what the application sees. The area that it answers lies in the ranges
-//! of its status.
+//! Applications in boxes, and their laws. Whatever state an application keeps, the area that it returns in a frame is
+//! defined by the law of its kind, given the order and what the application sees. Each word of the area lies in its
+//! range for the application's status.
 #![tactic(auto)]
 
 pub mod all_laws;

@@ -22,7 +22,8 @@ pub trait KindLaw: Drop {
         ensures { result ≡ law number order seen.now };
 }
 
-/// A box of a kind that remembers its last call and repeats its last answer if the call is the same.
+/// A box of a kind that remembers its last call. If the next call equals the last call, the box repeats the last
+/// answer.
 #[derive(Drop)]
 pub struct Remembering<L: KindLaw> {
     last: Option<LastCall>,

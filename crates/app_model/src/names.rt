@@ -82,7 +82,7 @@ fn number_in(names: &[Option<&str>], text: &str) -> Option<u8>
     None
 }
 
-/// Returns the kind with this name, or `None` if no kind has it.
+/// Returns the kind with this name, or `None` if no kind has this name.
 pub fn kind_named(name: &str) -> Option<KindId>
     ensures kind { option_map (λ kind. kind.0) result ≡ number_in kind_names name.now }
     ensures built { IfSome result (λ kind. kind.0 < 6) }

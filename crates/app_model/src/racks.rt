@@ -76,7 +76,8 @@ pub fn racks_fit(racks: &[Rack]) -> bool
     racks.len() == 8 && all_racks_fit(racks)
 }
 
-/// Returns the answer of a box to an order, which is the law of its kind. The kind of the box does not change.
+/// Returns the area that a box computes for an order, by the law of the box's kind. The kind of the box does not
+/// change.
 pub fn box_frame(app: &mut Box<dyn App + Send>, order: Order, seen: &Seen) -> Area
     ensures answer { result ≡ law (kind_of app.old) order seen.now }
     ensures same { kind_of app.new ≡ kind_of app.old }
@@ -84,7 +85,7 @@ pub fn box_frame(app: &mut Box<dyn App + Send>, order: Order, seen: &Seen) -> Ar
     app.frame(order, seen)
 }
 
-// Returns the answer of the box if it is of kind `kind`, and the law of the kind otherwise.
+// Returns the area that the box computes if the box is of kind `kind`, and the area by the law of the kind otherwise.
 fn box_or_law(app: &mut Box<dyn App + Send>, kind: KindId, order: Order, seen: &Seen) -> Area
     ensures answer { result ≡ law kind.0 order seen.now }
     ensures same { kind_of app.new ≡ kind_of app.old }
@@ -97,8 +98,9 @@ fn box_or_law(app: &mut Box<dyn App + Send>, kind: KindId, order: Order, seen: &
 }
 
 /// Returns the area of an application of kind `kind` after a frame with this order. The box at the kind's index
-/// answers if it is of that kind; otherwise the law is computed anew. Therefore the result is the law of the kind,
-/// whatever boxes the rack has. The kinds of the boxes and the boxes at other indices do not change.
+/// computes the area if the box is of that kind. Otherwise the function computes the law itself. Therefore the result
+/// follows the law of the kind, whatever boxes the rack has. The kinds of the boxes and the boxes at other indices do
+/// not change.
 // No clause depends on the precondition. A function that takes boxes by `&mut` without a precondition counts as a
 // function that may create boxes, and each function that calls it without a precondition does too.
 pub fn rack_frame(rack: &mut Rack, kind: KindId, order: Order, seen: &Seen) -> Area
@@ -116,8 +118,8 @@ pub fn rack_frame(rack: &mut Rack, kind: KindId, order: Order, seen: &Seen) -> A
 }
 
 /// Returns the area of an application of kind `kind` after a frame with this order. The rack of processor `proc`
-/// answers as in `rack_frame`; if there is no such rack, the law is computed anew. The kinds of the boxes and the
-/// racks of other processors do not change.
+/// computes the area as in `rack_frame`. If there is no such rack, the function computes the law itself. The kinds of
+/// the boxes and the racks of other processors do not change.
 pub fn racks_frame(
     racks: &mut [Rack],
     proc: ProcId,

@@ -15,7 +15,8 @@ pub struct Variable {
     pub name: Option<&'static str>,
     /// The ranges in modes 1, 2 and 3. Every other mode has the last range of the list.
     pub ranges: &'static [Range],
-    /// The ranges after the last frame of an init phase, in the same form.
+    /// The ranges in modes 1, 2 and 3 after the last frame of an init phase. Every other mode has the last range of
+    /// the list.
     pub initialised: &'static [Range],
     /// Whether a halt brings the word to 0.
     pub moves: bool,
@@ -223,7 +224,8 @@ pub fn kind_or_last(kind: u8) -> Kind
     }
 }
 
-/// Returns word `i` of the area of a kind.
+/// Returns the word at index `variable` of the area of a kind, or an unused word if `variable` is 8 or more. If there
+/// is no such kind, the area is that of the task.
 pub fn kind_variable(kind: u8, variable: usize) -> Variable
     ensures { variable_read result ≡ kind_variable kind variable }
 {
@@ -234,7 +236,7 @@ pub fn kind_variable(kind: u8, variable: usize) -> Variable
 }
 
 /// Returns the range of a mode in a list of up to three ranges for modes 1, 2 and 3. Every other mode has the last
-/// range of the list.
+/// range of the list. If the list is empty, the range contains only 0.
 pub fn range_in(ranges: &[Range], mode: u8) -> Range
     ensures { result ≡ range_in ranges.now mode }
 {

@@ -4,8 +4,9 @@ use Rattle.scram_types.specs.Lookups.{proc_id}
 use Rattle.bank_words.specs.declared.events.Event.{Event}
 use Rattle.bank_words.specs.declared.events.Event.TheVariants.{Start, Look, Store, Flip, Done, Halt, KNote, KStore, Release}
 
--- The code of an event: 65536 times the number of its kind, plus its number. An event with two numbers has 256 times
--- the first number plus the second number instead.
+-- The code of an event: 65536 times the number of its kind, plus the number in the event. An event without a number
+-- counts as one with number 0. An event with two numbers counts as one with 256 times the first number plus the
+-- second.
 abbrev pub event_code : Event → ℕ
 event_code (Start p) = p.0
 event_code (Look p q) = 65536 + 256 * p.0 + q.0
@@ -51,6 +52,6 @@ event_in kind n =
     else if kind == 8 then (if n == 0 then Some Release else None)
     else None
 
--- The event with this code, or `None` if no event has it.
+-- The event with this code, or `None` if no event has this code.
 abbrev pub event_of : ℕ → Option Event
 event_of code = event_in (code / 65536) (code % 65536)

@@ -16,8 +16,8 @@ conf_word None = 0
 conf_word (Some c) = suc c.0
 
 -- The five words of a kernel mode. For a stable mode they are 0, the configuration, and three zeros. For a
--- reconfiguration they are 1, the configuration that is left, the configuration that halts, the target, and the frame
--- in which the halting phase began.
+-- reconfiguration they are 1, the configuration that is left, the word of the configuration that halts (`conf_word`),
+-- the target, and the frame in which the phases began.
 abbrev pub mode_words : KMode → List ℕ
 mode_words (Stable c) = 0 ∷ c.0 ∷ 0 ∷ 0 ∷ 0 ∷ []
 mode_words (Moving from halting to since) = 1 ∷ from.0 ∷ conf_word halting ∷ to.0 ∷ since ∷ []

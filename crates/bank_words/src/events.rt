@@ -42,7 +42,7 @@ pub fn event_code(event: Event) -> u32
     }
 }
 
-/// Returns the event with this code, or `None` if no event has it.
+/// Returns the event with this code, or `None` if no event has this code.
 pub fn event_of(code: u32) -> Option<Event>
     ensures event { result ≡ event_of code }
     ensures code { IfSome result (λ event. event_code event ≡ code) }

@@ -6,8 +6,8 @@ ghost use Rattle.bank_words.specs.Images.{conf_of, conf_word, factors_of, factor
 use crate::numbers::{decode, encode};
 use scram_types::{ConfId, Env, KMode, ProcId, World};
 
-/// The kernel's image of a frame: the mode and the environment of the frame, and the keepers and the world at its
-/// beginning. The keeper of an application is the processor that keeps its area.
+/// The kernel's image of a frame: the mode and the environment of the frame, and the keepers and the world at the
+/// beginning of the frame. The keeper of an application is the processor that keeps its area.
 #[derive(Clone, Copy, Debug, PartialEq, Eq)]
 pub struct KernelImage {
     pub frame: u32,

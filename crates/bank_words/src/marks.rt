@@ -1,11 +1,11 @@
-//! Marks: the number of frames up to and including the last frame that a processor committed, and the bank that holds
-//! this frame.
+//! Marks: the number of frames up to and including the last frame that a processor committed, or 0 if it has
+//! committed none, and the bank that holds the processor's image.
 
 ghost use Rattle.std.specs.Prelude.{◌≡◌, ◌≤◌, ◌/◌, ◌%◌};
 ghost use Rattle.bank_words.specs.Marks.{mark_word, pick};
 
 /// Returns the mark of a processor, given the number `count` of frames up to and including its last committed frame,
-/// and the bank that holds this frame, 0 or 1. The mark is twice the count plus the bank.
+/// and the bank that holds the processor's image, 0 or 1. The mark is twice the count plus the bank.
 pub fn mark_word(count: u32, bank: u8) -> u64
     requires { bank ≤ 1 }
     ensures mark { result ≡ mark_word count bank }
@@ -15,8 +15,8 @@ pub fn mark_word(count: u32, bank: u8) -> u64
     2 * u64::from(count) + u64::from(bank)
 }
 
-/// Returns the bank, 0 or 1, that a reader in frame `frame` takes. It is the marked bank, or the other bank if the
-/// mark counts this frame already.
+/// Returns the bank, 0 or 1, that a reader in frame `frame` takes. It is the marked bank if the count of the mark is
+/// at most `frame`, or else the other bank.
 pub fn pick(mark: u64, frame: u32) -> u8
     ensures bank { result ≡ pick mark frame }
     ensures side { result ≤ 1 }

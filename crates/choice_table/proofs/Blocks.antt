@@ -1,4 +1,4 @@
--- Numbers of environments in which the same processors are down.
+-- Lemmas on blocks of consecutive environments, in which the same processors are down.
 use Rattle.std.proofs.Common.{◌≡◌, ℕ, ◌+◌, ◌*◌, ◌<◌, ◌≤◌, ◌/◌, arith, ap, ◌∙◌, false, true}
 use mathlib.Core.Logic.{inl, inr}
 use Rattle.std.specs.Prelude.{max}

@@ -22,7 +22,8 @@ times_if : (b : Bool) (c m : ℕ) → c * m + (if b then m else 0) ≡ (c + (if 
 times_if true c m = omega arith
 times_if false c m = omega arith
 
--- A test of the quotient n / m passes for whole blocks of m numbers.
+-- The number of `n` below `d * m` whose quotient `n / m` passes a test is `m` times the number of quotients below `d`
+-- that pass the test.
 pub count_blocks : (test : ℕ → Bool) (d m : ℕ) → 0 < m → count_below (λ n. test (n / m)) (d * m) ≡ count_below test d * m
 count_blocks test zero m some = let e : 0 * m ≡ 0 = omega arith in rw (e) (omega arith)
 count_blocks test (suc d) m some =

@@ -40,7 +40,7 @@ value_count_most (f ∷ fs) zero known h = (known 0 f refl).count.few
 value_count_most (f ∷ fs) (suc x) known h = value_count_most fs x (after f fs known) (omega arith)
 
 -- The number of combinations from factor `x` on is the number of values of `x` times the number of combinations after
--- it.
+-- `x`.
 pub combinations_drop : (fs : List Factor) (x : ℕ) → x < length fs → combinations (drop x fs) ≡ value_count fs x * combinations (drop (suc x) fs)
 combinations_drop [] x h = absurd (omega arith)
 combinations_drop (f ∷ fs) zero h = refl
@@ -104,7 +104,8 @@ pub digits_end : (fs : List Factor) (vs : List ℕ) (x number : ℕ) → length 
     → number * combinations (drop x fs) + digits_of (drop x fs) (drop x vs) ≡ digits_of fs vs → number ≡ digits_of fs vs
 digits_end fs vs x number past so_far = let end = rw (nothing_left fs x past) at so_far in omega (arith, end)
 
--- A step of that loop keeps the number small, even if the values are arbitrary bytes.
+-- After `x` steps of the loop that computes the number of the factors' values, the number is at most `85 * 4 ^ x -
+-- 85`, even if the values are arbitrary bytes.
 pub few_digits : (count value x number : ℕ) → count ≤ 4 → value < 256 → x < 6 → number + 85 ≤ 85 * 4 ^ x → number * count + value + 85 ≤ 85 * 4 ^ suc x
 few_digits count value x number few byte inside so_far =
     let product = mul-le number count number 4 (omega arith) few in

@@ -1,4 +1,4 @@
--- Worked examples of the definitions, computed and compared with the rules.
+-- Worked examples of the numbers of environments, the environments in scope and the choices of a table.
 use Rattle.std.proofs.Common.{◌≡◌, refl, ℕ, List, [], ◌∷◌, true, false, pos}
 use Rattle.std.specs.Prelude.{Some, None, replicate}
 use Rattle.scram_types.specs.declared.rows.Env.{Env}
@@ -26,7 +26,7 @@ want x value = record { factor = record { 0 = x }; value = value }
 environment : ℕ → List ℕ → Env
 environment up factors = record { up = up; factors = factors }
 
--- A specification with these processors, factors, configurations and rules, of which at most `halts` processors may
+-- A specification with the given processors, factors, configurations and rules. At most `halts` of the processors may
 -- be down.
 made : List Proc → List Factor → List Conf → List Choice → ℕ → Parts
 made procs factors confs rules halts = record {
@@ -106,8 +106,8 @@ two_down : in_scope large (environment 126 (replicate 6 0)) ≡ false
 unfolding large made proc factor environment
 two_down = refl
 
--- A specification with two processors and two factors, with two and three values. Its environments have zeros past
--- the last factor.
+-- A specification with two processors and two factors, the first with two values and the second with three. Its
+-- environments have zeros past the last factor.
 small : ℕ → Parts
 small halts = made (replicate 2 proc) (factor 2 ∷ factor 3 ∷ []) [] [] halts
 

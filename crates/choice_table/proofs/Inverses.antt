@@ -16,7 +16,7 @@ use Rattle.choice_table.specs.Numbering.{combinations, digits_of, down_set, env_
 use Rattle.choice_table.proofs.Bits.{others}
 use Rattle.choice_table.proofs.Digits.{after, combinations_least}
 
--- Each factor has one of its values.
+-- For each factor of the list `fs`, the entry of `vs` is the index of one of the factor's values.
 pub Fitting : List Factor → List ℕ → Type 0
 Fitting fs vs = (x : ℕ) (f : Factor) → slice_get fs x ≡ Some f → slice_index vs x < length f.values
 

@@ -1,4 +1,5 @@
--- Processors that are up, by set and by bit.
+-- A configuration can run if and only if the processors of its places are up. A set of processors is up if and only
+-- if the processor of each of its bits is up.
 use Rattle.std.proofs.Common.{◌≡◌, ℕ, zero, suc, ◌<◌, ◌^◌, ◌/◌, ◌%◌, refl, arith, sym, ap, ◌∙◌, true, List}
 use mathlib.Core.Logic.{inl, inr}
 use Rattle.std.specs.Prelude.{Option, Some, None, bit_and, slice_get}

@@ -11,21 +11,21 @@ use Rattle.scram_types.specs.declared.specification.Choice.{Choice}
 use Rattle.scram_types.specs.Specification.{Parts}
 use Rattle.choice_table.specs.Environments.{IsEnv, factor_in, in_scope, is_up_in}
 
--- The source of a rule is `c`, or the rule has no source.
+-- Whether the source of a rule is `c` or the rule has no source.
 abbrev pub has_source : Option ConfId → ConfId → Bool
 has_source None c = true
 has_source (Some from) c = from.0 == c.0
 
--- Environment `v` has the required value of a factor.
+-- Whether environment `v` has the required value of a factor.
 abbrev pub has_wanted : Env → Want → Bool
 has_wanted v want = factor_in v want.factor.0 == want.value
 
--- Each processor of a set is up.
+-- Whether each processor of a set is up in an environment.
 abbrev pub all_up : ℕ → Env → Bool
 all_up set v = bit_and set v.up == set
 
--- A rule fits configuration `c` and environment `v`: its source is `c` or it has no source, `v` has each value that
--- it requires, and each processor that it requires is up.
+-- Whether a rule fits configuration `c` and environment `v`. The rule's source is `c` or the rule has no source.
+-- Environment `v` has each value that the rule requires, and each processor that the rule requires is up in `v`.
 abbrev pub rule_fits : ConfId → Env → Choice → Bool
 rule_fits c v rule = has_source rule.from c && list_all (has_wanted v) rule.wants && all_up rule.up v
 
@@ -39,7 +39,7 @@ target_among (rule ∷ rules) c v = if rule_fits c v rule then rule.to else targ
 abbrev pub choose : Parts → ConfId → Env → ConfId
 choose spec c v = target_among spec.rules c v
 
--- Some rule fits a configuration and an environment.
+-- Whether some rule fits configuration `c` and environment `v`.
 abbrev pub has_rule : Parts → ConfId → Env → Bool
 has_rule spec c v = list_any (rule_fits c v) spec.rules
 
@@ -47,12 +47,14 @@ has_rule spec c v = list_any (rule_fits c v) spec.rules
 abbrev pub places_of : Parts → ConfId → List (Option Place)
 places_of spec c = option_map_or (λ (conf : Conf). conf.places) (slice_get spec.confs c.0) []
 
--- The application at a place is off, or its processor is up.
+-- Whether the processor of an optional place is up in an environment. The value is `true` if the place is `None`, for
+-- an application that is off.
 abbrev pub is_place_up : Env → Option Place → Bool
 is_place_up v None = true
 is_place_up v (Some place) = is_up_in v place.proc.0
 
--- Each processor that configuration `c` uses is up.
+-- Whether each processor that configuration `c` uses is up in an environment. A configuration that does not exist
+-- uses no processor.
 abbrev pub is_runnable : Parts → ConfId → Env → Bool
 is_runnable spec c v = list_all (is_place_up v) (places_of spec c)
 

@@ -5,7 +5,7 @@ use Rattle.scram_types.specs.declared.rows.Env.{Env}
 use Rattle.scram_types.specs.declared.specification.Factor.{Factor}
 use Rattle.scram_types.specs.Specification.{Parts}
 
--- Processor `p` is up in an environment.
+-- Whether processor `p` is up in an environment.
 abbrev pub is_up_in : Env → ℕ → Bool
 is_up_in v p = has_bit v.up p
 
@@ -17,13 +17,14 @@ factor_in v x = slice_index v.factors x
 abbrev pub down_count : Parts → Env → ℕ
 down_count spec v = count_below (λ p. not (is_up_in v p)) (length spec.procs)
 
--- An environment is in scope: the number of processors that are down is at most the number that the failure
+-- Whether an environment is in scope: the number of processors that are down is at most the number that the failure
 -- assumption allows.
 abbrev pub in_scope : Parts → Env → Bool
 in_scope spec v = nat_le (down_count spec v) spec.halts
 
--- Environment `v` belongs to the specification: it has no bit past the last processor, each factor has one of its
--- values, and the entries past the last factor are zero.
+-- Environment `v` belongs to the specification. Its set of processors has no bit past the last processor. The
+-- environment has six entries for factors. The entry of each factor is the index of one of the factor's values, and
+-- the entries past the last factor are zero.
 pub record IsEnv (spec : Parts) (v : Env) : Type 0 where
   pub up : v.up < 2 ^ length spec.procs
   pub width : length v.factors ≡ 6

@@ -8,7 +8,7 @@ use Rattle.scram_types.specs.Bits.{has_bit}
 use Rattle.choice_table.specs.Environments.{is_up_in}
 use Rattle.choice_table.specs.Choices.{all_up, is_runnable, places_of}
 
--- A configuration is runnable if and only if each processor on which it places an application is up.
+-- A configuration can run if and only if each processor on which it places an application is up.
 abbrev pub RunsWherePlacesAreUp : Type 0
 RunsWherePlacesAreUp = (spec : Parts) (c : ConfId) (v : Env) →
     (is_runnable spec c v ≡ true → (a : ℕ) (place : Place) → slice_get (places_of spec c) a ≡ Some (Some place) → is_up_in v place.proc.0 ≡ true)

@@ -48,16 +48,16 @@ numbered spec n = record {
   factors = values_of spec.factors (n % combinations spec.factors) ++ replicate (6 - length spec.factors) 0;
 }
 
--- The environment with number `n`, or `None` if no environment has it.
+-- The environment with number `n`, or `None` if no environment has this number.
 abbrev pub env_of : Parts → ℕ → Option Env
 env_of spec n = if nat_lt n (environments spec) then Some (numbered spec n) else None
 
--- The failure assumption allows the processors of the set `down` to be down at the same time.
+-- Whether the failure assumption allows the processors of the set `down` to be down at the same time.
 abbrev pub is_down_in_scope : Parts → ℕ → Bool
 is_down_in_scope spec down =
     nat_le (count_below (λ p. not (has_bit (2 ^ length spec.procs - 1 - down) p)) (length spec.procs)) spec.halts
 
--- The environment with number `n` is in scope.
+-- Whether the environment with number `n` is in scope.
 abbrev pub is_number_in_scope : Parts → ℕ → Bool
 is_number_in_scope spec n = in_scope spec (numbered spec n)
 

@@ -24,8 +24,8 @@ pub fn applies_from(demand: &Demand, c: ConfId) -> bool
 }
 
 /// Returns `true` if configuration `c` meets a demand. The configuration must be one of `to`, unless `to` is empty.
-/// Each application of `on` must be on in it, in one of the modes that the demand lists for the application, if any.
-/// Each application of `off` must be off.
+/// Each application of `on` must be on in `c`. If the demand lists modes for the application, the application must be
+/// in one of these modes. Each application of `off` must be off in `c`.
 pub fn is_met(spec: &Spec, demand: &Demand, c: ConfId) -> bool
     ensures { result ≡ is_met spec.now demand.now c }
 {
@@ -67,7 +67,8 @@ fn modes_allow(modes: &Modes, mode: Mode) -> bool
     modes.as_slice().is_empty() || modes.has(mode)
 }
 
-/// Returns `true` if configuration `c` meets each demand that applies to an environment and to a choice from `c`.
+/// Returns `true` if configuration `c` meets each demand that applies both to an environment and to a choice from
+/// `c`.
 pub fn meets_all(spec: &Spec, c: ConfId, env: &Env) -> bool
     ensures { result ≡ meets_all spec.now c env.now }
 {

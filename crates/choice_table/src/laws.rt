@@ -2,7 +2,7 @@
 
 ghost use Rattle.choice_table.specs.Laws.{RunsWherePlacesAreUp, SetsAreUpByMembers};
 
-/// States that a configuration is runnable if and only if each processor on which it places an application is up.
+/// States that a configuration can run if and only if each processor on which it places an application is up.
 pub fn runs_where_places_are_up()
     ensures { RunsWherePlacesAreUp }
 {}

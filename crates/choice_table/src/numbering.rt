@@ -16,9 +16,9 @@ pub struct Numbered {
     pub env: Env,
 }
 
-/// Returns the number of an environment. If `M` is the product of the factors' numbers of values, it is `M` times the
-/// set of processors that are down, as bits, plus the mixed-radix number of the factors' values. The first factor is
-/// the most significant digit.
+/// Returns the number of an environment. Let `M` be the product of the factors' numbers of values. The number is `M`
+/// times the set of processors that are down, as bits, plus the mixed-radix number of the factors' values. The first
+/// factor is the most significant digit.
 pub fn number_of(spec: &Spec, env: &Env) -> u32
     ensures number { result ≡ number_of spec.now env.now }
     ensures back { IsEnv spec.now env.now → env_of spec.now result ≡ Some env.now }
@@ -27,7 +27,7 @@ pub fn number_of(spec: &Spec, env: &Env) -> u32
     u32::from(down) * count_combinations(spec) + number_of_values(spec, &env.factors)
 }
 
-/// Returns the environment with this number, or `None` if no environment has it.
+/// Returns the environment with this number, or `None` if no environment has this number.
 pub fn env_of(spec: &Spec, number: u32) -> Option<Env>
     ensures env { result ≡ env_of spec.now number }
     ensures belongs { IfSome result (λ v. IsEnv spec.now v) }
@@ -55,8 +55,8 @@ pub fn states(spec: &Spec) -> u32
     states
 }
 
-/// Returns the environment in scope with the smallest number that is at least `low`, or `None` if there is none. The
-/// function skips all environments of a set of processors that is out of scope.
+/// Returns the environment in scope with the smallest number that is at least `low`, or `None` if there is none. If a
+/// set of down processors is out of scope, the function skips all environments with this set at once.
 pub fn next_in_scope(spec: &Spec, low: u32) -> Option<Numbered>
     ensures next { MatchOption result (NoneInScope spec.now low) (λ found. IsNextInScope spec.now low found.number) }
     ensures env { IfSome result (λ found. env_of spec.now found.number ≡ Some found.env) }

@@ -41,7 +41,7 @@ module _ (spec : Parts) (made : IsSpec spec) where
   Broken : Break → Type 0
   Broken found = IsBroken spec (shown_of spec found)
 
-  -- If application `a` needs `b` and `b` is off, `a` has a need that is off.
+  -- If application `a` is on while an application `b` that it needs is off, the test `lacks_need` passes for `a`.
   lacks : (c a b : ℕ) → b < length spec.apps → is_need_off spec (conf_id c) a b ≡ true → lacks_need spec (conf_id c) a ≡ true
   lacks c a b less off =
       and_true (is_on spec (conf_id c) a) (has_off_need spec (conf_id c) a) (and_left (is_on spec (conf_id c) a) _ off)
@@ -79,7 +79,8 @@ module _ (spec : Parts) (made : IsSpec spec) where
       each_gathered Broken (load_break spec c) (length spec.procs) (λ p there.
       each_where Broken (is_overloaded spec (conf_id c) p) (broken.Overloaded (conf_id c) (proc_id p)) (λ over. Overloaded c p inside there over refl)))
 
-  -- The first environment that passes a test is the environment of some number in scope, and passes the test.
+  -- If the search for the first environment that passes a test finds `v`, then `v` has a number in scope and passes
+  -- the test.
   passing : (test : Env → Bool) (v : Env) → first_passing_env spec test ≡ Some v
       → (n : ℕ) × (n < environments spec) × (is_number_in_scope spec n ≡ true) × (test (numbered spec n) ≡ true) × (v ≡ numbered spec n)
   passing test v e =

@@ -53,7 +53,8 @@ shown_either : {A : Type 0} (a b : Bool) (x : A) → option_or (shown_if a x) (s
 shown_either true b x = refl
 shown_either false b x = refl
 
--- A search that shows `x` at each number whose test holds finds `x` if and only if some test below `n` holds.
+-- If each number that passes a test has the value `x`, the search below `n` returns `x` if some number below `n`
+-- passes the test, and `None` otherwise.
 pub any_shown : {A : Type 0} (test : ℕ → Bool) (x : A) (n : ℕ) → first_below (λ k. shown_if (test k) x) n ≡ shown_if (any_below test n) x
 any_shown test x zero = refl
 any_shown test x (suc n) = ap (λ o. option_or o (shown_if (test n) x)) (any_shown test x n) ∙ shown_either (any_below test n) (test n) x

@@ -1,5 +1,5 @@
--- The interval that the place of an invariant shows is the smallest that contains all ranges that the invariant has
--- to contain.
+-- The interval in the place of an invariant is the smallest that contains all ranges that the invariant has to
+-- contain.
 use Rattle.std.proofs.Common.{ℕ, ℤ, suc, ◌≡◌, ◌∙◌, Bool, true, false, List, [], ◌∷◌, ap, arith, int_le, refl, subst, sym}
 use Rattle.std.specs.Prelude.{pos, ◌≤ℤ◌, Option, Some, None, option_map, slice_get, if◌then◌else◌}
 use Rattle.std.specs.Int.{int_max, int_min}
@@ -135,7 +135,7 @@ module _ (spec : Parts) (inv : Invariant) where
             (inside.low, inside.high));
       }
 
--- Lemmas on the interval that the place of an invariant shows.
+-- Lemmas on the interval in the place of an invariant.
 needed_in : Break → Extremes
 needed_in (broken.Unheld found) = found.needed
 needed_in other = interval (pos 0, pos 0)

@@ -1,5 +1,5 @@
--- The places at which demands are missed, made from the first environments found for the demands, are those of the
--- definition.
+-- The places that `missed_at` builds from the first environments in which demands are missed equal those of
+-- `demand_break`.
 use Rattle.std.proofs.Common.{ℕ, ◌<◌, ◌≡◌, ◌∙◌, List, [], ap, arith, length, sym}
 use Rattle.std.specs.Prelude.{Option, option_and_then, option_map}
 use Rattle.std.specs.Option.{option_map_or, option_to_list}

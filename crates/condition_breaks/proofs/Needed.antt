@@ -1,4 +1,5 @@
--- An application has a need that is off if and only if some application that it needs is off.
+-- The test `has_off_need` passes for an application if and only if the application needs (`is_needed`) some
+-- application that is off.
 use Rattle.std.proofs.Common.{ℕ, ◌≡◌, Bool, true, false, not, length, refl, subst, sym}
 use Rattle.std.specs.Prelude.{◌&&◌, ◌==◌, Option, Some, None, slice_get}
 use Rattle.std.specs.Option.{option_map_or}

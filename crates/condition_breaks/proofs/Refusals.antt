@@ -1,4 +1,4 @@
--- The refusal of a specification shows the first place at which the condition that it names does not hold.
+-- The refusal of a specification is the one for the first place in the list of the condition that the refusal names.
 use Rattle.std.proofs.Common.{ℕ, ◌≡◌, ◌∙◌, Bool, true, false, ap, length, refl, sym}
 use mathlib.Core.Logic.{inl, inr}
 use Rattle.std.specs.Prelude.{Option, Some, None, option_map, slice_get}

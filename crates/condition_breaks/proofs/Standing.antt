@@ -1,4 +1,4 @@
--- If a condition does not hold somewhere, its list has a place for this.
+-- If a condition does not hold somewhere, the condition's list contains a place for this.
 use Rattle.std.proofs.Common.{ℕ, zero, suc, ◌<◌, ◌≡◌, ◌∙◌, Bool, true, false, List, [], ◌∷◌, ◌++◌, arith, length, refl, subst, sym}
 use mathlib.Core.Logic.{inl, inr}
 use Rattle.std.specs.Prelude.{◌&&◌, Option, Some, None, option_map, slice_get, if◌then◌else◌}
@@ -62,7 +62,7 @@ in_one false place e = absurd (cc)
 in_mapped : {A : Type 0} (f : A → Break) (o : Option A) (x : A) → o ≡ Some x → HasPlace (option_to_list (option_map f o)) (f x)
 in_mapped f o x e = rw e (0, refl)
 
--- If some number below `n` has an answer, the first answer exists.
+-- If `answer` is not `None` for some number below `n`, the search `first_below answer n` finds a value.
 some_below : {A : Type 0} (answer : ℕ → Option A) (n k : ℕ) (x : A) → k < n → answer k ≡ Some x → (y : A) × (first_below answer n ≡ Some y)
 some_below answer n k x less here = elim (none_or_some (first_below answer n)) [
   | inl none ↦ some_none x (sym here ∙ below_none answer n k none less)

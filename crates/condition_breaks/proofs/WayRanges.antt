@@ -1,4 +1,4 @@
--- An invariant does not contain a range on some way if and only if acceptance refuses it.
+-- An invariant does not contain the range on some way if and only if acceptance refuses the invariant.
 use Rattle.std.proofs.Common.{ℕ, ℤ, zero, suc, ◌≡◌, ◌∙◌, Bool, true, false, not, List, [], ◌∷◌, ◌++◌, ap, arith, int_le, length, refl, sym}
 use mathlib.Core.Logic.{inl, inr}
 use Rattle.std.specs.Prelude.{pos, ◌&&◌, ◌||◌, ◌==◌, ◌≤ℤ◌, Option, Some, None, option_map, if◌then◌else◌}
@@ -61,7 +61,7 @@ neither : (a b : Bool) → (a || b) ≡ false → (a ≡ false) × (b ≡ false)
 neither false b e = (refl, e)
 neither true b e = true_false true refl e
 
--- Lemmas on an interval, which contains the statuses 4, 1 and 2 if and only if it contains the range from 1 to 4.
+-- An interval contains the statuses 4, 1 and 2 if and only if it contains the range from 1 to 4.
 module _ (low high : ℤ) where
   holds : ℤ × ℤ → Bool
   holds range = holds_range low high range
@@ -91,7 +91,8 @@ module _ (low high : ℤ) where
   alike true = refl
   alike false = refl
 
-  -- The range that is seen in a mode: the status if the variable is the status, or the range of the variable.
+  -- The range that a variable can have with a status in a mode. If the variable is the status, this is the status
+  -- alone. Otherwise it is the range of the variable in the mode.
   seen : Bool → ℤ × ℤ → ℕ → ℤ × ℤ
   seen is_status range status = if is_status then (pos status, pos status) else range
 
@@ -177,7 +178,7 @@ module _ (spec : Parts) (inv : Invariant) where
       shown_before (λ (one : Way). shown one.from) (is_unheld spec inv taken) taken (first_unheld spec inv ways) (list_any (is_unheld spec inv) ways) (shown (conf_id i))
       (ap shown (from 0 taken refl)) (shown_from shown i ways (each_rest (λ (one : Way). one.from ≡ conf_id i) taken ways from))
 
-  -- The invariant breaks from source `i` if and only if the range on some way from `i` is not contained.
+  -- The test `breaks_from` passes for source `i` if and only if `is_unheld` passes for some way from `i`.
   module _ (i : ℕ) where
     speaks : Bool
     speaks = has_source inv.from (conf_id i)
@@ -248,7 +249,7 @@ module _ (spec : Parts) (inv : Invariant) where
     pub breaks_where : list_any (is_unheld spec inv) (ways_from spec i) ≡ breaks_from spec inv (conf_id i)
     breaks_where = any_from ∙ same_test (own || any_below another (length spec.confs)) (breaks_from spec inv (conf_id i)) broken_where found_where
 
-  -- The first way whose range is not contained has the source that the refusal shows.
+  -- The source of the first way whose range is not contained is the configuration in the refusal.
   pub unheld_shown : {A : Type 0} (shown : ConfId → A)
       → option_map (λ (taken : Way). shown taken.from) (first_unheld spec inv (all_ways spec)) ≡ first_below (λ i. shown_if (breaks_from spec inv (conf_id i)) (shown (conf_id i))) (length spec.confs)
   unheld_shown shown =

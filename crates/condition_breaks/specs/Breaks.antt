@@ -23,8 +23,8 @@ use Rattle.condition_breaks.specs.Form.{first_twin, is_need_off}
 use Rattle.condition_breaks.specs.Lists.{gathered_below, one_if}
 use Rattle.condition_breaks.specs.Ranges.{all_ways, first_unheld, hull_of, interval, range_on}
 
--- The place of A1 if application `a` is on in configuration `c` and application `b`, which `a` needs, is off, or the
--- empty list.
+-- The place of A1 if application `a` is on in configuration `c`, `a` needs application `b`, and `b` is off there.
+-- Otherwise the list is empty.
 abbrev pub need_break : Parts → ℕ → ℕ → ℕ → List Break
 need_break spec c a b = one_if (is_need_off spec (conf_id c) a b) (broken.NeedOff (conf_id c) (app_id a) (app_id b))
 
@@ -44,8 +44,9 @@ need_breaks spec = gathered_below (need_breaks_in spec) (length spec.confs)
 abbrev pub state_breaks : Parts → List Break
 state_breaks spec = one_if (has_too_many_states spec) broken.ManyStates
 
--- The place of A3 for configuration `c` if it has no application on or is the same as an earlier configuration, or
--- the empty list. The place shows the first such earlier configuration.
+-- The place of A3 for configuration `c` if no application is on in `c` or an earlier configuration is the same.
+-- Otherwise the list is empty. If an application is on in `c`, the place contains the first earlier configuration
+-- that is the same.
 abbrev pub shape_break : Parts → ℕ → List Break
 shape_break spec c =
     if is_empty spec (conf_id c) then broken.NothingOn (conf_id c) ∷ []
@@ -67,8 +68,8 @@ load_breaks_in spec c = gathered_below (load_break spec c) (length spec.procs)
 abbrev pub load_breaks : Parts → List Break
 load_breaks spec = gathered_below (load_breaks_in spec) (length spec.confs)
 
--- The place of A5, A6 or A7 for configuration `c` if it does not meet the requirement, or the empty list. The place
--- has the first environment in scope in which the requirement is not met.
+-- The place of A5, A6 or A7 for configuration `c`, with the first environment in scope in which `c` does not meet the
+-- requirement. The list is empty if `c` meets the requirement in each environment in scope.
 abbrev pub unmet_break : Parts → Requirement → ℕ → List Break
 unmet_break spec asked c = option_to_list (option_map (λ (v : Env). broken.Unmet asked (conf_id c) v) (first_unmet_env spec asked (conf_id c)))
 
@@ -97,23 +98,24 @@ bound_breaks spec = gathered_below (bound_breaks_from spec) (length spec.confs)
 abbrev pub window_breaks : Parts → List Break
 window_breaks spec = one_if (has_short_window spec) broken.WindowShort
 
--- The place of A11 for invariant `k` on a given way. It has the smallest interval that contains all ranges that the
--- invariant has to contain, among them the range on the way.
+-- The place of A11 for invariant `k` and a way. The place contains the smallest interval that contains the range on
+-- the way and all ranges that the invariant has to contain.
 abbrev pub unheld : Parts → ℕ → Invariant → Way → Break
 unheld spec k inv taken =
     broken.Unheld (record { invariant = k; way = taken; needed = hull_of spec inv (interval (range_on spec inv taken)) (all_ways spec) })
 
--- The place of A11 for invariant `k`, with the first way whose range it does not contain, or `None` if it contains
--- all ranges that it has to contain.
+-- The place of A11 for invariant `k`, with the first way whose range the invariant has to contain but does not
+-- contain. The value is `None` if there is no such way. Here `inv` is invariant `k`.
 abbrev pub unheld_of : Parts → ℕ → Invariant → Option Break
 unheld_of spec k inv = option_map (unheld spec k inv) (first_unheld spec inv (all_ways spec))
 
--- The place of A11 for invariant `k`, or `None` if there is no invariant `k` or it contains all ranges that it has to
--- contain.
+-- The place of A11 for invariant `k`, or `None` if there is no invariant `k` or the invariant contains all ranges
+-- that it has to contain.
 abbrev pub unheld_at : Parts → ℕ → Option Break
 unheld_at spec k = option_map_or (unheld_of spec k) (slice_get spec.invariants k) None
 
--- The place of A11 for invariant `k` if it does not contain a range that it has to contain, or the empty list.
+-- The place of A11 for invariant `k` if the invariant does not contain some range that it has to contain, or the
+-- empty list.
 abbrev pub invariant_break : Parts → ℕ → List Break
 invariant_break spec k = option_to_list (unheld_at spec k)
 
@@ -121,15 +123,17 @@ invariant_break spec k = option_to_list (unheld_at spec k)
 abbrev pub invariant_breaks : Parts → List Break
 invariant_breaks spec = gathered_below (invariant_break spec) (length spec.invariants)
 
--- The place of A12 for precondition `k`, or `None` if it cannot fail when its configuration is entered.
+-- The place of A12 for precondition `k`, or `None` if the precondition cannot fail when its configuration is entered.
+-- Here `pre` is precondition `k`.
 abbrev pub unentered_of : Parts → ℕ → Precondition → Option Break
 unentered_of spec k pre = shown_if (breaks_entering spec pre) (broken.PreconditionMissed k)
 
--- The place of A12 for precondition `k`, or `None` if there is no precondition `k` or it cannot fail.
+-- The place of A12 for precondition `k`, or `None` if there is no precondition `k` or the precondition cannot fail.
 abbrev pub unentered_at : Parts → ℕ → Option Break
 unentered_at spec k = option_map_or (unentered_of spec k) (slice_get spec.preconditions k) None
 
--- The place of A12 for precondition `k` if it can fail when its configuration is entered, or the empty list.
+-- The place of A12 for precondition `k` if the precondition can fail when its configuration is entered, or the empty
+-- list.
 abbrev pub precondition_break : Parts → ℕ → List Break
 precondition_break spec k = option_to_list (unentered_at spec k)
 
@@ -137,14 +141,14 @@ precondition_break spec k = option_to_list (unentered_at spec k)
 abbrev pub precondition_breaks : Parts → List Break
 precondition_breaks spec = gathered_below (precondition_break spec) (length spec.preconditions)
 
--- The place of A13 for configuration `c` and demand `k` if the table misses the demand, or the empty list. The place
--- has the first environment in scope in which the demand is missed.
+-- The place of A13 for configuration `c` and demand `k`, with the first environment in scope in which the table
+-- misses the demand from `c`. The list is empty if there is no such environment. Here `demand` is demand `k`.
 abbrev pub demand_break_of : Parts → ℕ → ℕ → Demand → List Break
 demand_break_of spec c k demand =
     option_to_list (option_map (λ (v : Env). broken.DemandMissed (conf_id c) k v) (first_missed_env spec demand (conf_id c)))
 
 -- The place of A13 for configuration `c` and demand `k`, or the empty list if there is no demand `k` or the table
--- does not miss it from `c`.
+-- does not miss the demand from `c`.
 abbrev pub demand_break : Parts → ℕ → ℕ → List Break
 demand_break spec c k = option_map_or (demand_break_of spec c k) (slice_get spec.demands k) []
 
@@ -157,7 +161,8 @@ abbrev pub demand_breaks : Parts → List Break
 demand_breaks spec = gathered_below (demand_breaks_in spec) (length spec.confs)
 
 -- The place of A13 for configuration `c` and demand `k`, or `None` if the demand is not missed or does not exist.
--- `found` has for each demand the first environment in which it is missed, or `None` if it is not missed.
+-- `found` contains for each demand the first environment in which the demand is missed, or `None` if it is not
+-- missed.
 abbrev pub missed_at : List (Option Env) → ℕ → ℕ → Option Break
 missed_at found c k =
     option_and_then (λ (first : Option Env). option_map (λ (v : Env). broken.DemandMissed (conf_id c) k v) first) (slice_get found k)

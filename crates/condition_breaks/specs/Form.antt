@@ -20,7 +20,7 @@ is_one_of needs b = list_any (λ (needed : AppId). needed.0 == b) needs
 abbrev pub is_needed : Parts → ℕ → ℕ → Bool
 is_needed spec a b = option_map_or (λ (app : AppSpec). is_one_of app.needs b) (slice_get spec.apps a) false
 
--- Whether application `a` is on in configuration `c`, and `b`, which it needs, is off there.
+-- Whether application `a` is on in configuration `c`, `a` needs application `b`, and `b` is off in `c`.
 abbrev pub is_need_off : Parts → ConfId → ℕ → ℕ → Bool
 is_need_off spec c a b = is_on spec c a && (is_needed spec a b && not (is_on spec c b))
 

@@ -25,12 +25,12 @@ use Rattle.condition_breaks.specs.declared.breaks.Way.{Way}
 use Rattle.condition_breaks.specs.Breaks.{breaks, unheld_at}
 use Rattle.condition_breaks.specs.Ranges.{all_ways, range_on}
 
--- The refusal that shows precondition `k`, with its configuration if the precondition exists.
+-- The refusal for precondition `k`. It contains the precondition's configuration if the precondition exists.
 abbrev pub missed_shown : Parts → ℕ → Shown
 missed_shown spec k =
     option_map_or (λ (pre : Precondition). shown_at 12 pre.conf.0 (other.Item k)) (slice_get spec.preconditions k) (shown_nowhere 12 (other.Item k))
 
--- The refusal that shows a place at which a condition does not hold.
+-- The refusal for a place at which a condition does not hold.
 abbrev pub shown_of : Parts → Break → Shown
 shown_of spec (broken.NeedOff c a b) = shown_at 1 c.0 (other.App a)
 shown_of spec broken.ManyStates = shown_nowhere 2 (other.Count (states spec))
@@ -45,7 +45,7 @@ shown_of spec (broken.Unheld found) = shown_at 11 found.way.from.0 (other.Item f
 shown_of spec (broken.PreconditionMissed k) = missed_shown spec k
 shown_of spec (broken.DemandMissed c k v) = shown_in 13 c.0 v (other.Demand k)
 
--- The refusal that shows the first place of a list, or `None` if the list is empty.
+-- The refusal for the first place of a list, or `None` if the list is empty.
 abbrev pub first_shown : Parts → List Break → Option Shown
 first_shown spec found = option_map (shown_of spec) (slice_get found 0)
 
@@ -76,15 +76,16 @@ refusal_of_condition spec condition =
     if condition == 3 then shape_refusal spec else
     if condition == 4 then load_refusal spec else choice_refusal_by spec condition
 
--- The refusal of each condition shows the condition's first place. If there is no refusal, there is no place.
+-- The refusal of each condition is the one for the first place in the condition's list. If the list is empty, there
+-- is no refusal.
 abbrev pub FirstIsShown : Type 0
 FirstIsShown = (spec : Parts) → IsSpec spec → (condition : ℕ) → first_shown spec (breaks spec condition) ≡ refusal_of_condition spec condition
 
--- The refusal of a specification shows the first place of the condition that it names.
+-- The refusal of a specification is the one for the first place in the list of the condition that the refusal names.
 abbrev pub RefusalIsFirst : Type 0
 RefusalIsFirst = (spec : Parts) (shown : Shown) → IsSpec spec → first_refusal spec ≡ Some shown → first_shown spec (breaks spec shown.condition) ≡ Some shown
 
--- At each place of a condition, the condition does not hold.
+-- At each place in the list of a condition, the condition does not hold.
 abbrev pub EachIsBroken : Type 0
 EachIsBroken = (spec : Parts) → IsSpec spec → (condition : ℕ) → Each (λ (found : Break). IsBroken spec (shown_of spec found)) (breaks spec condition)
 
@@ -98,7 +99,7 @@ pub record IsLeastInterval (spec : Parts) (inv : Invariant) (needed : Extremes) 
   pub holds : HoldsAsked spec inv needed.least needed.greatest
   pub least : (low high : ℤ) → HoldsAsked spec inv low high → (low ≤ℤ needed.least) × (needed.greatest ≤ℤ high)
 
--- The interval that the place of an invariant shows is the smallest that contains all ranges that the invariant has to
+-- The interval in the place of an invariant is the smallest that contains all ranges that the invariant has to
 -- contain.
 abbrev pub NeededIsLeast : Type 0
 NeededIsLeast = (spec : Parts) (k : ℕ) (inv : Invariant) (found : Unheld) → slice_get spec.invariants k ≡ Some inv

@@ -34,7 +34,7 @@ other_ways spec i = gathered_below (way_to spec i) (length spec.confs)
 abbrev pub ways_from : Parts → ℕ → List Way
 ways_from spec i = way_of i i ∷ other_ways spec i
 
--- All ways, by source.
+-- The ways from all configurations, by source.
 abbrev pub all_ways : Parts → List Way
 all_ways spec = gathered_below (ways_from spec) (length spec.confs)
 
@@ -42,13 +42,13 @@ all_ways spec = gathered_below (ways_from spec) (length spec.confs)
 abbrev pub interval : ℤ × ℤ → Extremes
 interval ends = record { least = ends.0; greatest = ends.1 }
 
--- The range of an invariant's variable in a place, over all acts in the place's mode. The range is from 1 to 4 if the
--- variable is the status, and from 0 to 0 if the application is off.
+-- The range of an invariant's variable in a place, over all acts in the place's mode. The range is from 0 to 0 if the
+-- application is off. Otherwise it is from 1 to 4 if the variable is the status.
 abbrev pub range_asked : Parts → Invariant → Option Place → ℤ × ℤ
 range_asked spec inv None = (pos 0, pos 0)
 range_asked spec inv (Some place) = if inv.variable == 0 then (pos 1, pos 4) else during (kind_of_app spec inv.app.0) 1 place.mode.0 inv.variable
 
--- The range of an invariant's variable at the end of a way.
+-- The range of an invariant's variable on a way. This is its range in the configuration at the end of the way.
 abbrev pub range_on : Parts → Invariant → Way → ℤ × ℤ
 range_on spec inv taken = range_asked spec inv (place_of spec taken.to inv.app.0)
 

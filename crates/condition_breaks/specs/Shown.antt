@@ -1,11 +1,11 @@
--- The environments that places show.
+-- The environments in places.
 use Rattle.std.specs.Prelude.{⊤}
 use Rattle.scram_types.specs.Specification.{Parts}
 use Rattle.choice_table.specs.Environments.{IsEnv}
 use Rattle.condition_breaks.specs.declared.breaks.Break.{Break}
 use Rattle.condition_breaks.specs.declared.breaks.Break.TheVariants as broken
 
--- The environment of a place, if it has one, belongs to the specification.
+-- If a place contains an environment, the environment belongs to the specification.
 abbrev pub HasEnvOf : Parts → Break → Type 0
 HasEnvOf spec (broken.NeedOff c a b) = ⊤
 HasEnvOf spec broken.ManyStates = ⊤

@@ -42,8 +42,8 @@ pub struct Way {
     pub to: ConfId,
 }
 
-/// The number of an invariant, the first way whose range the invariant does not contain, and the smallest interval that
-/// contains all ranges that it has to contain.
+/// The number of an invariant, the first way whose range the invariant has to contain but does not contain, and the
+/// smallest interval that contains all ranges that the invariant has to contain.
 #[derive(Clone, Copy, Debug, PartialEq, Eq)]
 pub struct Unheld {
     pub invariant: u32,

@@ -15,8 +15,8 @@ use cube_cover::cover;
 use scram_types::{ConfId, Env, NoMemory, Spec};
 use std::alloc::Global;
 
-// Appends the place of A5, A6 or A7 for each configuration that does not meet the requirement. A place has the first
-// environment in scope in which the requirement is not met.
+// Appends the place of A5, A6 or A7 for each configuration that does not meet the requirement. A place contains the
+// first environment in scope in which the requirement is not met.
 pub(crate) fn add_unmet_breaks(
     alloc: Global,
     breaks: &mut Vec<Break>,

@@ -13,8 +13,8 @@ use cube_cover::misses;
 use scram_types::{ConfId, Env, NoMemory, Spec};
 use std::alloc::Global;
 
-// Appends the place of A13 for each configuration and each demand that the table misses from it. A place has the first
-// environment in scope in which the demand is missed.
+// Appends the place of A13 for each configuration and each demand that the table misses from the configuration. A
+// place contains the first environment in scope in which the demand is missed.
 pub(crate) fn add_demand_breaks(
     alloc: Global,
     breaks: &mut Vec<Break>,
@@ -29,8 +29,8 @@ pub(crate) fn add_demand_breaks(
     Ok(())
 }
 
-// Appends the places of A13 for configuration `c`. `found` has for each demand the first environment in which it is
-// missed.
+// Appends the places of A13 for configuration `c`. `found` contains for each demand the first environment in which
+// the demand is missed.
 fn add_demand_breaks_in(
     breaks: &mut Vec<Break>,
     spec: &Spec,

@@ -57,7 +57,7 @@ fn is_need_off(spec: &Spec, c: ConfId, a: u8, b: u8) -> bool
     spec.is_on(c, AppId(a)) && (is_needed(spec, a, b) && !spec.is_on(c, AppId(b)))
 }
 
-// Returns whether application `a` needs application `b`.
+// Returns `true` if application `a` needs application `b`.
 fn is_needed(spec: &Spec, a: u8, b: u8) -> bool
     ensures { result ≡ is_needed spec.now a b }
 {

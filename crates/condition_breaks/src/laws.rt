@@ -3,33 +3,34 @@
 ghost use Rattle.condition_breaks.specs.Complete.{NoneIsLeftOut};
 ghost use Rattle.condition_breaks.specs.Laws.{EachIsBroken, FirstIsShown, NeededIsLeast, RefusalIsFirst};
 
-/// States that the refusal of each condition shows the condition's first place, and that there is no place if and
-/// only if the condition holds.
+/// States that the refusal of each condition is the one for the first place in the condition's list. The list is
+/// empty if and only if the condition holds.
 pub fn first_is_shown()
     ensures { FirstIsShown }
 {}
 
-/// States that the refusal of a specification that is not accepted shows the first place of the condition that it
-/// names.
+/// States that the refusal of a specification that is not accepted is the one for the first place in the list of the
+/// condition that the refusal names.
 pub fn refusal_is_first()
     ensures { RefusalIsFirst }
 {}
 
-/// States that at each place of a condition, the condition does not hold: the place exists in the specification, and
-/// its refusal is true.
+/// States that each place in a condition's list exists in the specification, and that the condition does not hold at
+/// the place.
 pub fn each_is_broken()
     ensures { EachIsBroken }
 {}
 
-/// States that if a condition does not hold somewhere, the condition's list has a place for this. One place of A3
-/// stands for all earlier configurations that are the same, one place of A5, A6, A7 or A13 for all environments, and
-/// one place of A11 for all configurations from which the invariant may be broken.
+/// States that if a condition does not hold somewhere, the condition's list contains a place for this. One place of
+/// A3 stands for all earlier configurations that are the same. One place of A5, A6, A7 or A13 stands for all
+/// environments in which the condition does not hold. One place of A11 stands for all configurations from which the
+/// invariant may be broken.
 pub fn none_is_left_out()
     ensures { NoneIsLeftOut }
 {}
 
-/// States that the interval that the place of an invariant shows is the smallest that contains all ranges that the
-/// invariant has to contain.
+/// States that the interval in the place of an invariant is the smallest that contains all ranges that the invariant
+/// has to contain.
 pub fn needed_is_least()
     ensures { NeededIsLeast }
 {}

@@ -64,7 +64,7 @@ fn add_way_to(ways: &mut Vec<Way>, spec: &Spec, set: u16, i: u8, j: u8) -> Resul
     Ok(())
 }
 
-// Returns whether configuration `j` is in `set`, the possible targets of configuration `i`, and differs from `i`.
+// Returns `true` if configuration `j` is in `set`, the possible targets of configuration `i`, and differs from `i`.
 fn is_other_target(spec: &Spec, set: u16, i: u8, j: u8) -> bool
     requires set { set ≡ targets spec.now (conf_id i) }
     requires inside { j < length spec.now.confs }
@@ -80,8 +80,8 @@ pub fn interval(least: i64, greatest: i64) -> Extremes
     Extremes { least, greatest }
 }
 
-// Returns the range of an invariant's variable in a place, over all acts in the place's mode. The range is from 1 to
-// 4 if the variable is the status, and from 0 to 0 if the application is off.
+// Returns the range of an invariant's variable in a place, over all acts in the place's mode. The range is from 0 to
+// 0 if the application is off. Otherwise it is from 1 to 4 if the variable is the status.
 fn range_asked(spec: &Spec, inv: &Invariant, place: Option<Place>) -> Extremes
     ensures { result ≡ interval (range_asked spec.now inv.now place) }
 {
@@ -98,7 +98,8 @@ fn range_asked(spec: &Spec, inv: &Invariant, place: Option<Place>) -> Extremes
     }
 }
 
-/// Returns the range of an invariant's variable at the end of a way.
+/// Returns the range of an invariant's variable on a way. This is its range in the configuration at the end of the
+/// way.
 pub fn range_on(spec: &Spec, inv: &Invariant, way: &Way) -> Extremes
     ensures { result ≡ interval (range_on spec.now inv.now way.now) }
 {
@@ -124,7 +125,7 @@ fn is_unheld(spec: &Spec, inv: &Invariant, way: &Way) -> bool
     speaks_of(inv, way) && !holds(inv, &range_on(spec, inv, way))
 }
 
-// Returns whether an invariant applies to the source of a way.
+// Returns `true` if an invariant applies to the source of a way.
 fn speaks_of(inv: &Invariant, way: &Way) -> bool
     ensures { result ≡ has_source inv.now.from way.now.from }
 {

@@ -1,4 +1,4 @@
--- A refusal shows a place at which its condition is broken.
+-- The condition in a refusal is broken at the place in the refusal.
 use Rattle.std.proofs.Common.{◌≡◌, ℕ, ◌<◌, Bool, true, false, refl, sym, length}
 use mathlib.Core.Logic.{inl, inr}
 use Rattle.std.specs.Prelude.{◌&&◌, Option, Some, None, option_map, slice_get}

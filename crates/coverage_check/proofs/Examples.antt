@@ -1,4 +1,4 @@
--- Examples of the definitions, computed and compared with the conditions.
+-- Examples of specifications, with their first refusals and possible targets.
 use Rattle.std.proofs.Common.{◌≡◌, refl, ℕ, List, [], ◌∷◌, pos}
 use Rattle.std.specs.Prelude.{Some, None, replicate}
 use Rattle.scram_types.specs.declared.specification.AppSpec.{AppSpec}

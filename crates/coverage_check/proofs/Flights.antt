@@ -1,5 +1,5 @@
--- An accepted specification and a script that fits it are a mission if the script never leaves the failure
--- assumption.
+-- An accepted specification and a script that fits the specification are a mission if the script never leaves the
+-- failure assumption.
 use Rattle.std.proofs.Common.{◌≡◌, None}
 use Rattle.scram_types.specs.Scripts.{ScriptParts}
 use Rattle.scram_types.specs.Specification.{Parts}

@@ -1,4 +1,5 @@
--- Lemmas on `shown_if`, which shows a value if a test holds, and on the first value that is shown.
+-- Lemmas on `shown_if`, which returns a value if a test passes, and on the first value that a search with `shown_if`
+-- finds.
 use Rattle.std.proofs.Common.{◌≡◌, ℕ, ◌<◌, Bool, true, false, refl, ap, sym, ◌∙◌}
 use Rattle.std.specs.Prelude.{Some, None}
 use Rattle.scram_types.specs.Searches.{first_below}

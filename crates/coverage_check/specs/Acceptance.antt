@@ -44,13 +44,15 @@ time_refusal spec = option_or (bound_refusal spec) (window_refusal spec)
 abbrev pub range_refusal : Parts → Option Shown
 range_refusal spec = option_or (invariant_refusal spec) (precondition_refusal spec)
 
--- The refusal by the first condition that a specification breaks, at its first place, or `None` if it breaks none.
+-- The refusal by the first condition that a specification breaks, at the first place where that condition is broken,
+-- or `None` if the specification breaks none.
 abbrev pub first_refusal : Parts → Option Shown
 first_refusal spec =
     option_or (form_refusal spec) (option_or (choice_refusal spec)
     (option_or (time_refusal spec) (option_or (range_refusal spec) (demand_refusal spec))))
 
--- An application is on in configuration `c`, and no earlier configuration is the same.
+-- An application is on in configuration `c`, and no earlier configuration gives all applications the same modes and
+-- processors.
 pub record IsShaped (spec : Parts) (c : ConfId) : Type 0 where
   pub something_on : is_empty spec c ≡ false
   pub differs : (d : ConfId) → d.0 < c.0 → is_same spec c d ≡ false
@@ -61,12 +63,12 @@ pub record IsServed (spec : Parts) (i j : ConfId) : Type 0 where
   pub given : bound_in spec.bounds i.0 j.0 ≡ Some frames
   pub serves : least spec i j ≤ frames
 
--- The interval of an invariant contains all values of its variable that reconfigurations from `i` show.
+-- The interval of an invariant contains all values that its variable can have during reconfigurations from `i`.
 pub record IsKept (spec : Parts) (inv : Invariant) (i : ConfId) : Type 0 where
   pub leaving : holds_leaving spec inv (place_of spec i inv.app.0) ≡ true
   pub reaching : (j : ConfId) → IsTarget spec i j → holds_reaching spec inv (place_of spec j inv.app.0) ≡ true
 
--- The conditions under which a specification is accepted, so that every reconfiguration is assured.
+-- The specification satisfies the conditions A1 to A13, under which it is accepted.
 pub record Accepts (spec : Parts) : Type 0 where
   pub needs_on : (c : ConfId) (a : ℕ) → c.0 < length spec.confs → a < length spec.apps → lacks_need spec c a ≡ false
   pub few_states : states spec ≤ MAX_ENVIRONMENTS
@@ -92,7 +94,7 @@ pub record AcceptedIffUnrefused (spec : Parts) : Type 0 where
 abbrev pub AcceptsIffUnrefused : Type 0
 AcceptsIffUnrefused = (spec : Parts) → IsSpec spec → AcceptedIffUnrefused spec
 
--- The place in a refusal exists in the specification, and the condition is false there.
+-- The place in a refusal exists in the specification, and the condition in the refusal is broken there.
 pub data IsBroken (spec : Parts) (shown : Shown) : Type 0 where
   NeedOff : (c a : ℕ) → c < length spec.confs → a < length spec.apps → lacks_need spec (conf_id c) a ≡ true
       → shown ≡ shown_at 1 c (other.App (app_id a)) → IsBroken spec shown
@@ -118,6 +120,6 @@ pub data IsBroken (spec : Parts) (shown : Shown) : Type 0 where
       → n < environments spec → is_number_in_scope spec n ≡ true → misses spec demand (conf_id c) (numbered spec n) ≡ true
       → shown ≡ shown_in 13 c (numbered spec n) (other.Demand k) → IsBroken spec shown
 
--- If a specification is refused, the condition that its first refusal shows is broken in it at the shown place.
+-- If a specification has a refusal, the condition in its first refusal is broken at the place in that refusal.
 abbrev pub ShownIsBroken : Type 0
 ShownIsBroken = (spec : Parts) (shown : Shown) → first_refusal spec ≡ Some shown → IsBroken spec shown

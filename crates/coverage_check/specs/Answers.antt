@@ -5,7 +5,8 @@ use Rattle.coverage_check.specs.declared.acceptance.AcceptError.{AcceptError}
 use Rattle.coverage_check.specs.declared.acceptance.AcceptError.TheVariants as error
 use Rattle.coverage_check.specs.Acceptance.{first_refusal}
 
--- The error gives back the specification and has its first refusal, unless memory ran out.
+-- The error contains the specification. Unless memory ran out, it also contains the first refusal of the
+-- specification.
 abbrev pub IsRefusal : Parts → AcceptError → Type 0
 IsRefusal spec (error.NotAccepted back shown) = (back ≡ spec) × (first_refusal spec ≡ Some shown)
 IsRefusal spec (error.NoMemory back) = back ≡ spec

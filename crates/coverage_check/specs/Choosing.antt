@@ -1,4 +1,5 @@
--- The conditions A5 to A8: the results that the choice table must give in each environment in scope.
+-- The conditions A5 to A7 on the choices of the table in each environment in scope, and the condition A8 on the
+-- choice from the start configuration in the opening environment.
 use Rattle.std.specs.Prelude.{ℕ, Bool, not, ◌==◌, length, Option, option_map}
 use Rattle.scram_types.specs.Lookups.{opening_env, conf_id}
 use Rattle.scram_types.specs.declared.ids.ConfId.{ConfId}
@@ -15,8 +16,9 @@ use Rattle.coverage_check.specs.declared.choosing.Requirement.TheVariants as req
 use Rattle.coverage_check.specs.Search.{first_passing_env, shown_if}
 use Rattle.coverage_check.specs.Showing.{shown_in}
 
--- Whether configuration `c` does not meet a requirement in an environment. A5 is not met if no rule fits, A6 if the
--- target cannot run, and A7 if another target is chosen from the target.
+-- Whether configuration `c` does not meet a requirement in an environment. `HasRule` is not met if no rule fits.
+-- `CanRun` is not met if the chosen target cannot run. `Stays` is not met if another target is chosen from the chosen
+-- target.
 abbrev pub is_unmet : Parts → Requirement → ConfId → Env → Bool
 is_unmet spec requirement.HasRule c v = not (has_rule spec c v)
 is_unmet spec requirement.CanRun c v = not (is_runnable spec (choose spec c v) v)
@@ -28,8 +30,8 @@ number_of_requirement requirement.HasRule = 5
 number_of_requirement requirement.CanRun = 6
 number_of_requirement requirement.Stays = 7
 
--- The part of a refusal for configuration `c` besides the configuration and the environment: the target that is
--- chosen from `c` if the requirement is on the target, or `Nothing` if it is that a rule fits.
+-- The value of `other` in a refusal for configuration `c` and an environment: `Nothing` for `HasRule`, or the target
+-- that is chosen from `c` for the other two requirements, `CanRun` and `Stays`.
 abbrev pub target_shown : Parts → Requirement → ConfId → Env → Other
 target_shown spec requirement.HasRule c v = other.Nothing
 target_shown spec requirement.CanRun c v = other.Conf (choose spec c v)

@@ -13,18 +13,18 @@ use Rattle.coverage_check.specs.declared.shown.Other.TheVariants as other
 use Rattle.coverage_check.specs.Search.{first_passing_env}
 use Rattle.coverage_check.specs.Showing.{shown_in}
 
--- The first environment in scope in which the table misses a demand from configuration `c`, or `None` if it misses it
--- in none.
+-- The first environment in scope in which the table misses a demand from configuration `c`, or `None` if there is no
+-- such environment.
 abbrev pub first_missed_env : Parts → Demand → ConfId → Option Env
 first_missed_env spec demand c = first_passing_env spec (misses spec demand c)
 
--- The refusal for the first environment in which the table misses demand `k` from configuration `c`, or `None` if it
--- misses it in none. The demand is `demand`.
+-- The refusal for the first environment in scope in which the table misses demand `k` from configuration `c`, or
+-- `None` if it misses the demand in no such environment. Here `demand` is demand `k`.
 abbrev pub demand_refusal_of : Parts → ℕ → ℕ → Demand → Option Shown
 demand_refusal_of spec c k demand = option_map (λ (v : Env). shown_in 13 c v (other.Demand k)) (first_missed_env spec demand (conf_id c))
 
--- The refusal for the first environment in which the table misses demand `k` from configuration `c`, or `None` if it
--- misses it in none or there is no demand `k`.
+-- The refusal for the first environment in scope in which the table misses demand `k` from configuration `c`. The
+-- value is `None` if the table misses the demand in no such environment or there is no demand `k`.
 abbrev pub demand_refusal_at : Parts → ℕ → ℕ → Option Shown
 demand_refusal_at spec c k = option_map_or (demand_refusal_of spec c k) (slice_get spec.demands k) None
 
@@ -32,8 +32,8 @@ demand_refusal_at spec c k = option_map_or (demand_refusal_of spec c k) (slice_g
 abbrev pub demand_refusal_in : Parts → ℕ → Option Shown
 demand_refusal_in spec c = first_below (demand_refusal_at spec c) (length spec.demands)
 
--- The refusal for demand `k` and configuration `c`, given the list `found`, which has for each demand the first
--- environment in which it is missed from `c`. `None` if demand `k` is not missed or the list has no entry `k`.
+-- The refusal for demand `k` and configuration `c`, or `None` if the demand is not missed or the list `found` has no
+-- entry `k`. The list contains for each demand the first environment in which the demand is missed from `c`.
 abbrev pub miss_shown : List (Option Env) → ℕ → ℕ → Option Shown
 miss_shown found c k =
     option_and_then (λ (least : Option Env). option_map (λ (v : Env). shown_in 13 c v (other.Demand k)) least) (slice_get found k)

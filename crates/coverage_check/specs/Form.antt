@@ -50,7 +50,8 @@ is_same_place (Some one) (Some other) = one.mode.0 == other.mode.0 && one.proc.0
 abbrev pub is_same : Parts → ConfId → ConfId → Bool
 is_same spec c d = all_below (λ a. is_same_place (place_of spec c a) (place_of spec d a)) 8
 
--- The load of application `a` on processor `p` in configuration `c`, or 0 if the application is not placed there.
+-- The load of application `a` on processor `p` in configuration `c`. The load is 0 if the application is not placed
+-- on `p` or its mode does not exist.
 abbrev pub load_of : Parts → ConfId → ℕ → ℕ → ℕ
 load_of spec c p a =
     if option_map_or (λ (place : Place). place.proc.0 == p) (place_of spec c a) false

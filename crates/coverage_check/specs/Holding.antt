@@ -29,43 +29,46 @@ holds_during spec inv status mode = holds_range inv.least inv.greatest (during (
 abbrev pub holds_off : Invariant → Bool
 holds_off inv = holds_range inv.least inv.greatest (pos 0, pos 0)
 
--- Whether an invariant's interval contains the values that are seen while a configuration is left, given the
--- application's place there: those in the place's mode as the application initialises, runs and halts, or zero if the
--- application is off.
+-- Whether an invariant's interval contains the values of its variable while a configuration is left, given the
+-- application's place in the configuration. With a place, these are the values in the place's mode as the application
+-- initialises, runs and halts. With `None`, the only value is zero.
 abbrev pub holds_leaving : Parts → Invariant → Option Place → Bool
 holds_leaving spec inv None = holds_off inv
 holds_leaving spec inv (Some place) =
     holds_during spec inv 4 place.mode.0 && holds_during spec inv 1 place.mode.0 && holds_during spec inv 2 place.mode.0
 
--- Whether an invariant's interval contains the values that are seen while a target is reached and left again for
--- another, given the application's place there, or zero if the application is off.
+-- Whether an invariant's interval contains the values of its variable while a target is reached and left again, given
+-- the application's place in the target. With a place, these are the values as the application prepares, and those of
+-- `holds_leaving`. With `None`, the only value is zero.
 abbrev pub holds_reaching : Parts → Invariant → Option Place → Bool
 holds_reaching spec inv None = holds_off inv
 holds_reaching spec inv (Some place) = holds_during spec inv 3 place.mode.0 && holds_leaving spec inv (Some place)
 
--- Whether an invariant's interval contains the values that are seen on the way from `i` to `j`, if `j` is a possible
--- target.
+-- Whether configuration `j` is not a possible target of `i`, or an invariant's interval contains the values of its
+-- variable while `j` is reached and left again.
 abbrev pub holds_on_way : Parts → Invariant → ConfId → ℕ → Bool
 holds_on_way spec inv i j = not (is_target spec i j) || holds_reaching spec inv (place_of spec (conf_id j) inv.app.0)
 
--- Whether an invariant holds on the way from a configuration to each of its possible targets.
+-- Whether an invariant's interval contains the values of its variable while each possible target of configuration `i`
+-- is reached and left again.
 abbrev pub holds_reached : Parts → Invariant → ConfId → Bool
 holds_reached spec inv i = all_below (holds_on_way spec inv i) (length spec.confs)
 
--- Whether an invariant holds throughout all reconfigurations that leave configuration `i`.
+-- Whether an invariant's interval contains the values of its variable throughout all reconfigurations from
+-- configuration `i`.
 abbrev pub holds_from : Parts → Invariant → ConfId → Bool
 holds_from spec inv i = holds_leaving spec inv (place_of spec i inv.app.0) && holds_reached spec inv i
 
--- Whether an invariant applies to configuration `i` and may be broken while the configuration is left.
+-- Whether an invariant applies to configuration `i` and may be broken during a reconfiguration from `i`.
 abbrev pub breaks_from : Parts → Invariant → ConfId → Bool
 breaks_from spec inv i = has_source inv.from i && not (holds_from spec inv i)
 
--- The refusal of invariant `k` for the first configuration that may be left with the invariant broken, or `None` if
--- there is no such configuration. The invariant is `inv`.
+-- The refusal of invariant `k` for the first configuration from which a reconfiguration may break the invariant, or
+-- `None` if there is no such configuration. Here `inv` is invariant `k`.
 abbrev pub invariant_refusal_of : Parts → ℕ → Invariant → Option Shown
 invariant_refusal_of spec k inv = first_below (λ i. shown_if (breaks_from spec inv (conf_id i)) (shown_at 11 i (other.Item k))) (length spec.confs)
 
--- The refusal of invariant `k`, or `None` if it cannot be broken or there is no invariant `k`.
+-- The refusal of invariant `k`, or `None` if the invariant cannot be broken or there is no invariant `k`.
 abbrev pub invariant_refusal_at : Parts → ℕ → Option Shown
 invariant_refusal_at spec k = option_map_or (invariant_refusal_of spec k) (slice_get spec.invariants k) None
 
@@ -83,11 +86,12 @@ holds_entering spec pre (Some place) = holds_range pre.least pre.greatest (after
 abbrev pub breaks_entering : Parts → Precondition → Bool
 breaks_entering spec pre = not (holds_entering spec pre (place_of spec pre.conf pre.app.0))
 
--- The refusal of precondition `k` if it may be broken, or `None` if it may not. The precondition is `pre`.
+-- The refusal of precondition `k` if the precondition may be broken, or `None` if it may not. Here `pre` is
+-- precondition `k`.
 abbrev pub precondition_refusal_of : Parts → ℕ → Precondition → Option Shown
 precondition_refusal_of spec k pre = shown_if (breaks_entering spec pre) (shown_at 12 pre.conf.0 (other.Item k))
 
--- The refusal of precondition `k`, or `None` if it cannot be broken or there is no precondition `k`.
+-- The refusal of precondition `k`, or `None` if the precondition cannot be broken or there is no precondition `k`.
 abbrev pub precondition_refusal_at : Parts → ℕ → Option Shown
 precondition_refusal_at spec k = option_map_or (precondition_refusal_of spec k) (slice_get spec.preconditions k) None
 

@@ -12,8 +12,8 @@ pub record StaysInScope (spec : Parts) (script : ScriptParts) (f : ℕ) : Type 0
   pub belongs : IsEnv spec (env_at spec script f)
   pub scope : in_scope spec (env_at spec script f) ≡ true
 
--- The environment is in scope in each frame up to and including the frame after the last one. The first frame's
--- environment is the one in which a flight opens.
+-- The environment is in scope in each frame up to and including the frame after the last one. The environment of
+-- frame 0 is `opening_env`.
 pub record KeepsScope (spec : Parts) (script : ScriptParts) : Type 0 where
   pub opens : env_at spec script 0 ≡ opening_env spec
   pub stays : (f : ℕ) → f ≤ script.frames → StaysInScope spec script f

@@ -1,4 +1,4 @@
--- A mission: an accepted specification, and a script that fits it and keeps to its failure assumption.
+-- A mission: an accepted specification, and a script that fits the specification and keeps to its failure assumption.
 use Rattle.scram_types.specs.Specification.{Parts}
 use Rattle.scram_types.specs.Scripts.{ScriptParts}
 use Rattle.fault_script.specs.Fits.{Fits}
@@ -10,7 +10,7 @@ pub record MissionParts : Type 0 where
   pub spec : Parts
   pub script : ScriptParts
 
--- The specification is accepted, and the script fits it and keeps to its failure assumption.
+-- The specification is accepted, and the script fits the specification and keeps to its failure assumption.
 pub record IsMission (mission : MissionParts) : Type 0 where
   pub accepts : Accepts mission.spec
   pub fits : Fits mission.spec mission.script

@@ -5,7 +5,7 @@ use Rattle.scram_types.specs.Scripts.{ScriptParts}
 use Rattle.fault_script.specs.Assumption.{first_outside}
 use Rattle.coverage_check.specs.declared.missions.NotWithin.{NotWithin}
 
--- The refusal gives back the specification and the script, and has the first frame outside the failure assumption.
+-- The refusal contains the specification, the script, and the first frame outside the failure assumption.
 pub record IsNotWithin (spec : Parts) (script : ScriptParts) (refused : NotWithin) : Type 0 where
   pub accepted : refused.accepted ≡ spec
   pub script_back : refused.script ≡ script

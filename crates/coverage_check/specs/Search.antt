@@ -1,4 +1,4 @@
--- Searches among the numbers below a bound.
+-- The search for the first environment in scope that passes a test.
 use Rattle.std.specs.Prelude.{ℕ, Bool, ◌&&◌, Option, Some, None, if◌then◌else◌}
 use Rattle.scram_types.specs.declared.rows.Env.{Env}
 use Rattle.scram_types.specs.Searches.{first_below}

@@ -8,11 +8,11 @@ use Rattle.choice_table.specs.Choices.{IsTarget}
 use Rattle.cube_cover.specs.declared.answers.Cover.{Cover}
 use Rattle.cube_cover.specs.Covers.{IsCover}
 
--- The list has the cover of each configuration.
+-- For each configuration `i`, entry `i` of the list is the cover of `i`.
 abbrev pub HasCovers : Parts → List Cover → Type 0
 HasCovers spec covers = (i : ℕ) (cover : Cover) → i < length spec.confs → slice_get covers i ≡ Some cover → IsCover spec (conf_id i) cover
 
--- `set` has the possible targets of `i` as bits, and no other bits.
+-- `set` contains the possible targets of `i` as bits, and no other bits.
 pub record AreTargets (spec : Parts) (i : ConfId) (set : ℕ) : Type 0 where
   pub only : (j : ConfId) → j.0 < length spec.confs → has_bit set j.0 ≡ true → IsTarget spec i j
   pub all : (j : ConfId) → IsTarget spec i j → has_bit set j.0 ≡ true

@@ -35,7 +35,8 @@ abbrev pub further : Policy → ℕ → ℕ
 further policy.Retarget changes = changes
 further policy.Settle changes = suc changes
 
--- The maximum length of the way from one target's choice to the next, over all configurations, in frames.
+-- The greatest sum, over all configurations, of the frames to prepare and to initialise, one frame, and the frames to
+-- halt. No more frames pass from the choice of one target to the choice of the next.
 abbrev pub slowest : Parts → ℕ
 slowest spec =
     greatest_below (λ k. preparing_time spec (conf_id k) + initialising_time spec (conf_id k) + 1 + halting_time spec (conf_id k)) (length spec.confs)
@@ -53,8 +54,7 @@ can_return spec = nat_lt 0 (further spec.policy spec.changes)
 abbrev pub is_bounded : Parts → ConfId → ConfId → Bool
 is_bounded spec i j = option_map_or (λ (t : ℕ). nat_le (least spec i j) t) (bound_in spec.bounds i.0 j.0) false
 
--- Whether a reconfiguration from `i` may end in `j`. It may end in `i` itself only if a reconfiguration may return to
--- where it began.
+-- Whether a reconfiguration from `i` may end in `j`. It may end in `i` itself only if `can_return` is `true`.
 abbrev pub may_end_in : Parts → ConfId → ConfId → Bool
 may_end_in spec i j = not (i.0 == j.0) || can_return spec
 
@@ -88,7 +88,7 @@ abbrev pub greatest_bound : List Bound → ℕ
 greatest_bound [] = 0
 greatest_bound (bound ∷ bounds) = max bound.frames (greatest_bound bounds)
 
--- Whether the window of the failure assumption is shorter than the longest reconfiguration and the frame after it.
+-- Whether the window of the failure assumption is not longer than the greatest bound that is given.
 abbrev pub has_short_window : Parts → Bool
 has_short_window spec = nat_lt spec.window (greatest_bound spec.bounds + 1)
 

@@ -47,7 +47,8 @@ impl Accepted {
 /// The reason why a specification is not accepted, with the unchanged specification.
 #[derive(Drop)]
 pub enum AcceptError {
-    /// A condition does not hold. The refusal shows the first place of the first such condition.
+    /// A condition does not hold. The refusal contains the first such condition and the first place where it is
+    /// broken.
     NotAccepted(Spec, Shown),
     NoMemory(Spec),
 }
@@ -58,8 +59,8 @@ pub enum AcceptError {
 ///
 /// Returns the refusal by the first condition that does not hold, at its smallest configuration, then at the
 /// environment with the smallest number, then at the smallest other value. For invariants and preconditions, the
-/// first item is shown, with its smallest configuration. For demands, the smallest configuration comes first, then
-/// the first demand, then its first environment. Returns `NoMemory` if memory runs out. Both errors give back the
+/// first item comes first, then its smallest configuration. For demands, the smallest configuration comes first, then
+/// the first demand, then its first environment. Returns `NoMemory` if memory runs out. Both errors contain the
 /// specification.
 #[tactic(auto, using(crate::proofs::Accepting::accepted))]
 pub fn accept(alloc: Global, spec: Spec) -> Result<Accepted, AcceptError>

@@ -1,4 +1,5 @@
-//! The conditions A5 to A8: the results that the choice table must give in each environment in scope.
+//! The conditions A5 to A7 on the choices of the table in each environment in scope, and the condition A8 on the
+//! choice from the start configuration in the opening environment.
 
 ghost use Rattle.std.specs.Prelude.{◌≡◌};
 ghost use Rattle.scram_types.specs.Lookups.{conf_id};
@@ -23,7 +24,7 @@ pub enum Requirement {
 }
 
 // Returns the refusal for the first configuration and environment in which a requirement (A5 to A7) is not met, or
-// `None` if it is met throughout.
+// `None` if each configuration meets it in each environment in scope.
 pub(crate) fn refuse_requirement(
     spec: &Spec,
     covers: &[Cover; 12],
@@ -91,7 +92,8 @@ fn target_shown(spec: &Spec, requirement: Requirement, c: ConfId, env: &Env) -> 
     }
 }
 
-// Returns the refusal if the table leaves the start configuration at once (A8), or `None` if it stays in it.
+// Returns the refusal if the table chooses another configuration from the start configuration in the opening
+// environment (A8), or `None` if it does not.
 pub(crate) fn refuse_start(spec: &Spec) -> Option<Shown>
     ensures { result ≡ start_refusal spec.now }
 {

@@ -96,7 +96,7 @@ fn refuse_shape_of(spec: &Spec, c: u8) -> Option<Shown>
     }
 }
 
-/// Returns whether no application is on in a configuration.
+/// Returns `true` if no application is on in a configuration.
 pub fn is_empty(spec: &Spec, c: ConfId) -> bool
     ensures { result ≡ is_empty spec.now c }
 {
@@ -119,7 +119,7 @@ fn refuse_twin_of(spec: &Spec, c: u8) -> Option<Shown>
     None
 }
 
-/// Returns whether two configurations give each application the same mode and processor.
+/// Returns `true` if two configurations give each application the same mode and processor.
 pub fn is_same(spec: &Spec, c: ConfId, d: ConfId) -> bool
     ensures { result ≡ is_same spec.now c d }
 {
@@ -166,7 +166,7 @@ fn refuse_load_in(spec: &Spec, c: u8) -> Option<Shown>
     None
 }
 
-/// Returns whether configuration `c` loads processor `p` beyond its capacity.
+/// Returns `true` if configuration `c` loads processor `p` beyond its capacity.
 pub fn is_overloaded(spec: &Spec, c: ConfId, p: u8) -> bool
     ensures { result ≡ is_overloaded spec.now c p }
 {

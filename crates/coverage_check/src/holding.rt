@@ -15,8 +15,8 @@ use app_model::{after_init, during};
 use cube_cover::Cover;
 use scram_types::{AppId, ConfId, Invariant, KindId, Mode, Place, Precondition, Spec};
 
-// Returns the refusal for the first invariant that may be broken during a reconfiguration (A11), with the first
-// configuration that such a reconfiguration may leave, or `None` if no invariant may be broken.
+// Returns the refusal for the first invariant that may be broken during a reconfiguration (A11), at the first
+// configuration from which such a reconfiguration may begin. Returns `None` if no invariant may be broken.
 pub(crate) fn refuse_invariant(spec: &Spec, covers: &[Cover; 12]) -> Option<Shown>
     requires { HasCovers spec.now covers.now }
     ensures { result ≡ invariant_refusal spec.now }
@@ -76,8 +76,8 @@ fn holds_from(spec: &Spec, cover: &Cover, inv: &Invariant, i: u8) -> bool
         && holds_reached(spec, cover, inv, i)
 }
 
-// Returns whether the invariant's interval contains the values that are seen on the way from `i` to each of its
-// possible targets.
+// Returns `true` if the invariant's interval contains the values of its variable while each possible target of `i` is
+// reached and left again.
 fn holds_reached(spec: &Spec, cover: &Cover, inv: &Invariant, i: u8) -> bool
     requires { IsCover spec.now (conf_id i) cover.now }
     ensures { result ≡ holds_reached spec.now inv.now (conf_id i) }
@@ -99,8 +99,8 @@ fn holds_on_way(spec: &Spec, cover: &Cover, inv: &Invariant, i: u8, j: u8) -> bo
     !is_in(cover.targets, j) || holds_reaching(spec, inv, spec.place_of(ConfId(j), inv.app))
 }
 
-// Returns whether the invariant's interval contains the values that are seen while the application leaves its mode, or
-// zero if the application is off.
+// Returns `true` if the invariant's interval contains the values of its variable as the application initialises, runs
+// and halts at a place. With `None`, the application is off and the only value is zero.
 fn holds_leaving(spec: &Spec, inv: &Invariant, place: Option<Place>) -> bool
     ensures { result ≡ holds_leaving spec.now inv.now place }
 {
@@ -114,8 +114,8 @@ fn holds_leaving(spec: &Spec, inv: &Invariant, place: Option<Place>) -> bool
     }
 }
 
-// Returns whether the invariant's interval contains the values that are seen while the application reaches its mode
-// and leaves it again, or zero if the application is off.
+// Returns `true` if the invariant's interval contains the values of its variable as the application prepares,
+// initialises, runs and halts at a place. With `None`, the application is off and the only value is zero.
 fn holds_reaching(spec: &Spec, inv: &Invariant, place: Option<Place>) -> bool
     ensures { result ≡ holds_reaching spec.now inv.now place }
 {
@@ -126,7 +126,7 @@ fn holds_reaching(spec: &Spec, inv: &Invariant, place: Option<Place>) -> bool
     }
 }
 
-// Returns whether the invariant's interval contains the range of its variable for a status in a mode.
+// Returns `true` if the invariant's interval contains the range of its variable for a status in a mode.
 fn holds_during(spec: &Spec, inv: &Invariant, status: u8, mode: Mode) -> bool
     ensures { result ≡ holds_during spec.now inv.now status mode.0 }
 {
@@ -143,7 +143,7 @@ fn holds_off(inv: &Invariant) -> bool
     holds_range(inv.least, inv.greatest, (0, 0))
 }
 
-// Returns whether the interval from `low` to `high` contains a range.
+// Returns `true` if the interval from `low` to `high` contains a range.
 fn holds_range(low: i64, high: i64, range: (i64, i64)) -> bool
     ensures { result ≡ holds_range low high range }
 {
@@ -183,7 +183,7 @@ fn refuse_precondition_of(spec: &Spec, k: u32, pre: &Precondition) -> Option<Sho
     }
 }
 
-/// Returns whether a precondition may be broken as its configuration is entered.
+/// Returns `true` if a precondition may be broken as its configuration is entered.
 pub fn breaks_entering(spec: &Spec, pre: &Precondition) -> bool
     ensures { result ≡ breaks_entering spec.now pre.now }
 {

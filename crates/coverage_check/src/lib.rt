@@ -1,6 +1,6 @@
 //! The static check of a specification by the conditions A1 to A13. `accept` returns an accepted specification, for
-//! which every reconfiguration is assured, or the first condition that does not hold and its first place. A mission is
-//! an accepted specification with a script that keeps to its failure assumption.
+//! which every reconfiguration is assured, or the first condition that does not hold and the first place where it is
+//! broken. A mission is an accepted specification with a script that keeps to the specification's failure assumption.
 #![tactic(auto)]
 
 pub mod acceptance;

@@ -1,4 +1,4 @@
-//! Missions: an accepted specification with a script that keeps to its failure assumption.
+//! Missions: an accepted specification with a script that keeps to the specification's failure assumption.
 
 ghost use Rattle.coverage_check.specs.Keeping.{MissionsKeepScope};
 
@@ -6,7 +6,7 @@ use crate::acceptance::Accepted;
 use fault_script::{Outside, within};
 use scram_types::{Script, Spec};
 
-/// An accepted specification, and a script that fits it and keeps to its failure assumption.
+/// An accepted specification, and a script that fits the specification and keeps to its failure assumption.
 #[derive(Drop)]
 pub struct Mission {
     accepted: Accepted,
@@ -23,8 +23,8 @@ impl std::marker::Model for Mission {
     ghost invariant = { λ m. IsMission (record { spec = m.accepted; script = m.script }) };
 }
 
-/// The refusal of a script, with the first frame in which the script leaves the failure assumption. It gives back the
-/// specification and the script.
+/// The refusal of a script: the first frame in which the script leaves the failure assumption, with the specification
+/// and the script.
 #[derive(Drop)]
 pub struct NotWithin {
     pub accepted: Accepted,
@@ -40,7 +40,7 @@ impl Mission {
     ghost use Rattle.coverage_check.specs.Missions.{IsMission, mission_of};
     ghost use Rattle.coverage_check.specs.Refusals.{IsNotWithin};
 
-    /// Creates the mission of an accepted specification and a script that fits it.
+    /// Creates the mission of an accepted specification and a script that fits the specification.
     ///
     /// # Errors
     ///
@@ -75,8 +75,8 @@ impl Mission {
         &self.script
     }
 
-    /// States by its contract that the mission has an accepted specification, and a script that fits it and keeps to
-    /// its failure assumption. The call has no effect.
+    /// States by its contract that the mission has an accepted specification, and a script that fits the
+    /// specification and keeps to its failure assumption. The call has no effect.
     pub fn holds(&self)
         ensures spec { IsSpec self.now.spec }
         ensures mission { IsMission self.now }
@@ -86,7 +86,8 @@ impl Mission {
 }
 
 /// States that in each frame of a mission, and in the frame after the last one, the environment belongs to the
-/// specification and is in scope. The first frame's environment is the one for which acceptance checks the start.
+/// specification and is in scope. The environment of frame 0 is the opening environment, for which A8 checks the
+/// start.
 pub fn missions_keep_scope()
     ensures { MissionsKeepScope }
 {}

@@ -1,4 +1,4 @@
-//! The number of configurations, applications and processors of a specification.
+//! The numbers of configurations, applications and processors of a specification.
 
 ghost use Rattle.std.specs.Prelude.{◌≡◌, ◌≤◌, length};
 ghost use Rattle.scram_types.specs.Specification.{IsSpec};

@@ -26,7 +26,8 @@ pub fn targets(alloc: Global, spec: &Spec, i: ConfId) -> Result<u16, NoMemory>
     Ok(found.targets)
 }
 
-// Returns the cover of each configuration. The memory of a cover is freed before the next one is made.
+// Returns the cover of each configuration. The entries past the last configuration are empty covers. The memory of a
+// cover is freed before the next one is computed.
 pub(crate) fn find_covers(alloc: Global, spec: &Spec) -> Result<[Cover; 12], NoMemory>
     ensures { IfOk result (λ covers. HasCovers spec.now covers) }
 {
@@ -42,7 +43,7 @@ pub(crate) fn find_covers(alloc: Global, spec: &Spec) -> Result<[Cover; 12], NoM
     Ok(covers)
 }
 
-// Returns whether `j` is an element of a set that is kept as bits.
+// Returns `true` if `j` is an element of a set of numbers, given as bits.
 pub(crate) fn is_in(set: u16, j: u8) -> bool
     requires { j < 16 }
     ensures { result ≡ has_bit set j }

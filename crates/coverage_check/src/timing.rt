@@ -18,7 +18,8 @@ use std::alloc::Global;
 
 /// Returns the minimum bound, in frames, that suffices for a reconfiguration from configuration `i` to `j`. It counts
 /// one frame, the frames that `i` takes to halt, and the frames that `j` takes to prepare and to initialise. For each
-/// further change of the environment, it adds the longest way from one target's choice to the next.
+/// further change of the environment, it adds the greatest number of frames from the choice of one target to the
+/// choice of the next.
 pub fn least(spec: &Spec, i: ConfId, j: ConfId) -> u32
     ensures { result ≡ least spec.now i j }
 {
@@ -27,8 +28,9 @@ pub fn least(spec: &Spec, i: ConfId, j: ConfId) -> u32
     before + u32::from(target.p) + u32::from(target.i)
 }
 
-/// Returns the configurations, as bits, to which a specification must give a bound from configuration `i`. They are the
-/// possible targets of `i`, with `i` itself only if a reconfiguration may return to where it began.
+/// Returns the configurations, as bits, to which a specification must give a bound from configuration `i`. They are
+/// the possible targets of `i`. Configuration `i` itself is one of them only if a reconfiguration may return to the
+/// configuration in which it began.
 ///
 /// # Errors
 ///
@@ -71,7 +73,7 @@ fn further(spec: &Spec) -> u32
     }
 }
 
-// Returns the maximum length of the way from one target's choice to the next, in frames.
+// Returns the greatest number of frames from the choice of one target to the choice of the next.
 fn slowest(spec: &Spec) -> u32
     ensures value { result ≡ slowest spec.now }
     ensures most { result ≤ 196606 }
@@ -119,7 +121,7 @@ fn refuse_bound_of(spec: &Spec, cover: &Cover, i: u8) -> Option<Shown>
     None
 }
 
-// Returns whether a bound from `i` to `j` is required, given the cover of `i`.
+// Returns `true` if a bound from `i` to `j` is required, given the cover of `i`.
 fn is_bound_asked(spec: &Spec, cover: &Cover, i: u8, j: u8) -> bool
     requires known { IsSpec spec.now }
     requires cover { IsCover spec.now (conf_id i) cover.now }
@@ -129,7 +131,8 @@ fn is_bound_asked(spec: &Spec, cover: &Cover, i: u8, j: u8) -> bool
     is_in(cover.targets, j) && may_end_in(spec, ConfId(i), ConfId(j))
 }
 
-// Returns whether a reconfiguration from `i` may end in `j`, which may be `i` itself.
+// Returns `true` if a reconfiguration from `i` may end in `j`. It may end in `i` itself only if `can_return` returns
+// `true`.
 fn may_end_in(spec: &Spec, i: ConfId, j: ConfId) -> bool
     ensures { result ≡ may_end_in spec.now i j }
 {
@@ -142,7 +145,7 @@ fn can_return(spec: &Spec) -> bool
     0 < further(spec)
 }
 
-/// Returns whether a bound from `i` to `j` is given and suffices.
+/// Returns `true` if a bound from `i` to `j` is given and suffices.
 pub fn is_bounded(spec: &Spec, i: ConfId, j: ConfId) -> bool
     ensures { result ≡ is_bounded spec.now i j }
 {

@@ -7,8 +7,9 @@ use Rattle.scram_types.specs.Bits.{count_below}
 use Rattle.cube_cover.specs.Cubes.{once}
 use Rattle.cube_cover.specs.Sizes.{sum_below}
 
--- The number of `n` below `a * b` such that `n / b` passes one test and `n % b` another is the product of the numbers
--- that pass each test. The proof goes through the quotients one by one.
+-- The number of `n` below `a * b` such that `n / b` passes one test and `n % b` passes another is a product. Its
+-- factors are the number of quotients below `a` that pass the first test and the number of remainders below `b` that
+-- pass the second. The proof goes through the quotients one by one.
 
 row_more : (f g h : ℕ → Bool) (d b k : ℕ) → count_below f (d * b) ≡ count_below g d * count_below h b
     → ((j : ℕ) → j < k → f (d * b + j) ≡ (g d && h j)) → count_below f (d * b + k) ≡ count_below g d * count_below h b + (if g d then count_below h k else 0)
@@ -65,7 +66,8 @@ pub sum_most : (f : ℕ → ℕ) (n : ℕ) → ((k : ℕ) → k < n → f k ≤ 
 sum_most f zero few = omega arith
 sum_most f (suc n) few = let before = sum_most f n (λ k less. few k (omega arith)) in let last = few n (omega arith) in omega arith
 
--- If each number belongs to one part below `m`, the counts of all parts add up to the whole count.
+-- If `part` assigns each number below `n` a part below `m`, the counts of the parts add up to the count of all
+-- numbers below `n` that pass the test.
 pub sum_parted : (test : ℕ → Bool) (part : ℕ → ℕ) (n m : ℕ) → ((k : ℕ) → k < n → part k < m)
     → sum_below (λ j. count_below (λ k. test k && (part k == j)) n) m ≡ count_below test n
 sum_parted test part zero m inside = sum_zero (λ j. 0) m (λ j less. refl)

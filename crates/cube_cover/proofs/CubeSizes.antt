@@ -1,4 +1,4 @@
--- The number of environments in scope that a cube holds, and cubes that hold no environment twice.
+-- The number of environments in scope that a cube holds, and lists of cubes that hold no environment twice.
 use Rattle.std.proofs.Common.{◌≡◌, ◌∙◌, ℕ, zero, suc, ◌+◌, ◌-◌, ◌*◌, ◌^◌, ◌<◌, ◌≤◌, ◌/◌, ◌%◌, refl, ap, sym, arith, Bool, true, false, ◌&&◌, List, [], ◌∷◌, ◌++◌, length, drop, take, get_or}
 use mathlib.Core.Logic.{inl, inr}
 use Rattle.std.specs.Prelude.{replicate, slice_index, if◌then◌else◌}
@@ -24,7 +24,7 @@ use Rattle.cube_cover.proofs.Closed.{digit_factor, digit_processor}
 use Rattle.cube_cover.proofs.Counts.{count_never, count_product, sum_both, sum_most, sum_once, sum_same, sum_zero}
 use Rattle.cube_cover.proofs.Holders.{held_before, held_by_none, held_once, held_taken}
 
--- Lemmas on the test of all places, split into the factors and the processors.
+-- Lemmas that split a test of all places into a test of the factors and a test of the processors.
 
 all_parts : (test : ℕ → Bool) (a n : ℕ) → all_below test (a + n) ≡ (all_below test a && all_below (λ k. test (a + k)) n)
 all_parts test a zero = let e : a + 0 ≡ a = omega arith in rw (e) (keep (all_below test a))
@@ -64,7 +64,8 @@ open_list cube (a ∷ b ∷ c ∷ d ∷ []) six = absurd (omega arith)
 open_list cube (a ∷ b ∷ c ∷ d ∷ e ∷ []) six = absurd (omega arith)
 open_list cube (a ∷ b ∷ c ∷ d ∷ e ∷ f ∷ g ∷ more) six = absurd (omega arith)
 
--- A cube holds an environment if and only if the values of its factors and the digits of its processors are open.
+-- A cube holds an environment if and only if the values of the environment's factors and the digits of its processors
+-- are open.
 pub held_by_parts : (cube : Cube) (v : Env) → length v.factors ≡ 6 → holds cube v ≡ (are_open cube 0 v.factors && allows_up cube v.up)
 unfolding holds
 held_by_parts cube v six =
@@ -108,8 +109,9 @@ module _ (spec : Parts) (made : IsSpec spec) (cube : Cube) where
       let few = made.factors_count in
       length-append (values_of spec.factors n) zeros ∙ rw (values_length spec.factors n, length-replicate {A = ℕ} (6 - length spec.factors) 0) (omega arith)
 
-  -- The environment with number `n` is in scope and held by the cube if and only if its set of processors is allowed
-  -- and its combination of values is open.
+  -- If digit 0 is open at each place past the last factor, the cube holds the environment with number `n` and the
+  -- environment is in scope if and only if the environment's set of processors is allowed and its combination of
+  -- values is open.
   held_number : (n : ℕ) → are_open cube (length spec.factors) zeros ≡ true → passes_at spec (holds cube) n
       ≡ (is_down_held spec cube (n / combinations spec.factors) && are_open cube 0 (values_of spec.factors (n % combinations spec.factors)))
   held_number n shut =
@@ -144,8 +146,8 @@ module _ (spec : Parts) (made : IsSpec spec) (cube : Cube) where
       turn true false u = refl
       turn false a u = refl
 
-  -- The number of environments in scope that the cube holds is the number of sets of processors times the number of
-  -- combinations of values, or 0 if digit 0 is not open at some place past the last factor.
+  -- The number of environments in scope that the cube holds is the number of allowed sets of processors times the
+  -- number of open combinations of values. It is 0 if digit 0 is not open at some place past the last factor.
   pub size_counted : (sets ways : ℕ) → are_open cube (length spec.factors) zeros ≡ true → sets ≡ count_below (is_down_held spec cube) (2 ^ length spec.procs)
       → ways ≡ open_ways cube 0 spec.factors → sets * ways ≡ count_where spec (holds cube)
   size_counted sets ways shut sets_are ways_are =
@@ -156,7 +158,7 @@ module _ (spec : Parts) (made : IsSpec spec) (cube : Cube) where
   pub size_none : are_open cube (length spec.factors) zeros ≡ false → 0 ≡ count_where spec (holds cube)
   size_none shut = sym (count_never (passes_at spec (holds cube)) (environments spec) (λ n less. none_number n shut))
 
--- Lemmas on cubes that hold no environment twice.
+-- Lemmas on lists of cubes in which no two cubes hold the same environment.
 
 -- The number of cubes that hold environment number `n`, or 0 if that environment is not in scope.
 pub held_at : Parts → List Cube → ℕ → ℕ

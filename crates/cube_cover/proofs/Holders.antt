@@ -53,15 +53,15 @@ pub add_none : (n : ℕ) (b : Bool) → b ≡ false → n ≡ n + once b
 add_none n true e = absurd (cc)
 add_none n false e = omega arith
 
--- The part that is cut off at the next place, added to the parts that were cut off before, gives the part outside of
--- all these places.
+-- An environment is cut off at an earlier place, at the next place, or at neither. The first two counts add up to the
+-- count of the environments that some place up to the next one cuts off.
 pub cut_more : (n : ℕ) (c s t : Bool) → (n + once (c && not s)) + once ((c && s) && not t) ≡ n + once (c && not (s && t))
 cut_more n true true t = omega arith
 cut_more n true false t = omega arith
 cut_more n false s t = omega arith
 
--- If an environment is in a part, the number of the part's cubes that hold it grows with the next cube as the number
--- of all cubes that hold it does. Otherwise the number stays 0.
+-- If an environment is in a part, the next cube adds the same number to the cubes of the part that hold it as to all
+-- cubes that hold it. Otherwise the number for the part stays 0.
 pub part_more : (n : ℕ) (h p : Bool) → (if p then n else 0) + once (h && p) ≡ (if p then n + once h else 0)
 part_more n true true = refl
 part_more n true false = refl

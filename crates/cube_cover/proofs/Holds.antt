@@ -42,8 +42,8 @@ pub both_holds : (one other : Cube) (v : Env) → holds (record { bits = bit_and
 unfolding holds
 both_holds one other v = all_both (allows one v) (allows other v) (allows (record { bits = bit_and one.bits other.bits }) v) 14 (λ y. has_and one.bits other.bits (4 * y + digit_in v y))
 
--- If a test of numbers is narrowed at one number `x` by a condition, all numbers pass it if and only if they pass the
--- first test and the condition holds.
+-- If test `g` equals test `f` but also requires the condition `b` at number `x`, all numbers below `n` pass `g` if
+-- and only if they pass `f` and `b` holds.
 pub narrowed : (f g : ℕ → Bool) (b : Bool) (x n : ℕ) → x < n → ((y : ℕ) → y < n → y ≢ x → g y ≡ f y) → g x ≡ (f x && b) → all_below g n ≡ (all_below f n && b)
 narrowed f g b x zero low same here = absurd (omega arith)
 narrowed f g b x (suc n) low same here = elim (same_or_not x n) [

@@ -1,4 +1,5 @@
--- The environment with the smallest open digits of a cube has the smallest number of all that the cube holds.
+-- The number of the environment with the smallest open digits of a cube is at most that of each environment that the
+-- cube holds.
 use Rattle.std.proofs.Common.{◌≡◌, ◌≢◌, ◌∙◌, ℕ, zero, suc, ◌+◌, ◌*◌, ◌-◌, ◌^◌, ◌<◌, ◌≤◌, refl, ap, sym, subst, arith, Bool, true, false, not, ◌||◌, List, [], ◌∷◌, length}
 use mathlib.Core.Logic.{inl, inr}
 use Rattle.std.specs.Prelude.{◌==◌, slice_index, nat_lt, if◌then◌else◌}
@@ -270,8 +271,8 @@ module _ (spec : Parts) (made : IsSpec spec) (cube : Cube) where
           ap (λ (y : ℕ). has_bit cube.bits (4 * y + digit_in (least_env spec cube) y)) (sym split) ∙ processor_held (x - 6) (omega arith)
     ])
 
-  -- If the environment of smallest digits belongs to the specification, is held and is in scope, it is the first that
-  -- the cube holds. Otherwise the cube holds no environment in scope.
+  -- If the environment of smallest digits belongs to the specification, is held and is in scope, it is the first
+  -- environment in scope, by number, that the cube holds. Otherwise the cube holds no environment in scope.
 
   pub found : (env : Env) → env ≡ least_env spec cube → belongs spec env ≡ true → holds cube env ≡ true → in_scope spec env ≡ true → IsLeast spec (λ v. holds cube v) env
   found env is belonging held scope =

@@ -1,4 +1,4 @@
--- Lemmas on the regions and the remaining cubes, which are made rule by rule.
+-- Lemmas on the regions and the remaining cubes, which are built rule by rule.
 use Rattle.std.proofs.Common.{◌≡◌, ◌∙◌, ℕ, zero, suc, ◌+◌, ◌<◌, ◌≤◌, refl, ap, sym, arith, Bool, true, false, not, ◌&&◌, ◌||◌, List, [], ◌∷◌, ◌++◌, length, take, drop, get_or}
 use Rattle.std.specs.Prelude.{if◌then◌else◌}
 use Rattle.std.specs.List.{list_all, list_any}
@@ -107,7 +107,7 @@ module _ (spec : Parts) (c : ConfId) (rules : List Choice) (k : ℕ) (d : Choice
       ∙ ap (λ (b : Bool). is_in open_before v && b) (sym (ruled_next passes v) ∙ ap (λ (rs : List Choice). is_ruled rs c passes v) (sym next_rule)))
       ∙ before v scope
 
--- Lemmas on one rule that fits configuration `c` or not.
+-- Lemmas on whether one rule fits configuration `c`.
 
 and_none : (a b : Bool) → b ≡ false → (a && b) ≡ false
 and_none true b e = e

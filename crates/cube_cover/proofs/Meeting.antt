@@ -1,4 +1,4 @@
--- Two cubes that hold an environment together meet at each place.
+-- If two cubes hold a common environment, they have a common open digit at each place.
 use Rattle.std.proofs.Common.{◌≡◌, ◌∙◌, ℕ, zero, suc, ◌+◌, ◌*◌, ◌^◌, ◌<◌, ◌%◌, ◌/◌, refl, ap, sym, arith, Bool, true, ◌&&◌, ◌||◌}
 use mathlib.Core.Logic.{inl, inr}
 use Rattle.std.specs.Prelude.{◌==◌, bit_and, bit_or}

@@ -35,7 +35,8 @@ ruled_below (rule ∷ rules) c v = pick (rule_fits c v rule) (ruled_below rules 
     pick true h = omega arith
     pick false h = omega arith
 
--- If no rule before rule `k` fits, rule `k` is the first that fits if it fits. Otherwise no rule up to `k` fits.
+-- If no rule before rule `k` fits but rule `k` does, rule `k` is the first that fits. If rule `k` does not fit
+-- either, no rule up to `k` fits.
 pub first_fit : (rules : List Choice) (c : ConfId) (v : Env) (k : ℕ) (d : Choice) → k < length rules → k ≤ first_rule rules c v
     → (rule_fits c v (get_or rules k d) ≡ true → first_rule rules c v ≡ k) × (rule_fits c v (get_or rules k d) ≡ false → k < first_rule rules c v)
 first_fit [] c v k d low before = absurd (omega arith)

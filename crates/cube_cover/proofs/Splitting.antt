@@ -15,7 +15,7 @@ use Rattle.cube_cover.proofs.Scopes.{has_digits}
 pub digits_in_scope : (spec : Parts) → IsSpec spec → (v : Env) → IsInScope spec v → HasDigits v
 digits_in_scope spec made v scope = has_digits spec made v scope.belongs
 
--- If no digit is open at a place, a cube holds no environment.
+-- A cube with no open digit at some place holds no environment.
 pub shut : (cube : Cube) (v : Env) (is_open : Bool) → is_open ≡ false → (holds cube v ≡ true → is_open ≡ true) → holds cube v ≡ false
 shut cube v is_open e h = by_bool (holds cube v) (λ t. let clash : true ≡ false = sym (h t) ∙ e in absurd (cc)) (λ f. f)
 
@@ -35,8 +35,8 @@ module _ (spec : Parts) (cube by rest next : Cube) (x : ℕ) where
       ∙ cut_more (holders old v) (holds cube v) (all_below (allows by v) x) (allows by v x)
       ∙ ap (λ (n : ℕ). holders old v + once (holds cube v && not (all_below (allows by v) n))) (plus_one x)
 
--- If a list holds the parts of the first `k` cubes that pass a test, and the part of the next cube is added, the list
--- holds the parts of the first `k + 1` cubes.
+-- Suppose that a list holds those environments of the first `k` cubes that are in a part, and that those of the next
+-- cube are added. Then the list holds those of the first `k + 1` cubes.
 pub parts_more : (spec : Parts) (cubes : List Cube) (k : ℕ) (d : Cube) (part : Env → Bool) (old new : List Cube) → k < length cubes
     → ((v : Env) → IsInScope spec v → holders old v ≡ (if part v then holders (take k cubes) v else 0)) → Gain spec old new (λ v. holds (get_or cubes k d) v && part v)
     → (v : Env) → IsInScope spec v → holders new v ≡ (if part v then holders (take (k + 1) cubes) v else 0)
@@ -63,7 +63,7 @@ none_split spec by inside outside e f = record {
     either_zero true n e = e
     either_zero false n e = refl
 
--- A cube that shares no environment with another cube lies outside of it as a whole.
+-- If two cubes share no environment, the whole of the first lies outside of the second.
 
 pub apart_beyond : (cube by : Cube) (v : Env) → (holds cube v && holds by v) ≡ false → holds cube v ≡ (holds cube v && not (holds by v))
 apart_beyond cube by v e = part (holds cube v) (holds by v) e

@@ -1,4 +1,4 @@
--- Lemmas on the targets that are chosen in the regions, and on the cover that is made target by target.
+-- Lemmas on the targets that are chosen in the regions, and on the cover, which is built target by target.
 use Rattle.std.proofs.Common.{◌≡◌, ◌∙◌, ℕ, zero, suc, ◌+◌, ◌*◌, ◌-◌, ◌^◌, ◌<◌, ◌≤◌, refl, ap, sym, subst, arith, Bool, true, false, not, ◌&&◌, ◌||◌, ◌⊎◌, List, [], ◌∷◌, length}
 use mathlib.Core.Logic.{inl, inr}
 use Rattle.std.specs.Prelude.{◌==◌, slice_get, Option, Some, None, is_some, if◌then◌else◌}
@@ -43,8 +43,8 @@ target_inside n (rule ∷ rules) c v inside known =
 pub choose_inside : (spec : Parts) → IsSpec spec → (c : ConfId) (v : Env) → c.0 < length spec.confs → (choose spec c v).0 < length spec.confs
 choose_inside spec made c v known = target_inside (length spec.confs) spec.rules c v (λ k rule there. (made.rules k rule there).to) known
 
--- The first rule that fits, or configuration `c` itself if no rule fits, passes the test of the targets if and only
--- if the chosen target does.
+-- The target of the first rule that fits, or configuration `c` itself if no rule fits, passes a test if and only if
+-- the chosen target does.
 
 ruled_or_own : (rules : List Choice) (c : ConfId) (passes : ℕ → Bool) (v : Env) → (is_ruled rules c passes v || (not (list_any (rule_fits c v) rules) && passes c.0)) ≡ passes (target_among rules c v).0
 unfolding is_ruled

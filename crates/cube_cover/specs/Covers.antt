@@ -16,14 +16,14 @@ pub record IsLeast (spec : Parts) (test : Env → Bool) (found : Env) : Type 0 w
   pub passes : test found ≡ true
   pub least : (v : Env) → IsEnv spec v → in_scope spec v ≡ true → test v ≡ true → number_of spec found ≤ number_of spec v
 
--- The optional environment is the one in scope with the smallest number that passes the test, or `None` if no
--- environment in scope passes.
+-- Of the environments in scope that pass the test, the optional environment is the one with the smallest number. It
+-- is `None` if no environment in scope passes.
 abbrev pub IsLeastEnv : Parts → (Env → Bool) → Option Env → Type 0
 IsLeastEnv spec test (Some found) = IsLeast spec test found
 IsLeastEnv spec test None = (v : Env) → IsEnv spec v → in_scope spec v ≡ true → test v ≡ false
 
--- The environment with the smaller number of two optional environments, the only one that is present, or `None` if
--- both are absent.
+-- The environment with the smaller number of two optional environments, or the first of them if their numbers are
+-- equal. If only one is present, the value is that environment. If neither is present, the value is `None`.
 abbrev pub earlier_env : Parts → Option Env → Option Env → Option Env
 earlier_env spec None None = None
 earlier_env spec (Some v) None = Some v
@@ -34,7 +34,7 @@ earlier_env spec (Some v) (Some w) = if nat_le (number_of spec v) (number_of spe
 abbrev pub is_unfit : Parts → ConfId → Env → Bool
 is_unfit spec i v = not (has_rule spec i v)
 
--- Whether the configuration that is chosen from configuration `i` in an environment cannot run in it.
+-- Whether the configuration that is chosen from configuration `i` in an environment cannot run in that environment.
 abbrev pub cannot_run : Parts → ConfId → Env → Bool
 cannot_run spec i v = not (is_runnable spec (choose spec i v) v)
 
@@ -43,8 +43,9 @@ cannot_run spec i v = not (is_runnable spec (choose spec i v) v)
 abbrev pub is_left_again : Parts → ConfId → Env → Bool
 is_left_again spec i v = not ((choose spec (choose spec i v) v).0 == (choose spec i v).0)
 
--- `cover` is the cover of configuration `i`. Its targets are exactly the possible targets, and its environments are the
--- first that break a requirement on the table.
+-- `cover` is the cover of configuration `i`. Its targets are exactly the possible targets of `i`. Its environments
+-- are the first in scope, by number, that satisfy `is_unfit`, `cannot_run` and `is_left_again`, each `None` if there
+-- is no such environment.
 pub record IsCover (spec : Parts) (i : ConfId) (cover : Cover) : Type 0 where
   pub few : cover.targets < 2 ^ length spec.confs
   pub only : (j : ConfId) → has_bit cover.targets j.0 ≡ true → IsTarget spec i j

@@ -14,8 +14,8 @@ use Rattle.cube_cover.specs.declared.cubes.Cube.{Cube}
 unfoldable pub digit_in : Env → ℕ → ℕ
 digit_in v x = if nat_lt x 6 then factor_in v x else (if is_up_in v (x - 6) then 0 else 1)
 
--- Each digit of an environment is below 4, each factor from number 6 on has value 0, and only processors below 8 are
--- up. Each environment of a specification is like this.
+-- Each digit of an environment is below 4. Each factor from number 6 on has value 0. Only processors with a number
+-- below 8 are up. Each environment of a specification meets these conditions.
 pub record HasDigits (v : Env) : Type 0 where
   pub small : (x : ℕ) → digit_in v x < 4
   pub past : (x : ℕ) → 6 ≤ x → factor_in v x ≡ 0
@@ -64,13 +64,14 @@ pub record IsInScope (spec : Parts) (v : Env) : Type 0 where
 abbrev pub Agree : Parts → (Env → Bool) → (Env → Bool) → Type 0
 Agree spec one other = (v : Env) → IsInScope spec v → one v ≡ other v
 
--- For each environment in scope, the second list has one cube more that holds the environment if it passes the test,
--- and the same number otherwise.
+-- If an environment in scope passes the test, the number of cubes that hold it is 1 greater in the second list than
+-- in the first. Otherwise the number is the same in both lists.
 abbrev pub Gain : Parts → List Cube → List Cube → (Env → Bool) → Type 0
 Gain spec before after test = (v : Env) → IsInScope spec v → holders after v ≡ holders before v + once (test v)
 
--- In scope, the lists `inside` and `outside` hold the parts of the cubes inside and outside of `by`. Together they hold
--- each environment as often as the cubes do.
+-- An environment in scope that `by` holds is held by equally many cubes of `inside` and of `cubes`, and by no cube of
+-- `outside`. Any other environment in scope is held by equally many cubes of `outside` and of `cubes`, and by no cube
+-- of `inside`.
 pub record IsSplit (spec : Parts) (cubes : List Cube) (by : Cube) (inside outside : List Cube) : Type 0 where
   pub within : (v : Env) → IsInScope spec v → holders inside v ≡ (if holds by v then holders cubes v else 0)
   pub beyond : (v : Env) → IsInScope spec v → holders outside v ≡ (if holds by v then 0 else holders cubes v)

@@ -10,12 +10,12 @@ use Rattle.choice_table.specs.Demands.{applies_from, applies_in, is_met}
 use Rattle.cube_cover.specs.Covers.{IsLeastEnv}
 
 -- Whether the table misses a demand from configuration `i` in an environment: the demand applies to the environment
--- and to `i`, and the chosen configuration does not meet it.
+-- and to `i`, and the chosen configuration does not meet the demand.
 abbrev pub misses : Parts → Demand → ConfId → Env → Bool
 misses spec demand i v = applies_from demand i && applies_in demand v && not (is_met spec demand (choose spec i v))
 
--- For each demand, `found` has the first environment in scope, by number, in which the table misses the demand from
--- configuration `i`, or `None` if there is no such environment.
+-- For each demand, `found` contains the first environment in scope, by number, in which the table misses the demand
+-- from configuration `i`, or `None` if there is no such environment.
 pub record AreMisses (spec : Parts) (i : ConfId) (found : List (Option Env)) : Type 0 where
   pub all : length found ≡ length spec.demands
   pub least : (k : ℕ) (demand : Demand) (env : Option Env) → slice_get spec.demands k ≡ Some demand → slice_get found k ≡ Some env

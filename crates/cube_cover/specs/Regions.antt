@@ -1,4 +1,4 @@
--- Regions, in each of which one target is chosen.
+-- Regions: cubes of environments, each with one target.
 use Rattle.std.specs.Prelude.{◌≡◌, ℕ, Bool, false, not, ◌&&◌, ◌||◌, List, [], ◌∷◌, if◌then◌else◌}
 use Rattle.std.specs.List.{list_any}
 use Rattle.scram_types.specs.declared.ids.ConfId.{ConfId}
@@ -24,20 +24,22 @@ unfoldable pub is_ruled : List Choice → ConfId → (ℕ → Bool) → Env → 
 is_ruled [] c passes v = false
 is_ruled (rule ∷ rules) c passes v = if rule_fits c v rule then passes rule.to.0 else is_ruled rules c passes v
 
--- In scope, the regions `ruled` hold the environments of the cubes in which some rule of configuration `c` fits, each
--- with the target of the first such rule. The cubes `unruled` hold the environments in which no rule fits.
+-- The regions `ruled` hold exactly the environments in scope that the cubes hold and in which some rule fits
+-- configuration `c`. The target of a region is that of the first such rule. The cubes `unruled` hold exactly the
+-- environments in scope that the cubes hold and in which no rule fits `c`.
 pub record AreRegions (spec : Parts) (c : ConfId) (cubes : List Cube) (ruled : List Region) (unruled : List Cube) : Type 0 where
   pub targets : (passes : ℕ → Bool) → Agree spec (is_marked ruled passes) (λ v. is_in cubes v && is_ruled spec.rules c passes v)
   pub rest : Agree spec (is_in unruled) (λ v. is_in cubes v && not (has_rule spec c v))
 
--- For each test of targets, the second list of regions marks an environment if and only if the first list marks it,
--- or it is in the cubes and `target` passes the test.
+-- For each test of targets, the regions `after` mark (`is_marked`) the environments that the regions `before` mark.
+-- If `target` passes the test, they also mark the environments that the cubes hold. They mark no other environment.
 abbrev pub MarksMore : List Region → List Region → List Cube → ConfId → Type 0
 MarksMore before after cubes target =
     (passes : ℕ → Bool) (v : Env) → is_marked after passes v ≡ (is_marked before passes v || (is_in cubes v && passes target.0))
 
--- For each test of targets, the second list of regions marks an environment in scope if and only if the first list
--- marks it, or it is in the cubes, the rule fits, and the rule's target passes the test.
+-- For each test of targets, the regions `after` mark (`is_marked`) the environments in scope that the regions
+-- `before` mark. If the rule's target passes the test, they also mark those that the cubes hold and in which the rule
+-- fits configuration `c`. They mark no other environment in scope.
 abbrev pub Rule : Parts → ConfId → Choice → List Cube → List Region → List Region → Type 0
 Rule spec c rule cubes before after = (passes : ℕ → Bool) →
     Agree spec (is_marked after passes) (λ v. is_marked before passes v || (is_in cubes v && (rule_fits c v rule && passes rule.to.0)))

@@ -27,19 +27,19 @@ is_ruled_by spec c k v = first_rule spec.rules c v == k
 abbrev pub first_where : Parts → (Env → Bool) → Option Env
 first_where spec test = first_below (λ n. if passes_at spec test n then Some (numbered spec n) else None) (environments spec)
 
--- `share` has the number of environments in scope that pass the test, and the first of them, by number.
+-- `share` contains the number of environments in scope that pass the test, and the first of them, by number.
 pub record IsShare (spec : Parts) (test : Env → Bool) (share : Share) : Type 0 where
   pub count : share.count ≡ count_where spec test
   pub first : IsLeastEnv spec test share.first
 
--- `shares` has the share of each rule for configuration `c`, followed by the share of the environments in which no rule
--- fits.
+-- `shares` contains the share of each rule for configuration `c`, followed by the share of the environments in which
+-- no rule fits.
 pub record AreShares (spec : Parts) (c : ConfId) (shares : List Share) : Type 0 where
   pub width : length shares ≡ suc (length spec.rules)
   pub each : (k : ℕ) (share : Share) → slice_get shares k ≡ Some share → IsShare spec (is_ruled_by spec c k) share
 
--- In scope, the second list holds no environment that the rule fits, and holds each other environment as often as the
--- first list.
+-- No cube of the second list holds an environment in scope in which the rule fits configuration `c`. Each other
+-- environment in scope is held by the same number of cubes in both lists.
 abbrev pub HoldsRest : Parts → ConfId → Choice → List Cube → List Cube → Type 0
 HoldsRest spec c rule before after = (v : Env) → IsInScope spec v → holders after v ≡ (if rule_fits c v rule then 0 else holders before v)
 

@@ -43,7 +43,8 @@ abbrev pub are_open : Cube → ℕ → List ℕ → Bool
 are_open cube x [] = true
 are_open cube x (value ∷ values) = is_open_digit cube x value && are_open cube (suc x) values
 
--- The number of combinations of open values of the factors in a list, the first of which is at place `x` of a cube.
+-- The number of combinations of open values of the factors in a list. The first factor is at place `x` of a cube, and
+-- each further factor at the next place.
 abbrev pub open_ways : Cube → ℕ → List Factor → ℕ
 open_ways cube x [] = 1
 open_ways cube x (factor ∷ factors) = count_below (is_open_digit cube x) (length factor.values) * open_ways cube (suc x) factors

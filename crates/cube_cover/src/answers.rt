@@ -9,10 +9,10 @@ pub struct Cover {
     pub targets: u16,
     /// The first environment in scope, by number, in which no rule fits, or `None` if there is no such environment.
     pub unfit: Option<Env>,
-    /// The first environment in scope, by number, in which the target cannot run, or `None` if there is no such
-    /// environment.
+    /// The first environment in scope, by number, in which the chosen target cannot run, or `None` if there is no
+    /// such environment.
     pub not_runnable: Option<Env>,
-    /// The first environment in scope, by number, in which the table chooses another target from the target, or
-    /// `None` if there is no such environment.
+    /// The first environment in scope, by number, in which the table chooses another target from the chosen target,
+    /// or `None` if there is no such environment.
     pub unsettled: Option<Env>,
 }

@@ -60,7 +60,7 @@ fn count_confs(spec: &Spec) -> u8
     spec.confs.items().len() as u8
 }
 
-// Returns a vector with one cube, which holds all environments.
+// Returns a vector with one cube, which holds all environments of the specification.
 pub(crate) fn all_cubes(alloc: Global, spec: &Spec) -> Result<Vec<Cube>, NoMemory>
     requires { IsSpec spec.now }
     ensures all { IfOk result (λ cubes. Agree spec.now (is_in cubes.items) (λ v. true)) }
@@ -71,7 +71,7 @@ pub(crate) fn all_cubes(alloc: Global, spec: &Spec) -> Result<Vec<Cube>, NoMemor
     Ok(cubes)
 }
 
-// Returns the regions that some rule fits, followed by a region with target `i` for each cube that no rule fits.
+// Returns the regions `found.ruled`, followed by a region with target `i` for each cube of `found.unruled`.
 pub(crate) fn all_regions(found: Regions, i: ConfId) -> Result<Vec<Region>, NoMemory>
     ensures { IfOk result (λ regions. MarksMore found.ruled.items regions.items found.unruled.items i) }
 {

@@ -39,7 +39,7 @@ pub(crate) fn whole(spec: &Spec) -> Cube
     Cube { bits }
 }
 
-// Returns whether an environment can have digit `d` at place `x`.
+// Returns `true` if an environment can have digit `d` at place `x`.
 #[tactic(auto, unfolding(crate::specs::Cubes::is_digit))]
 pub(crate) fn is_digit(spec: &Spec, x: u8, d: u8) -> bool
     ensures { result ≡ is_digit spec.now x d }
@@ -60,7 +60,8 @@ pub(crate) fn count_values(spec: &Spec, x: u8) -> u8
     }
 }
 
-// Returns the cube of the environments that meet the requirements of a rule other than its source.
+// Returns the cube of the environments in which each factor that a rule names has the required value and each
+// processor of the rule is up. The rule's source is ignored.
 pub(crate) fn rule_cube(rule: &Choice) -> Cube
     ensures { (v : Env) → HasDigits v → holds result v ≡ (list_all (has_wanted v) rule.now.wants && all_up rule.now.up v) }
 {
@@ -85,7 +86,8 @@ fn with_wants(wants: &[Want]) -> Cube
     cube
 }
 
-// Returns the part of the cube in which a factor has a required value. A factor past the last possible one has value 0.
+// Returns the part of the cube in which a factor has a required value. A factor from number 6 on has value 0 in each
+// environment.
 fn with_wanted(cube: Cube, want: &Want) -> Cube
     ensures { (v : Env) → HasDigits v → holds result v ≡ (holds cube v && has_wanted v want.now) }
 {
@@ -134,7 +136,8 @@ fn with_member(cube: Cube, set: u8, p: u8, d: u8) -> Cube
     }
 }
 
-// Returns the cube of the environments in which configuration `c` can run.
+// Returns the cube of the environments in which configuration `c` can run, or the cube of all environments if there
+// is no configuration `c`.
 pub(crate) fn running(spec: &Spec, c: ConfId) -> Cube
     ensures { (v : Env) → HasDigits v → holds result v ≡ is_runnable spec.now c v }
 {
@@ -184,7 +187,7 @@ fn with_digit(cube: Cube, x: u8, d: u8) -> Cube
     }
 }
 
-// Returns the part of the cube whose digit at place `x` is open in the cube `by`.
+// Returns the cube of the environments of `cube` whose digit at place `x` is open in the cube `by`.
 pub(crate) fn inside_at(cube: Cube, by: Cube, x: u8) -> Cube
     requires { x < 14 }
     ensures { (v : Env) → HasDigits v → holds result v ≡ (holds cube v && allows by v x) }
@@ -194,7 +197,7 @@ pub(crate) fn inside_at(cube: Cube, by: Cube, x: u8) -> Cube
     }
 }
 
-// Returns the part of the cube whose digit at place `x` is not open in the cube `by`.
+// Returns the cube of the environments of `cube` whose digit at place `x` is not open in the cube `by`.
 pub(crate) fn outside_at(cube: Cube, by: Cube, x: u8) -> Cube
     requires { x < 14 }
     ensures { (v : Env) → HasDigits v → holds result v ≡ (holds cube v && not (allows by v x)) }
@@ -204,7 +207,7 @@ pub(crate) fn outside_at(cube: Cube, by: Cube, x: u8) -> Cube
     }
 }
 
-// Returns whether some digit is open at place `x`. If no digit is open, the cube holds no environment.
+// Returns `true` if some digit is open at place `x`. If no digit is open, the cube holds no environment.
 pub(crate) fn is_open_at(cube: Cube, x: u8) -> bool
     requires { x < 14 }
     ensures { (v : Env) → HasDigits v → holds cube v ≡ true → result ≡ true }
@@ -229,8 +232,8 @@ pub(crate) fn both(one: Cube, other: Cube) -> Cube
     }
 }
 
-// Returns whether each place has a digit that is open in both cubes. If some place has no such digit, the cubes share
-// no environment.
+// Returns `true` if each place has a digit that is open in both cubes. If some place has no such digit, the cubes
+// share no environment.
 pub(crate) fn meet(one: Cube, other: Cube) -> bool
     ensures { (v : Env) → HasDigits v → (holds one v && holds other v) ≡ true → result ≡ true }
 {
@@ -240,7 +243,7 @@ pub(crate) fn meet(one: Cube, other: Cube) -> bool
     digits & FIRST_DIGITS == FIRST_DIGITS
 }
 
-// Returns whether digit `d` is open at place `x`.
+// Returns `true` if digit `d` is open at place `x`.
 pub(crate) fn is_open(cube: Cube, x: u8, d: u8) -> bool
     requires place { x < 14 }
     requires digit { d < 4 }

@@ -51,8 +51,8 @@ fn chosen_regions(alloc: Global, spec: &Spec, i: ConfId) -> Result<Vec<Region>, 
     Ok(regions)
 }
 
-// Returns the first environment, by number, in which the table misses a demand from configuration `i`, or `None` if
-// there is no such environment. `regions` are the regions of `i`.
+// Returns the first environment in scope, by number, in which the table misses a demand from configuration `i`, or
+// `None` if there is no such environment. `regions` are the regions of `i`.
 fn least_miss(spec: &Spec, i: ConfId, demand: &Demand, regions: &[Region]) -> Option<Env>
     requires known { IsSpec spec.now }
     requires inside { i.0 < length spec.now.confs }
@@ -78,8 +78,8 @@ fn met_by(spec: &Spec, demand: &Demand) -> u16
     bits
 }
 
-// Returns the first environment of the cube `by`, by number, whose target is not in the set `met`, or `None` if there
-// is no such environment.
+// Returns the first environment in scope, by number, that the cube `by` holds and that lies in a region whose target
+// is not in the set `met`. Returns `None` if there is no such environment.
 fn least_outside(spec: &Spec, regions: &[Region], met: u16, by: Cube) -> Option<Env>
     requires { IsSpec spec.now }
     ensures { IsLeastEnv spec.now (λ v. is_marked regions.now (is_outside met) v && holds by v) result }

@@ -12,8 +12,8 @@ use choice_table::{in_scope, number_of};
 use scram_types::bits::has_bit;
 use scram_types::{Env, Spec};
 
-// Returns the environment in scope with the smallest number that one of the cubes holds, or `None` if they hold no
-// environment in scope.
+// Returns the environment in scope with the smallest number that one of the cubes holds, or `None` if the cubes hold
+// no environment in scope.
 pub(crate) fn least_of(spec: &Spec, cubes: &[Cube]) -> Option<Env>
     requires { IsSpec spec.now }
     ensures { IsLeastEnv spec.now (is_in cubes.now) result }
@@ -105,7 +105,7 @@ fn least_digit(cube: Cube, x: u8) -> u8
     }
 }
 
-// Returns whether each factor of an environment has a value that the specification allows.
+// Returns `true` if each factor of an environment has a value that the specification allows.
 fn belongs(spec: &Spec, env: &Env) -> bool
     ensures { result ≡ belongs spec.now env.now }
 {

@@ -1,7 +1,7 @@
 //! The outcome of a configuration's choices over all environments in scope, computed with cubes of environments. A
-//! cover has the possible targets, and the first environments in which a requirement on the table is broken. The crate
-//! also finds the first environments in which the table misses a demand, and the number of environments in which each
-//! rule is the first that fits.
+//! cover contains the possible targets, and the first environments in which a requirement on the table is broken. The
+//! crate also finds the first environments in which the table misses a demand, and the number of environments in
+//! which each rule is the first that fits.
 #![tactic(auto)]
 
 pub mod answers;

@@ -26,7 +26,7 @@ pub(crate) struct Regions {
     pub(crate) unruled: Vec<Cube>,
 }
 
-// A configuration of a specification, from which rules choose targets.
+// A configuration from which rules choose targets, and its specification.
 #[derive(Clone, Copy)]
 struct Source<'a> {
     spec: &'a Spec,

@@ -16,8 +16,8 @@ use crate::splits::split_by;
 use scram_types::{Choice, ConfId, Env, NoMemory, Spec};
 use std::alloc::Global;
 
-/// A share of the environments in scope: the number of environments, and the first of them, by number, or `None` if
-/// the share is empty.
+/// A share of the environments in scope. `count` is the number of environments, and `first` is the first of them, by
+/// number, or `None` if the share is empty.
 #[derive(Clone, Copy, Debug, PartialEq, Eq)]
 pub struct Share {
     pub count: u32,

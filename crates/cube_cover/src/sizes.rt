@@ -26,7 +26,7 @@ pub(crate) fn count_held(spec: &Spec, cubes: &[Cube]) -> u32
 }
 
 // Returns the number of environments in scope that a cube holds. This is the number of sets of processors that may be
-// down times the number of combinations of open values.
+// down times the number of combinations of open values. It is 0 if `are_zeros_open` returns `false`.
 fn size_of(spec: &Spec, cube: Cube) -> u32
     requires { IsSpec spec.now }
     ensures { result ≡ count_where spec.now (holds cube) }
@@ -38,7 +38,8 @@ fn size_of(spec: &Spec, cube: Cube) -> u32
     }
 }
 
-// Returns whether digit 0 is open at each place past the last factor. All environments have digit 0 at these places.
+// Returns `true` if digit 0 is open at each place below 6 that belongs to no factor. All environments have digit 0 at
+// these places.
 fn are_zeros_open(spec: &Spec, cube: Cube) -> bool
     requires { IsSpec spec.now }
     ensures { result ≡ are_open cube (length spec.now.factors) (replicate (6 - length spec.now.factors) 0) }
@@ -92,7 +93,7 @@ fn count_processors(spec: &Spec) -> u8
     spec.procs.items().len() as u8
 }
 
-// Returns whether the scope and the cube allow exactly the processors of the set `down` to be down.
+// Returns `true` if the scope and the cube allow exactly the processors of the set `down` to be down.
 fn is_down_held(spec: &Spec, cube: Cube, down: u32) -> bool
     requires known { IsSpec spec.now }
     requires set { down < 2 ^ length spec.now.procs }
@@ -115,7 +116,7 @@ fn up_beside(spec: &Spec, down: u32) -> u8
     (count_sets(spec) - 1 - down) as u8
 }
 
-// Returns whether the cube allows exactly the processors of the set `up` to be up.
+// Returns `true` if the cube allows exactly the processors of the set `up` to be up.
 fn allows_up(cube: Cube, up: u8) -> bool
     ensures { result ≡ allows_up cube up }
 {

@@ -34,8 +34,8 @@ pub(crate) fn split_by(
     Ok(Split { inside, outside })
 }
 
-// Appends the parts of a cube inside and outside of `by` to two lists. If the cube does not meet `by`, all of it lies
-// outside.
+// Appends the parts of a cube inside and outside of `by` to two lists. If the cube does not meet `by`, the whole cube
+// lies outside.
 fn split_cube(
     spec: &Spec,
     cube: Cube,
@@ -56,7 +56,8 @@ fn split_cube(
     Ok(())
 }
 
-// Cuts off the parts of a cube outside of the cube `by`, place by place, and returns the part inside.
+// Cuts off the parts of a cube outside of the cube `by`, place by place, and appends them to `outside`. Returns the
+// part of the cube inside of `by`.
 fn cut(spec: &Spec, cube: Cube, by: Cube, outside: &mut Vec<Cube>) -> Result<Cube, NoMemory>
     requires { IsSpec spec.now }
     ensures beyond { OnOk result (Gain spec.now outside.old.items outside.new.items (λ v. holds cube v && not (holds by v))) }
@@ -89,7 +90,7 @@ fn push_outside_at(
     Ok(())
 }
 
-// Appends a cube to a list, unless more processors are down in all its environments than the scope allows.
+// Appends a cube to a list, unless more processors are down in each environment of the cube than the scope allows.
 fn push_in_scope(spec: &Spec, cube: Cube, cubes: &mut Vec<Cube>) -> Result<(), NoMemory>
     requires { IsSpec spec.now }
     ensures { OnOk result (Gain spec.now cubes.old.items cubes.new.items (holds cube)) }

@@ -39,7 +39,8 @@ get_set_other (z ∷ zs) zero (suc j) x other = refl
 get_set_other (z ∷ zs) (suc i) zero x other = refl
 get_set_other (z ∷ zs) (suc i) (suc j) x other = get_set_other zs i j x (λ same. other (ap suc same))
 
--- If an application without a rank is given one, it has that rank, and the others keep theirs.
+-- If an application without a rank is assigned a rank, it has that rank. The ranks of the other applications do not
+-- change.
 module _ (ranks : List (Option ℕ)) (a r : ℕ) (unranked : slice_get ranks a ≡ Some None) where
   none_there : rank_in ranks a ≡ None
   none_there = rw (unranked) refl

@@ -1,4 +1,4 @@
--- If ranks fall along a chart, its offsets are maximum sums over chains.
+-- If ranks fall along a chart, the offsets of the chart are maximum sums of times along chains.
 use Rattle.std.proofs.Common.{◌≡◌, ℕ, zero, suc, ◌+◌, ◌*◌, ◌-◌, ◌<◌, ◌≤◌, Bool, true, false, refl, arith, ◌⊎◌, ap, sym, ◌∙◌, List, [], ◌∷◌, length}
 use mathlib.Core.Logic.{inl, inr}
 use Rattle.std.specs.Prelude.{◌&&◌, if◌then◌else◌}

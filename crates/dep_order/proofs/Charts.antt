@@ -1,11 +1,12 @@
--- Maximum values, and offsets as maximum sums along chains.
+-- Lemmas on charts that agree, and bounds on sums of times along chains.
 use Rattle.std.proofs.Common.{◌≡◌, ℕ, zero, suc, ◌+◌, ◌*◌, ◌<◌, ◌≤◌, Bool, true, false, refl, arith, ap, ◌∙◌}
 use Rattle.std.specs.Prelude.{◌&&◌, if◌then◌else◌}
 use Rattle.scram_types.proofs.Searches.{greatest_same, greatest_within}
 use Rattle.scram_types.specs.Searches.{greatest_below}
 use Rattle.dep_order.specs.Chains.{Chart, longest, offset, time_added}
 
--- Two charts agree in their applications, in what is on, in the order and in the times.
+-- Two charts have the same number of applications, the same applications that are on, the same order and the same
+-- times.
 
 pub record Agree (one other : Chart) : Type 0 where
   pub apps : one.apps ≡ other.apps
@@ -23,7 +24,7 @@ same_longest one other agree (suc links) a =
 pub same_offset : (one other : Chart) → Agree one other → (a : ℕ) → offset one a ≡ offset other a
 same_offset one other agree a = same_longest one other agree 8 a
 
--- Bounds on maximum sums if each time is small.
+-- Bounds on sums of times along chains if each time is at most 16 frames.
 
 if_most : (test : Bool) (x most : ℕ) → x ≤ most → (if test then x else 0) ≤ most
 if_most true x most h = h

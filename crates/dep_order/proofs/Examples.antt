@@ -1,4 +1,4 @@
--- Worked examples of the definitions, computed and compared with the rules.
+-- Worked examples of timetables.
 use Rattle.std.proofs.Common.{◌≡◌, refl, ℕ, List, [], ◌∷◌, pos}
 use Rattle.std.specs.Prelude.{Some, None, map, replicate}
 use Rattle.scram_types.specs.declared.specification.AppSpec.{AppSpec}

@@ -1,4 +1,4 @@
--- Listed times and offsets give the timetable.
+-- Lists of times and offsets determine the timetable.
 use Rattle.std.proofs.Common.{◌≡◌, ℕ, ◌+◌, ◌<◌, ◌≤◌, Bool, true, false, refl, arith, ap, sym, ◌∙◌, List, length}
 use Rattle.std.specs.Prelude.{if◌then◌else◌, nat_lt, slice_index}
 use Rattle.std.proofs.lemmas.Bool.Decides.{nat_tests}
@@ -31,7 +31,7 @@ off_zero : (b : Bool) (n : ℕ) → b ≡ nat_lt 0 n → (if b then n else 0) �
 off_zero true n h = refl
 off_zero false n h = not_above n h
 
--- A phase of a configuration, given lists of its times and offsets.
+-- Lemmas on a phase of a configuration, given lists of its times and offsets.
 module _ (spec : Parts) (known : IsSpec spec) (c : ConfId) (times offsets : List ℕ) (time : ℕ → ℕ)
     (tests : (a : ℕ) → IsTimed (is_on spec c a) (time a)) (listed : Holds time 8 times) where
   on_test : (a : ℕ) → a < 8 → is_on spec c a ≡ nat_lt 0 (slice_index times a)

@@ -1,4 +1,4 @@
--- The modes of a configuration's applications in a specification.
+-- Lemmas on the modes of a configuration's applications, and on the times of their phases.
 use Rattle.std.proofs.Common.{◌≡◌, ℕ, suc, ◌<◌, ◌≤◌, Bool, true, false, refl, arith, sym, List, [], ◌∷◌, length, subst}
 use Rattle.std.specs.Prelude.{Option, Some, None, if◌then◌else◌, nat_lt, slice_get, IsSome, option_and_then, ◌==◌}
 use Rattle.std.proofs.lemmas.Bool.Decides.{nat_tests}

@@ -18,7 +18,7 @@ use Rattle.dep_order.proofs.Modes.{IsTimed, timed}
 abbrev pub rank_of : Parts → ℕ → ℕ
 rank_of spec a = option_map_or (λ (app : AppSpec). app.rank) (slice_get spec.apps a) 0
 
--- Application `b` has a rank that is below 8 and higher than that of application `a`, as it does if `b` needs `a`.
+-- The rank of application `b` is below 8 and higher than that of application `a`. This holds if `b` needs `a`.
 record Rises (spec : Parts) (b a : ℕ) : Type 0 where
   rises : rank_of spec a < rank_of spec b
   few : rank_of spec b < 8

@@ -1,4 +1,4 @@
--- A walk along needs cannot go on for ever without coming back to an application already visited.
+-- A walk along needs comes back to an application already visited.
 use Rattle.std.proofs.Common.{◌≡◌, ℕ, zero, suc, ◌+◌, ◌<◌, ◌≤◌, ◌≢◌, Bool, true, false, refl, arith, ap, sym, ◌∙◌, List, [], ◌∷◌, ◌++◌, length, get_or}
 use mathlib.Core.Logic.{inl, inr}
 use Rattle.std.specs.Prelude.{Option, Some, None, ◌||◌, ◌==◌, find, if◌then◌else◌, is_none, max, option_and_then, slice_get}
@@ -80,7 +80,8 @@ named_push : (path : List AppId) (at : AppId) (a : ℕ) → is_named (path ++ at
 named_push [] at a = or-false (at.0 == a)
 named_push (x ∷ xs) at a = ap (λ b. (x.0 == a) || b) (named_push xs at a) ∙ sym (or_assoc (x.0 == a) (is_named xs a) (at.0 == a))
 
--- The number of free numbers below `n` stays the same if a number from `n` on is added to the list.
+-- The number of numbers below `n` that a list does not name stays the same if a number from `n` on is added to the
+-- list.
 free_above : (path : List AppId) (at : AppId) (n : ℕ) → n ≤ at.0 → count_free (path ++ at ∷ []) n ≡ count_free path n
 unfolding count_free
 free_above path at zero above = refl

@@ -1,17 +1,17 @@
--- Chains of applications that wait for one another, and the maximum sum of times along a chain.
+-- Chains of applications that go before one another, and the maximum sum of times along a chain.
 use Rattle.std.specs.Prelude.{◌≡◌, ℕ, zero, suc, ◌+◌, ◌<◌, ◌≤◌, Bool, true, ◌&&◌, List, [], ◌∷◌, if◌then◌else◌}
 use Rattle.scram_types.specs.Searches.{greatest_below}
 
--- A chart of applications by number: how many there are, which are on, which goes before which, and the number of
--- frames that each takes.
+-- A chart of the applications with the numbers below `apps`. Application `a` is on if `on a` is `true`, and `time a`
+-- is the number of frames that `a` takes. Application `b` goes before `a` if `before b a` is `true`.
 pub record Chart : Type 0 where
   pub apps : ℕ
   pub on : ℕ → Bool
   pub before : ℕ → ℕ → Bool
   pub time : ℕ → ℕ
 
--- The time that application `b` adds to a chain before application `a`: the time of `b` plus the sum of times up to
--- `b`, or 0 if `b` is off or does not go before `a`.
+-- The time that application `b` adds to a chain before application `a`: the time of `b` plus `summed b`, or 0 if `b`
+-- is off or does not go before `a`. `summed` is the sum of times along a chain before each application.
 abbrev pub time_added : Chart → (ℕ → ℕ) → ℕ → ℕ → ℕ
 time_added chart summed a b = if chart.on b && chart.before b a then chart.time b + summed b else 0
 

@@ -30,7 +30,7 @@ pub record Needs (apps : List AppSpec) (a b : AppId) : Type 0 where
   pub place : ℕ
   pub named : slice_get app.needs place ≡ Some b
 
--- Each application of a list needs the next one, and the last needs `end`.
+-- Each application of a list needs the next one, and the last one needs `end`. The empty list satisfies this.
 abbrev pub NeedsInTurn : List AppSpec → List AppId → AppId → Type 0
 NeedsInTurn apps [] end = Unit {0}
 NeedsInTurn apps (a ∷ []) end = Needs apps a end

@@ -45,12 +45,12 @@ abbrev pub init_chart : Parts → ConfId → Chart
 init_chart spec c = record { apps = length spec.apps; on = is_on spec c; before = λ b a. needs spec a b; time = init_time spec c }
 
 -- The halt offset of application `a` in a configuration: the maximum sum of halt times along the chains of its
--- dependents.
+-- dependents that are on.
 abbrev pub halt_offset : Parts → ConfId → ℕ → ℕ
 halt_offset spec c a = offset (halt_chart spec c) a
 
 -- The init offset of application `a` in a configuration: the maximum sum of init times along the chains of
--- applications that it needs.
+-- applications that it needs and that are on.
 abbrev pub init_offset : Parts → ConfId → ℕ → ℕ
 init_offset spec c a = offset (init_chart spec c) a
 
@@ -58,17 +58,17 @@ init_offset spec c a = offset (init_chart spec c) a
 abbrev pub where_on : Parts → ConfId → ℕ → ℕ → ℕ
 where_on spec c a n = if is_on spec c a then n else 0
 
--- The number of frames of the halt phase of a configuration, or 0 if nothing is on.
+-- The number of frames of the halt phase of a configuration, or 0 if no application is on.
 abbrev pub halting_time : Parts → ConfId → ℕ
 halting_time spec c = greatest_below (λ a. where_on spec c a (halt_offset spec c a + halt_time spec c a)) (length spec.apps)
 
 -- The number of frames of the prepare phase of a configuration: the maximum prepare time of its applications, or 0 if
--- nothing is on.
+-- no application is on.
 abbrev pub preparing_time : Parts → ConfId → ℕ
 preparing_time spec c = greatest_below (prepare_time spec c) (length spec.apps)
 
 -- The number of frames of the init phase of a configuration, up to the end of the last application's initialisation,
--- or 0 if nothing is on.
+-- or 0 if no application is on.
 abbrev pub initialising_time : Parts → ConfId → ℕ
 initialising_time spec c = greatest_below (λ a. where_on spec c a (init_offset spec c a + init_time spec c a)) (length spec.apps)
 
@@ -127,9 +127,9 @@ pub record OffsetsAreSums (spec : Parts) (c : ConfId) : Type 0 where
   pub halt : IsOffset (halt_chart spec c)
   pub init : IsOffset (init_chart spec c)
 
--- Each phase of an application that is on ends within the configuration's phase and takes at least one frame. If an
--- application is on, some application has halt offset 0 and some application has init offset 0. The halt phase and
--- the init phase take at most 128 frames, the prepare phase at most 16.
+-- Each phase of an application that is on ends within the same phase of the configuration and takes at least one
+-- frame. If an application is on, some application has halt offset 0 and some application has init offset 0. The halt
+-- phase and the init phase take at most 128 frames, and the prepare phase takes at most 16.
 pub record IsInTime (spec : Parts) (c : ConfId) : Type 0 where
   pub halts : (a : ℕ) → is_on spec c a ≡ true → halt_offset spec c a + halt_time spec c a ≤ halting_time spec c
   pub prepares : (a : ℕ) → is_on spec c a ≡ true → prepare_time spec c a ≤ preparing_time spec c
@@ -147,6 +147,6 @@ pub record IsInTime (spec : Parts) (c : ConfId) : Type 0 where
 abbrev pub OffsetsAreGreatestSums : Type 0
 OffsetsAreGreatestSums = (spec : Parts) → IsSpec spec → (c : ConfId) → OffsetsAreSums spec c
 
--- In every specification, each phase of an application ends within the same phase of its configuration.
+-- In every specification, each configuration satisfies `IsInTime`.
 abbrev pub PhasesEndInTime : Type 0
 PhasesEndInTime = (spec : Parts) → IsSpec spec → (c : ConfId) → IsInTime spec c

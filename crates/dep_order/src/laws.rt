@@ -10,15 +10,16 @@ pub fn offsets_are_greatest_sums()
     ensures { OffsetsAreGreatestSums }
 {}
 
-/// States that each phase of an application ends within the configuration's phase and takes at least one frame. If an
-/// application is on, some application has halt offset 0 and some application has init offset 0. The halt phase and
-/// the init phase take at most 128 frames, the prepare phase at most 16.
+/// States that each phase of an application that is on ends within the same phase of the configuration and takes at
+/// least one frame. If an application is on, some application has a halt offset of 0, and some application has an
+/// init offset of 0. The halt phase and the init phase take at most 128 frames, and the prepare phase takes at
+/// most 16.
 pub fn phases_end_in_time()
     ensures { PhasesEndInTime }
 {}
 
-/// States that needs which determine a rank for each application have no cycle. Therefore `rank` returns a cycle
-/// whenever one exists.
+/// States that if the needs determine a rank for each application, the needs have no cycle. Therefore `rank` returns
+/// a cycle whenever one exists.
 pub fn ranking_excludes_cycles()
     ensures { RankingExcludesCycles }
 {}

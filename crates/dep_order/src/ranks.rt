@@ -15,8 +15,8 @@ use scram_types::{AppId, AppSpec};
 pub struct Cycle(pub ArrayVec<AppId, 8>);
 
 /// Returns the rank of each application: 0 if it needs none, else one more than the maximum rank of the applications
-/// that it needs. Returns a `Cycle` if and only if the needs have a cycle. Ranks that the applications already have
-/// are ignored.
+/// that it needs. Returns an error with a cycle if and only if the needs have a cycle. Ranks that the applications
+/// already have are ignored.
 pub fn rank(apps: &[AppSpec]) -> Result<ArrayVec<u8, 8>, Cycle>
     requires few { length apps.now ≤ 8 }
     requires needs { NeedsInRange apps.now }
@@ -35,8 +35,8 @@ pub fn rank(apps: &[AppSpec]) -> Result<ArrayVec<u8, 8>, Cycle>
 // The rank of each application, or `None` if it has not been found.
 type Ranks = [Option<u8>; 8];
 
-// Returns the rank of each application that does not wait, directly or indirectly, for a cycle, and `None` for the
-// others.
+// Returns the rank of each application that does not need, directly or indirectly, an application of a cycle of
+// needs. For each other application, including those of a cycle, returns `None`.
 fn ranks_of_unbound(apps: &[AppSpec]) -> Ranks
     requires few { length apps.now ≤ 8 }
     requires needs { NeedsInRange apps.now }
@@ -132,7 +132,8 @@ fn find_waiting(ranks: &Ranks, needs: &[AppId]) -> Option<AppId>
     None
 }
 
-// Returns the first application without a rank among the needs of application `a`, which has no rank either.
+// Returns the first application without a rank among the needs of application `a`. Application `a` itself must have
+// no rank.
 fn wait_of(apps: &[AppSpec], ranks: &Ranks, a: AppId) -> AppId
     requires needs { NeedsInRange apps.now }
     requires stuck { IsStuck apps.now ranks.now }
@@ -146,8 +147,8 @@ fn wait_of(apps: &[AppSpec], ranks: &Ranks, a: AppId) -> AppId
     }
 }
 
-// Returns a cycle of needs. The function walks from `start`, which has no rank, to an application without a rank that
-// it needs, and so on, until it comes back to an application already visited.
+// Returns a cycle of needs. The function begins with `start`, which has no rank. It goes on to an application without
+// a rank that the present one needs, until it comes back to an application already visited.
 fn find_cycle(apps: &[AppSpec], ranks: &Ranks, start: AppId) -> ArrayVec<AppId, 8>
     requires few { length apps.now ≤ 8 }
     requires needs { NeedsInRange apps.now }

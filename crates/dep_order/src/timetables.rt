@@ -10,8 +10,8 @@ ghost use Rattle.dep_order.specs.Timetables.{AtMost, Holds, goes_before, is_name
 use scram_types::{AppId, ConfId, Spec};
 
 /// The timetable of a configuration, in frames. `halt` and `init` hold the offset of each application from the
-/// beginning of the halt and of the init phase, or 0 if the application is off. `h`, `p` and `i` are the lengths of the
-/// halt, prepare and init phases, or 0 if nothing is on.
+/// beginning of the halt and of the init phase, or 0 if the application is off. `h`, `p` and `i` are the lengths of
+/// the halt, prepare and init phases, or 0 if no application is on.
 #[derive(Clone, Copy, Debug, PartialEq, Eq)]
 pub struct Times {
     pub halt: [u16; 8],
@@ -80,7 +80,7 @@ fn offsets_after(spec: &Spec, phase: Phase, times: &[u8; 8], before: &[u16; 8]) 
 }
 
 // Returns the number of frames after which all applications that go before application `a` have ended the phase,
-// given their offsets. It is 0 if none goes before `a`.
+// given the offsets of these applications. The number is 0 if no application goes before `a`.
 fn offset_after(spec: &Spec, phase: Phase, times: &[u8; 8], offsets: &[u16; 8], a: usize) -> u16
     requires times { AtMost 16 (length spec.now.apps) times.now }
     requires offsets { AtMost 112 (length spec.now.apps) offsets.now }

@@ -1,5 +1,5 @@
--- Lemmas on a list that is made of the pairs of elements of two lists, row by row: its length, and the element in a
--- given row and column.
+-- Lemmas on a list with one element for each pair of elements of two lists, row by row: its length, and the element
+-- in a given row and column.
 use Rattle.std.proofs.Common.{◌≡◌, ◌∙◌, ℕ, zero, suc, ◌+◌, ◌*◌, List, [], ◌∷◌, ◌++◌, length, map, length-append, arith, ap, refl}
 use Rattle.std.specs.Prelude.{Some, flat_map, slice_get, option_map}
 use Rattle.std.proofs.lemmas.Option.{same_Some, slice_get-map}
@@ -15,8 +15,8 @@ length_mapped f [] = refl
 length_mapped f (x ∷ xs) = ap suc (length_mapped f xs)
 
 module _ {A B C : Type 0} (made : A → B → C) (bs : List B) where
-  -- The rows of the elements of a list, joined. The row of an element `x` has the value of `made x` for each element
-  -- of `bs`.
+  -- The rows of the elements of a list, joined. The row of an element `x` contains the value of `made x` for each
+  -- element of `bs`.
   pub rows : List A → List C
   rows [] = []
   rows (x ∷ xs) = map (made x) bs ++ rows xs
@@ -35,7 +35,8 @@ module _ {A B C : Type 0} (made : A → B → C) (bs : List B) where
       let both = length-append (map (made x) bs) (rows xs) in
       omega (arith, rest, row, both)
 
-  -- The element at column `k` of row `i` is made from element `i` of the first list and element `k` of the second.
+  -- The element at column `k` of row `i` is the value of `made` for element `i` of the first list and element `k` of
+  -- the second.
   pub cell : (xs : List A) (i k : ℕ) (x : A) (b : B) → slice_get xs i ≡ Some x → slice_get bs k ≡ Some b → slice_get (rows xs) (i * length bs + k) ≡ Some (made x b)
   unfolding rows
   cell [] i k x b there column = absurd cc

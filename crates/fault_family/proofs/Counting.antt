@@ -39,7 +39,7 @@ pub uncounted : (spec : Parts) (script : ScriptParts) (f : ℕ) → is_change_fr
 uncounted spec script zero is = refl
 uncounted spec script (suc f) is = let none : changes_upto spec script f + 0 ≡ changes_upto spec script f = omega arith in let back : suc f - 1 ≡ f = omega arith in rw (back, is) (sym none)
 
--- A frame has a violation to show if and only if one of the two tests holds.
+-- The optional violation in a frame is not `None` if and only if one of the two tests of the frame passes.
 pub shown_by : (a b : Bool) (x y : Outside) → (a || b) ≡ is_some (if a then Some x else (if b then Some y else None))
 shown_by true b x y = refl
 shown_by false true x y = refl
@@ -53,7 +53,7 @@ upto_before spec script e (suc f) before = elim (at_or_below e f before) [
   | inr last ↦ rw last (omega arith)
 ]
 
--- Lemmas on the whole script.
+-- Lemmas on the tests of all frames of a script.
 
 outside_none : (o : Option Outside) → is_some o ≡ false → o ≡ None
 outside_none None e = refl

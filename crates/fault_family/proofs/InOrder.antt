@@ -1,4 +1,4 @@
--- The scripts of a family are in order.
+-- The lists of faults in a family are in order.
 use Rattle.std.proofs.Common.{◌≡◌, ◌∙◌, ℕ, zero, suc, ◌+◌, ◌<◌, ◌≤◌, Bool, true, false, List, [], ◌∷◌, ◌++◌, length, map, append_assoc, arith, ap, refl, sym, subst, nat_lt}
 use mathlib.Core.Logic.{inl, inr}
 use Rattle.std.specs.Prelude.{◌&&◌, ◌==◌, Some, None, Option, flat_map, slice_get, if◌then◌else◌}

@@ -95,7 +95,7 @@ module _ (spec : Parts) (d : ℕ) (script : ScriptParts) (accepts : Accepts spec
 
   -- Lemmas on the frames up to frame `d`.
 
-  -- The state is stable in the start configuration, and no target has come to run.
+  -- The mode of the state is stable in the start configuration, and `arrived` is `false`.
   record IsQuiet (state : State) : Type 0 where
     mode : state.mode ≡ Stable spec.start
     arrived : state.arrived ≡ false
@@ -125,7 +125,7 @@ module _ (spec : Parts) (d : ℕ) (script : ScriptParts) (accepts : Accepts spec
 
   -- Lemmas on the frames from frame `d` on.
 
-  -- A state `d` frames later has the same mode, and agrees on whether the target has come to run.
+  -- The mode of `later` is the mode of `state`, `d` frames later. Both states have the same `arrived`.
   record IsLater (state later : State) : Type 0 where
     mode : later.mode ≡ mode_later d state.mode
     arrived : later.arrived ≡ state.arrived
@@ -148,7 +148,8 @@ module _ (spec : Parts) (d : ℕ) (script : ScriptParts) (accepts : Accepts spec
       ∙ ap (λ (settled : Bool). decision spec (d + n) (mode_later d state.mode) settled state.arrived (env_at spec script n)) (settled_before n)
       ∙ decision_later spec d state.mode n (is_settled spec state.mode (n - 1)) state.arrived (env_at spec script n)
 
-  -- The row of frame `d + n` has the mode and the acts of the row of frame `n`.
+  -- The row of frame `d + n` in the later script has the acts of the script's row of frame `n`, and the mode of that
+  -- row `d` frames later.
   record IsRowLater (n : ℕ) : Type 0 where
     mode : (row_at spec (later_by d script) (d + n)).mode ≡ mode_later d (row_at spec script n).mode
     acts : (row_at spec (later_by d script) (d + n)).acts ≡ (row_at spec script n).acts

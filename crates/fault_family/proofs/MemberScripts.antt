@@ -26,7 +26,7 @@ use Rattle.fault_family.specs.Laws.{Follow, IsKind, IsNear, IsNextFault, Members
 use Rattle.fault_family.specs.Scripts.{change_fault_in, change_of_fault, frames_of_faults, halt_fault_in, halt_of_fault, last_fault_frame, restart_fault_in, restart_of_fault, script_of_faults}
 use Rattle.fault_family.proofs.Counting.{greatest_within}
 
--- Lemmas on the values that a function gives for a list's elements.
+-- Lemmas on the list of the values of a function that returns an optional value for each element.
 
 each_more : {B : Type 0} (P : B → Type 0) (o : Option B) (ys : List B) → ((b : B) → o ≡ Some b → P b) → Each P ys → Each P (cons_option o ys)
 each_more P None ys first each = each
@@ -83,7 +83,7 @@ Later fault next = may_come_after next fault ≡ true
 
 -- Facts about the faults of a script. Each kind is one of the specification, and each fault may come after the
 -- earlier ones. No fault comes before frame 1 or after the frame of the last fault. That frame is at most 1001 times
--- the number of faults. Each restart comes well after a halt of its processor.
+-- the number of faults. Each restart comes two frames or more after a halt of its processor.
 record Keeps (spec : Parts) (faults : List Fault) : Type 0 where
   kinds : Each (λ (fault : Fault). IsKind spec fault.kind) faults
   later : EachLater Later faults
@@ -101,7 +101,7 @@ last_end before fault =
 frame_end : (before : List Fault) (fault : Fault) → last_fault_frame (before ++ fault ∷ []) ≡ fault.frame
 frame_end before fault = ap (λ (o : Option Fault). option_map_or (λ (f : Fault). f.frame) o 0) (last_end before fault)
 
--- The frame of a fault is at least 1, is not before frame `last`, and is at most 1001 frames after it.
+-- The frame of a fault is at least 1 and at least `last`. It is at most `last + 1001`.
 record IsBehind (last frame : ℕ) : Type 0 where
   after : last ≤ frame
   near : frame ≤ last + 1001
@@ -242,7 +242,7 @@ restarts_apart f g (kind.Restart x) (kind.Halt r s) a b p q later = absurd cc
 restarts_apart f g (kind.Change r s) l a b p q later = absurd cc
 restarts_apart f g (kind.Halt r s) l a b p q later = absurd cc
 
--- A fault may come in this frame of a script with `frames` frames.
+-- A fault of a script with `frames` frames may come in this frame: the frame is at least 1 and below `frames`.
 record LiesIn (frames frame : ℕ) : Type 0 where
   first : 1 ≤ frame
   last : frame < frames

@@ -1,4 +1,4 @@
--- The family of a specification has exactly its members.
+-- The family of a specification contains exactly the lists of faults that satisfy `IsMember`.
 use Rattle.std.proofs.Common.{◌≡◌, ◌∙◌, ℕ, zero, suc, ◌+◌, ◌-◌, ◌<◌, ◌≤◌, true, List, [], ◌∷◌, ◌++◌, length, map, append_assoc, append-nil, arith, ap, refl, sym, subst}
 use mathlib.Core.Logic.{inl, inr}
 use Rattle.std.specs.Prelude.{◌⊎◌, Some, None, Option, flat_map, is_none, slice_get, if◌then◌else◌}

@@ -50,7 +50,7 @@ module _ (b d : ℕ) where
       by_side false true is also = grind (arith, nat_tests, is, also)
       by_side false false is also = grind (arith, nat_tests)
 
-  -- In a frame of the rest, a moved frame has come if and only if the original frame comes before frame `b`.
+  -- The moved frame of `x` is at most a frame `g` of the rest if and only if `x` is before frame `b`.
   le_resting : (x g : ℕ) → 1 ≤ b → b ≤ g → g < d + b → nat_le (later_frame b d x) g ≡ nat_le x (b - 1)
   le_resting x g some after before = by_side (nat_lt x b) refl
     where
@@ -58,7 +58,7 @@ module _ (b d : ℕ) where
       by_side true is = grind (arith, nat_tests, is, after, some)
       by_side false is = grind (arith, nat_tests, is, before, after, some)
 
-  -- In a frame before `b`, a moved frame has come if and only if the original frame has come.
+  -- The moved frame of `x` is at most a frame before `b` if and only if `x` is at most that frame.
   le_before : (x f : ℕ) → f < b → nat_le (later_frame b d x) f ≡ nat_le x f
   le_before x f early = by_side (nat_lt x b) refl
     where
@@ -67,7 +67,7 @@ module _ (b d : ℕ) where
       by_side false is = grind (arith, nat_tests, is, early)
 
 module _ (spec : Parts) (b d : ℕ) (script : ScriptParts) where
-  -- Lemmas on a frame of the script and a frame of the later script by which the same changes have come.
+  -- Lemmas on a frame of the script and a frame of the later script up to which the same changes occur.
   values_where : (x f g : ℕ) → ((frame : ℕ) → nat_le (later_frame b d frame) g ≡ nat_le frame f) → (changes : List Change) (value : ℕ)
       → value_after (map (λ (change : Change). record { frame = later_frame b d change.frame; factor = change.factor; value = change.value }) changes) x g value ≡ value_after changes x f value
   values_where x f g same [] value = refl
@@ -127,7 +127,7 @@ module _ (spec : Parts) (b d : ℕ) (script : ScriptParts) where
       (any_where (λ (halt : HaltAt). is_halt_in p f halt && nat_le halt.step (words spec)) (λ (halt : HaltAt). is_halt_in p g halt && nat_le halt.step (words spec)) script.halts
       (λ i halt there. rw (here i halt there) refl))
 
-  -- Lemmas on frames before the rest, in it, and after it.
+  -- Lemmas on frames before, in and after the rest.
 
   lt_before : (x f : ℕ) → f < b → nat_lt (later_frame b d x) f ≡ nat_lt x f
   lt_before x f early = by_side (nat_lt x b) refl

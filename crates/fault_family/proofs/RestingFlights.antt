@@ -1,4 +1,4 @@
--- If a flight is at rest, the length of the rest does not matter.
+-- If a flight is at rest, everything that follows the rest may come later, and the flight continues in the same way.
 use Rattle.std.proofs.Common.{◌≡◌, ◌∙◌, ℕ, zero, suc, ◌+◌, ◌-◌, ◌<◌, ◌≤◌, Bool, true, false, List, ◌++◌, length, map, append_assoc, arith, ap, refl, sym, subst, nat_lt}
 use Rattle.std.specs.Prelude.{◌&&◌, ◌==◌, nat_le, if◌then◌else◌, Option, Some, None}
 use Rattle.std.proofs.Math.Path.{fun_ext}
@@ -117,7 +117,7 @@ module _ (spec : Parts) (b d : ℕ) (c : ConfId) (script : ScriptParts) (rest : 
 
   -- Lemmas on the frames of the rest.
 
-  -- A state leads to the same decision as a state whose mode is stable in `c`.
+  -- A state leads to the same decision as a state with the mode `Stable c`.
   IsResting : State → Type 0
   IsResting state = (f : ℕ) (settled : Bool) (v : Env) → decision spec f state.mode settled state.arrived v ≡ leave_for c (choose spec c v) f
 
@@ -195,7 +195,7 @@ module _ (spec : Parts) (b d : ℕ) (c : ConfId) (script : ScriptParts) (rest : 
       }
 
   -- The flight of the script is at rest at the start of frame `b`, and that of the later script at the start of frame
-  -- `d + b`. Therefore the rows of these two frames are alike.
+  -- `d + b`. Therefore `IsRowLater` holds for frame `b`.
   row_first : IsRowLater b
   unfolding IsResting
   row_first =
@@ -224,7 +224,8 @@ module _ (spec : Parts) (b d : ℕ) (c : ConfId) (script : ScriptParts) (rest : 
       ∙ ap (λ (past : Bool). decision spec (d + f) (mode_later d state.mode) past state.arrived (env_at spec script f)) settled
       ∙ decision_later spec d state.mode f (is_settled spec state.mode (f - 1)) state.arrived (env_at spec script f))
 
-  -- If the rows of a frame are alike, the states after it are alike, and so are the rows of the next frame.
+  -- If `IsRowLater` holds for a frame, `IsLater` holds for the states after the frame, and `IsRowLater` holds for the
+  -- next frame.
   state_next : (f : ℕ) → IsRowLater f → IsLater (state_after spec script (suc f)) (state_after spec (later_from b d script) (suc (d + f)))
   state_next f row = record {
     mode = row.mode;

@@ -15,13 +15,13 @@ use Rattle.fault_family.specs.Families.{family, may_follow}
 use Rattle.fault_family.specs.Faults.{precedes}
 use Rattle.fault_family.specs.Scripts.{script_of_faults}
 
--- The factor exists and has a value of this number.
+-- The factor exists and has a value with index `value`.
 pub record IsChangeKind (spec : Parts) (factor value : ℕ) : Type 0 where
   pub is : Factor
   pub there : slice_get spec.factors factor ≡ Some is
   pub below : value < length is.values
 
--- The processor exists, and the step is before all stores or after the mark.
+-- The processor exists, and the halt comes before all stores or after the mark.
 pub record IsHaltKind (spec : Parts) (proc step : ℕ) : Type 0 where
   pub there : proc < length spec.procs
   pub moment : (step ≡ 0) ⊎ (step ≡ words spec + 1)
@@ -33,8 +33,9 @@ IsKind spec (Change factor value) = IsChangeKind spec factor.0 value
 IsKind spec (Halt proc step) = IsHaltKind spec proc.0 step
 IsKind spec (Restart proc) = proc.0 < length spec.procs
 
--- A fault may come in this frame. The first fault comes in frame 1. The number of frames from the previous fault to a
--- further fault is at most the greatest bound plus one, or equals the window plus one.
+-- A fault may come in frame `frame` after an optional last fault. Without a last fault, the frame is 1. Otherwise the
+-- number of frames from the last fault to `frame` is at most the greatest bound plus one, or equals the window plus
+-- one.
 abbrev pub IsNear : Parts → Option Fault → ℕ → Type 0
 IsNear spec None frame = frame ≡ 1
 IsNear spec (Some last) frame =
@@ -47,13 +48,14 @@ pub record IsNextFault (spec : Parts) (before : List Fault) (fault : Fault) : Ty
   pub near : IsNear spec (last_of before) fault.frame
   pub follows : may_follow spec before fault ≡ true
 
--- Each fault of the second list may be the next after the faults that precede it.
+-- Each fault of the second list may be the next after the first list and the faults of the second list that precede
+-- it.
 abbrev pub Follow : Parts → List Fault → List Fault → Type 0
 Follow spec before [] = ⊤
 Follow spec before (fault ∷ faults) = IsNextFault spec before fault × Follow spec (before ++ fault ∷ []) faults
 
--- The faults make a script of the family. There are `count` of them, each may follow the preceding ones, and their
--- script keeps the failure assumption.
+-- The faults make a script of the family. There are `count` faults. Each fault may be the next after the preceding
+-- ones. The script of the faults keeps the failure assumption.
 pub record IsMember (spec : Parts) (count : ℕ) (faults : List Fault) : Type 0 where
   pub many : length faults ≡ count
   pub follow : Follow spec [] faults
@@ -63,26 +65,28 @@ pub record IsMember (spec : Parts) (count : ℕ) (faults : List Fault) : Type 0 
 abbrev pub Contains : {A : Type 0} → List A → A → Type 0
 Contains {A} xs x = (i : ℕ) × (slice_get xs i ≡ Some x)
 
--- The family contains a list of faults if and only if the list is a member.
+-- The family contains a list of faults if and only if the list satisfies `IsMember`.
 pub record HasMembers (spec : Parts) (count : ℕ) (faults : List Fault) : Type 0 where
   pub sound : Contains (family spec count) faults → IsMember spec count faults
   pub complete : IsMember spec count faults → Contains (family spec count) faults
 
--- The family of each specification has exactly its members.
+-- For each specification and each number of faults, the family contains exactly the lists of faults that satisfy
+-- `IsMember`.
 abbrev pub FamiliesHaveMembers : Type 0
 FamiliesHaveMembers = (spec : Parts) (count : ℕ) (faults : List Fault) → HasMembers spec count faults
 
--- The script of a member fits the specification.
+-- The script of a member with at most three faults fits the specification.
 abbrev pub MembersFit : Type 0
 MembersFit = (spec : Parts) (count : ℕ) (faults : List Fault) → IsSpec spec → count ≤ 3 → IsMember spec count faults
     → Fits spec (script_of_faults spec faults)
 
--- A list of faults comes before another by the first position at which their faults differ.
+-- The first list of faults comes before the second. At the first position at which the lists differ, the fault of the
+-- first list precedes the fault of the second.
 pub data ComesFirst : List Fault → List Fault → Type 0 where
   here : (fault next : Fault) (faults others : List Fault) → precedes fault next ≡ true → ComesFirst (fault ∷ faults) (next ∷ others)
   further : (fault : Fault) (faults others : List Fault) → ComesFirst faults others → ComesFirst (fault ∷ faults) (fault ∷ others)
 
--- The lists of faults are in order. Therefore no list occurs twice.
+-- The lists of faults are in order, and no list occurs twice.
 pub record AreInOrder (all : List (List Fault)) : Type 0 where
   pub ordered : EachLater ComesFirst all
   pub once : EachLater (λ (faults others : List Fault). faults ≡ others → ⊥) all

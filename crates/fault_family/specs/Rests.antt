@@ -1,4 +1,4 @@
--- Scripts that continue later after the flight has been at rest.
+-- Scripts in which everything after a rest of the flight comes later.
 use Rattle.std.specs.Prelude.{◌≡◌, ◌≢◌, ℕ, ◌+◌, ◌-◌, ◌<◌, ◌≤◌, true, nat_lt, List, ◌++◌, map, if◌then◌else◌}
 use Rattle.scram_types.specs.Searches.{listed_below}
 use Rattle.scram_types.specs.declared.rows.Report.{Report}
@@ -18,7 +18,7 @@ use Rattle.frame_model.specs.Readings.{reading_of}
 use Rattle.frame_model.specs.Runs.{runs}
 use Rattle.fault_family.specs.Shifts.{mode_later, report_later}
 
--- The frame `frame` itself if it is before frame `b`, or else the frame `d` frames later.
+-- The frame `frame` itself if it is before frame `b`, or else frame `d + frame`.
 abbrev pub later_frame : ℕ → ℕ → ℕ → ℕ
 later_frame b d frame = if nat_lt frame b then frame else d + frame
 
@@ -31,9 +31,9 @@ later_from b d script = record {
   restarts = map (λ (restart : RestartAt). record { proc = restart.proc; frame = later_frame b d restart.frame }) script.restarts;
 }
 
--- A flight is at rest in configuration `c` at the start of frame `b`. In the previous frame, the kernel's phase is
--- `Running c`, the row runs `c`, the rows up to it are read as running `c`, the table chooses `c` again, and no
--- processor halts.
+-- A flight is at rest in configuration `c` at the start of frame `b`. In frame `b - 1`, the kernel's phase is
+-- `Running c`, the row runs `c`, the table chooses `c` from `c`, and no processor halts. The reading of the rows
+-- before frame `b` is `Steady c`.
 pub record IsAtRest (spec : Parts) (script : ScriptParts) (b : ℕ) (c : ConfId) : Type 0 where
   pub first : 1 ≤ b
   pub inside : b ≤ script.frames
@@ -43,22 +43,24 @@ pub record IsAtRest (spec : Parts) (script : ScriptParts) (b : ℕ) (c : ConfId)
   pub chosen : choose spec c (env_at spec script (b - 1)) ≡ c
   pub quiet : Each (λ (halt : HaltAt). halt.frame ≢ b - 1) script.halts
 
--- The second flight has the reconfigurations of the first flight. A first part of the reports is the same in both
--- flights, and the remaining ones come `d` frames later in the second flight.
+-- The two lists of reports begin with the same reports. The remaining reports of the second list are those of the
+-- first list, `d` frames later.
 pub record GoOnLater (d : ℕ) (one other : List Report) : Type 0 where
   pub before : List Report
   pub after : List Report
   pub parts : one ≡ before ++ after
   pub later : other ≡ before ++ map (report_later d) after
 
--- The flight of `later` equals the flight of `script` before frame `b`, and then continues `d` frames later.
+-- Before frame `b`, the flights of `script` and `later` have the same rows. From frame `b` on, the acts and the mode
+-- of each row of `script` come `d` frames later in the flight of `later`, and so do the remaining reconfigurations.
 pub record HasFlightFrom (spec : Parts) (b d : ℕ) (script later : ScriptParts) : Type 0 where
   pub rows : (f : ℕ) → f < b → row_at spec later f ≡ row_at spec script f
   pub acts : (f : ℕ) → b ≤ f → (row_at spec later (d + f)).acts ≡ (row_at spec script f).acts
   pub modes : (f : ℕ) → b ≤ f → (row_at spec later (d + f)).mode ≡ mode_later d (row_at spec script f).mode
   pub reports : GoOnLater d (reports_of spec script) (reports_of spec later)
 
--- The length of a rest does not matter: if a flight is at rest, everything that follows may come later.
+-- If a flight is at rest at the start of frame `b`, everything from frame `b` on may come later. The flight is then
+-- the same before frame `b`, and later by that number of frames afterwards.
 abbrev pub RestsMayBeLonger : Type 0
 RestsMayBeLonger = (spec : Parts) (b d : ℕ) (c : ConfId) (script : ScriptParts) → IsAtRest spec script b c
     → HasFlightFrom spec b d script (later_from b d script)

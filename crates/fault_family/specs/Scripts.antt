@@ -61,7 +61,7 @@ last_fault_frame faults = option_map_or (λ (fault : Fault). fault.frame) (last_
 abbrev pub frames_of_faults : Parts → List Fault → ℕ
 frames_of_faults spec faults = last_fault_frame faults + greatest_bound spec.bounds + 3
 
--- The script of a list of faults.
+-- The script of a list of faults, with `frames_of_faults` frames.
 abbrev pub script_of_faults : Parts → List Fault → ScriptParts
 script_of_faults spec faults = script_in_frames (frames_of_faults spec faults) faults
 

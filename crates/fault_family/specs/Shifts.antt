@@ -24,15 +24,15 @@ later_by d script = record {
   restarts = map (λ (restart : RestartAt). record { proc = restart.proc; frame = d + restart.frame }) script.restarts;
 }
 
--- The script `later` shows the environments and commits of `script` `d` frames later. Before that it shows the
--- environment of the first frame of `script`. It keeps the failure assumption if `script` does.
+-- The script `later` has the environments and commits of `script`, `d` frames later. Before frame `d`, it has the
+-- environment of frame 0 of `script`. It keeps the failure assumption if `script` does.
 pub record ShowsLater (spec : Parts) (d : ℕ) (script later : ScriptParts) : Type 0 where
   pub environment : (f : ℕ) → env_at spec later (d + f) ≡ env_at spec script f
   pub commits : (p f : ℕ) → commits spec later p (d + f) ≡ commits spec script p f
   pub before : (f : ℕ) → f < d → env_at spec later f ≡ env_at spec script 0
   pub within : IsWithin spec script → IsWithin spec later
 
--- A script in which everything comes some frames later shows the same environments and commits, later by that number of
+-- A script in which everything comes some frames later has the same environments and commits, later by that number of
 -- frames. It keeps the failure assumption if the original script does.
 abbrev pub LaterScriptsShowTheSame : Type 0
 LaterScriptsShowTheSame = (spec : Parts) (d : ℕ) (script : ScriptParts) → Fits spec script → ShowsLater spec d script (later_by d script)
@@ -46,8 +46,8 @@ mode_later d (Moving from halting to since) = Moving from halting to (d + since)
 abbrev pub report_later : ℕ → Report → Report
 report_later d report = record { from = report.from; to = report.to; begin = d + report.begin; end = d + report.end }
 
--- The flight of `later` is the flight of `script`, `d` frames later. Each row has the acts and the mode of the row `d`
--- frames before, and the reconfigurations come `d` frames later. Worlds and areas may differ.
+-- The acts and the mode of each row in the flight of `script` come `d` frames later in the flight of `later`, and so
+-- do the reconfigurations. Worlds and areas may differ.
 pub record HasFlightLater (spec : Parts) (d : ℕ) (script later : ScriptParts) : Type 0 where
   pub acts : (f : ℕ) → (row_at spec later (d + f)).acts ≡ (row_at spec script f).acts
   pub modes : (f : ℕ) → (row_at spec later (d + f)).mode ≡ mode_later d (row_at spec script f).mode

@@ -6,7 +6,7 @@ use Rattle.scram_types.specs.Specification.{Parts}
 use Rattle.fault_script.specs.Times.{words}
 use Rattle.frame_model.specs.Flights.{reports_of, rows_of}
 
--- The step that represents the step of a halt: the step before all stores if the halt comes before the mark, or else
+-- The step that represents the step of a halt: step 0, before all stores, if the halt comes before the mark, or else
 -- the step after the mark.
 abbrev pub listed_step : Parts → ℕ → ℕ
 listed_step spec step = if nat_le step (words spec) then 0 else words spec + 1
@@ -24,7 +24,7 @@ with_listed_steps spec script = record {
   restarts = script.restarts;
 }
 
--- Two scripts have the same flight.
+-- The flights of two scripts have the same rows and the same reports.
 pub record HasFlightOf (spec : Parts) (script other : ScriptParts) : Type 0 where
   pub rows : rows_of spec script ≡ rows_of spec other
   pub reports : reports_of spec script ≡ reports_of spec other

@@ -192,8 +192,8 @@ fn gap(spec: &Spec, i: u32) -> u32
     }
 }
 
-/// Returns whether a fault may follow the faults `before`: it may come after each of them, and it makes a difference to
-/// their script.
+/// Returns `true` if a fault may follow the faults `before`: it may come after each of them, and it makes a
+/// difference to their script.
 pub fn may_follow(spec: &Spec, before: &[Fault], fault: &Fault) -> bool
     ensures { result ≡ may_follow spec.now before.now fault.now }
 {
@@ -208,7 +208,7 @@ fn may_come_after_all(before: &[Fault], fault: &Fault) -> bool
     before.iter().all(|earlier| may_come_after(earlier, fault))
 }
 
-// Returns whether a fault makes a difference to the script of the preceding faults.
+// Returns `true` if a fault makes a difference to the script of the preceding faults.
 fn differs_in(before: &[Fault], fault: &Fault) -> bool
     ensures { (frames : ℕ) → result ≡ differs_in (script_in_frames frames before.now) fault.now.frame fault.now.kind }
 {

@@ -70,7 +70,7 @@ impl Faults {
         self.faults.as_slice()
     }
 
-    /// Returns the list with the fault appended.
+    /// Returns the list with the fault appended. The list must contain fewer than [`MAX_FAULTS`] faults.
     pub fn with(&self, fault: &Fault) -> Faults
         requires { length self.now < 3 }
         ensures { result ≡ self.now ++ fault.now ∷ [] }
@@ -121,7 +121,7 @@ fn comes_after(last: u32, last_number: u8, next: u32, number: u8) -> bool
     last < next || last == next && last_number < number
 }
 
-/// Returns whether a fault comes before another. The order is by frame, then by kind: changes before halts before
+/// Returns `true` if a fault comes before another. The order is by frame, then by kind: changes before halts before
 /// restarts. Faults of one kind in one frame are ordered by the numbers of the factor and of the value, or by the
 /// processor and the step.
 pub fn precedes(fault: &Fault, next: &Fault) -> bool
@@ -138,8 +138,8 @@ pub fn precedes(fault: &Fault, next: &Fault) -> bool
             )
 }
 
-/// Returns whether two faults are of a class that may come only once. The classes are the changes of one factor in one
-/// frame, the halts of one processor, and the restarts of one processor.
+/// Returns `true` if two faults are of a class that may come only once. The classes are the changes of one factor in
+/// one frame, the halts of one processor, and the restarts of one processor.
 pub fn repeats(fault: &Fault, next: &Fault) -> bool
     ensures { result ≡ repeats fault.now next.now }
 {
@@ -148,7 +148,8 @@ pub fn repeats(fault: &Fault, next: &Fault) -> bool
         && (rank(&fault.kind) != 0 || fault.frame == next.frame)
 }
 
-/// Returns whether the fault `next` may come after the fault `fault`.
+/// Returns `true` if the fault `next` may come after the fault `fault`: `next` comes later in the order and does not
+/// repeat `fault`.
 pub fn may_come_after(fault: &Fault, next: &Fault) -> bool
     ensures { result ≡ may_come_after next.now fault.now }
 {

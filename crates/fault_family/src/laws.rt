@@ -29,7 +29,7 @@ pub fn listed_steps_stand()
 {}
 
 /// States that a script in which everything comes some frames later has the same environments and commits, later by
-/// that number of frames. The script keeps the failure assumption if the original does.
+/// that number of frames. The later script keeps the failure assumption if the original script does.
 pub fn later_scripts_show_the_same()
     ensures { LaterScriptsShowTheSame }
 {}
@@ -42,8 +42,8 @@ pub fn later_scripts_fly_the_same()
 {}
 
 /// States that the length of a rest does not matter. Suppose that a flight is at rest, and that in another script
-/// everything from then on comes some frames later. The flight of that script is the same up to the rest, and
-/// afterwards has the same reconfigurations, later by that number of frames.
+/// everything from then on comes some frames later. The flight of the other script is the same up to the rest.
+/// Afterwards it has the same reconfigurations, later by that number of frames.
 pub fn rests_may_be_longer()
     ensures { RestsMayBeLonger }
 {}

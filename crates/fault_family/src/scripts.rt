@@ -24,7 +24,7 @@ impl<'a> FaultScript<'a> {
     ghost use Rattle.fault_family.specs.Scripts.{frames_of_faults, last_fault_frame};
 
     /// Returns the script of a list of faults. Its number of frames is the frame of the last fault plus the greatest
-    /// bound plus three.
+    /// bound plus three. The last fault must come in frame 4000 or earlier.
     pub fn new(spec: &Spec, faults: &'a [Fault]) -> FaultScript<'a>
         requires { last_fault_frame faults.now ≤ 4000 }
         ensures frames { result.frames ≡ frames_of_faults spec.now faults.now }
@@ -89,7 +89,7 @@ pub fn last_fault_frame(faults: &[Fault]) -> u32
     }
 }
 
-/// Returns the greatest bound of the specification, in frames, or 0 if it has none.
+/// Returns the greatest bound of the specification, in frames, or 0 if it has no bound.
 pub fn greatest(spec: &Spec) -> u32
     ensures value { result ≡ greatest_bound spec.now.bounds }
     ensures few { result ≤ 1000 }
@@ -124,14 +124,15 @@ fn newest(fault: &Fault, factor: FactorId, frame: u32, value: u8) -> u8
     }
 }
 
-/// Returns whether a processor is up in a frame.
+/// Returns `true` if a processor is up in a frame of a script.
 pub fn is_up(script: &FaultScript<'_>, p: u8, frame: u32) -> bool
     ensures { result ≡ is_up (script_in_frames script.now.frames script.now.faults.now) p frame }
 {
     are_halts_over(script, p, frame)
 }
 
-// Returns whether a processor has restarted since each of its halts in the frames before a frame.
+// Returns `true` if a processor has restarted, up to and including a frame, after each of its halts in earlier
+// frames.
 fn are_halts_over(script: &FaultScript<'_>, p: u8, frame: u32) -> bool
     ensures { result ≡ list_all (is_over (script_in_frames script.now.frames script.now.faults.now) p frame) (filter_map halt_of_fault script.now.faults.now) }
 {
@@ -143,8 +144,8 @@ fn are_halts_over(script: &FaultScript<'_>, p: u8, frame: u32) -> bool
     true
 }
 
-// Returns whether a fault leaves a processor up in a frame. It does if it is not a halt of the processor before the
-// frame, or if the processor has restarted since.
+// Returns `true` if a fault leaves a processor up in a frame: the fault is not a halt of the processor in an earlier
+// frame, or the processor has restarted since the halt, up to and including the frame.
 fn is_over(script: &FaultScript<'_>, fault: &Fault, p: u8, frame: u32) -> bool
     ensures { result ≡ list_all (is_over (script_in_frames script.now.frames script.now.faults.now) p frame) (filter_map halt_of_fault (fault.now ∷ [])) }
 {
@@ -158,7 +159,7 @@ fn is_over(script: &FaultScript<'_>, fault: &Fault, p: u8, frame: u32) -> bool
     }
 }
 
-// Returns whether a processor restarts after frame `after` and no later than frame `frame`.
+// Returns `true` if a processor restarts after frame `after` and no later than frame `frame`.
 fn has_restarted(faults: &[Fault], p: u8, after: u32, frame: u32) -> bool
     ensures { result ≡ list_any (is_restart_between p after frame) (filter_map restart_of_fault faults.now) }
 {
@@ -179,7 +180,7 @@ fn is_restart_between(fault: &Fault, p: u8, after: u32, frame: u32) -> bool
     }
 }
 
-/// Returns whether a processor has a halt at least two frames before a frame.
+/// Returns `true` if a processor has a halt at least two frames before a frame.
 pub fn has_halted_before(faults: &[Fault], proc: ProcId, frame: u32) -> bool
     ensures { result ≡ list_any (is_halt_before proc.0 frame) (filter_map halt_of_fault faults.now) }
 {

@@ -11,9 +11,9 @@ ghost use Rattle.fault_family.specs.Scripts.{is_within, script_in_frames};
 use crate::scripts::{FaultScript, is_up, value_at};
 use scram_types::{Env, FactorId, Spec};
 
-/// Returns whether a script keeps the failure assumption. In no frame, including the frame after the last, are more
-/// than `halts` processors down. Any `window` consecutive frames contain at most `changes + 1` frames whose environment
-/// differs from that of the previous frame.
+/// Returns `true` if a script keeps the failure assumption. In no frame, including the frame after the last, are more
+/// than `halts` processors down. Any `window` consecutive frames contain at most `changes + 1` frames whose
+/// environment differs from that of the previous frame.
 pub fn is_within(spec: &Spec, script: &FaultScript<'_>) -> bool
     requires { script.now.frames ≤ 5003 }
     ensures { result ≡ is_within spec.now (script_in_frames script.now.frames script.now.faults.now) }
@@ -28,8 +28,8 @@ pub fn is_within(spec: &Spec, script: &FaultScript<'_>) -> bool
     true
 }
 
-// The number of frames up to a frame that change the environment, and the number of such frames before the window that
-// ends with the frame.
+// The number of frames up to and including a frame that change the environment, and the number of such frames before
+// the window that ends with the frame.
 #[derive(Clone, Copy)]
 struct Counts {
     upto: u32,
@@ -53,7 +53,8 @@ fn counts_with(spec: &Spec, script: &FaultScript<'_>, counts: &Counts, frame: u3
     }
 }
 
-// Returns the number of frames up to a frame that change the environment, given that number for the previous frame.
+// Returns the number of frames up to and including a frame that change the environment, given that number for the
+// previous frame.
 fn count_with(spec: &Spec, script: &FaultScript<'_>, count: u32, frame: u32) -> u32
     requires frame { frame ≤ 5003 }
     requires count { count ≡ changes_upto spec.now (script_in_frames script.now.frames script.now.faults.now) (frame - 1) }
@@ -66,7 +67,7 @@ fn count_with(spec: &Spec, script: &FaultScript<'_>, count: u32, frame: u32) -> 
     }
 }
 
-// Returns whether the script violates the failure assumption in a frame.
+// Returns `true` if the script violates the failure assumption in a frame.
 fn is_outside_at(spec: &Spec, script: &FaultScript<'_>, counts: &Counts, frame: u32) -> bool
     requires few { script.now.frames ≤ 5003 }
     requires frame { frame ≤ script.now.frames }
@@ -76,7 +77,8 @@ fn is_outside_at(spec: &Spec, script: &FaultScript<'_>, counts: &Counts, frame: 
     brings_too_many_down(spec, script, frame) || is_change_too_many(spec, script, counts, frame)
 }
 
-// Returns whether a frame changes the environment and thereby exceeds the limit of the window that ends with the frame.
+// Returns `true` if a frame changes the environment and thereby exceeds the limit of the window that ends with the
+// frame.
 fn is_change_too_many(spec: &Spec, script: &FaultScript<'_>, counts: &Counts, frame: u32) -> bool
     requires counts { AreChangeFrameCounts spec.now (script_in_frames script.now.frames script.now.faults.now) frame counts.now }
     ensures { result ≡ is_change_too_many spec.now (script_in_frames script.now.frames script.now.faults.now) frame }

@@ -1,4 +1,5 @@
--- If each halt is one that its processor may have, no processor halts three times, or twice before its restart.
+-- If each halt is one that its processor may have, no processor halts three times, and no processor halts a second
+-- time before its restart.
 use Rattle.std.proofs.Common.{◌≡◌, ◌≤◌, ◌<◌, ◌==◌, ℕ, zero, suc, true, ◌&&◌, List, [], ◌∷◌, ◌++◌, arith, ap, sym, ◌∙◌, inl, inr, ◌||◌, subst, append-nil, append_assoc}
 use Rattle.std.specs.Prelude.{Some, Ok, slice_get, nat_le, ⊤}
 use Rattle.std.specs.List.{list_any}
@@ -32,7 +33,8 @@ two_of p (x ∷ xs) (suc i) (suc j) y z less e f same_y same_z =
 abbrev pub Again : List RestartAt → HaltAt → HaltAt → Type 0
 Again restarts a b = a.proc.0 ≡ b.proc.0 → RestartsBy restarts b.proc.0 b.frame
 
--- If a processor has an earlier halt and may halt again, it has restarted by then.
+-- If a processor has an earlier halt and may halt again, it has restarted in the frame of the new halt or an earlier
+-- one.
 again_by : (restarts : List RestartAt) (n : ℕ) (p f : ℕ) → 1 ≤ n → (n == 0 || (n == 1 && list_any (is_restart_by p f) restarts)) ≡ true → RestartsBy restarts p f
 again_by restarts n p f some may = elim (or_cases (n == 0) (n == 1 && list_any (is_restart_by p f) restarts) may) [
   | inl none ↦ absurd (grind (arith, nat_tests, none, some))

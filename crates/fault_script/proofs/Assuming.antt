@@ -27,7 +27,7 @@ tests_two a b x y p q = rw (p, q) refl
 earlier : (a b : ℕ) → a < suc b → (a == b) ≡ false → a < b
 earlier a b h e = grind (arith, nat_tests)
 
--- Counts of change frames.
+-- Lemmas on counts of change frames.
 
 more_by : (b : Bool) (n : ℕ) → (n ≤ n + (if b then 1 else 0)) × (n + (if b then 1 else 0) ≤ n + 1)
 more_by true n = (omega arith, omega arith)

@@ -1,4 +1,4 @@
--- Worked examples of the failure assumption, computed and compared with its definition.
+-- Worked examples of the first frame in which a script leaves the failure assumption.
 use Rattle.std.proofs.Common.{◌≡◌, refl, ℕ, List, [], ◌∷◌, pos}
 use Rattle.std.specs.Prelude.{Some, None, replicate}
 use Rattle.scram_types.specs.declared.scripts.Change.{Change}
@@ -55,7 +55,7 @@ far_apart = refl
 halts_last : first_outside (assumed 1 40) (script 6 [] (halt 1 2 ∷ halt 0 5 ∷ []) []) ≡ Some (record { frame = 5; kind = kind.Halts })
 halts_last = refl
 
--- A third change of the environment, by a halt in the last frame, counts in the frame after it.
+-- A third change of the environment, by a halt in the last frame, counts in the frame after the last one.
 changes_last : first_outside (assumed 1 40) (script 6 (change 1 1 ∷ change 3 0 ∷ []) (halt 1 5 ∷ []) []) ≡ Some (record { frame = 6; kind = kind.Changes })
 changes_last = refl
 

@@ -1,4 +1,4 @@
--- If too many processors are down, the frame that is returned is one in which a processor halts.
+-- If the first frame that leaves the failure assumption has the kind `Halts`, a processor halts in that frame.
 use Rattle.std.proofs.Common.{◌≡◌, ℕ, zero, suc, ◌+◌, ◌-◌, ◌<◌, ◌≤◌, Bool, true, false, not, refl, arith, ap, sym, subst, ◌∙◌, List, [], ◌∷◌, length}
 use mathlib.Core.Logic.{inl, inr}
 use Rattle.std.specs.Prelude.{◌&&◌, ◌||◌, ◌==◌, Option, Some, None, if◌then◌else◌, nat_lt, slice_get}
@@ -45,7 +45,7 @@ up_stays script p f quiet up = rw (quiet) (up_stays_since script p f (latest_hal
 falls : (script : ScriptParts) (p f : ℕ) → is_up script p f ≡ true → is_up script p (suc f) ≡ false → halts_in script p f ≡ true
 falls script p f up down = by_bool (halts_in script p f) (λ t. t) (λ quiet. true_false (is_up script p (suc f)) (up_stays script p f quiet up) down)
 
--- The frame that `first_outside` returns.
+-- Lemmas on the frame that `first_outside` returns.
 
 -- The way in which a frame leaves the assumption, by its two tests.
 abbrev left_by : Bool → Bool → ℕ → Option Outside
@@ -56,7 +56,7 @@ by_kind true b k f e = (refl, ap (λ (o : Outside). o.frame) (same_some _ _ e))
 by_kind false true k f e = absurd (let clash = ap (λ (o : Outside). o.kind) (same_some _ _ e) in cc)
 by_kind false false k f e = none_some _ e
 
--- In frame `f` the allowed number of processors are down at most, and in the next frame more are down.
+-- In frame `f`, at most the allowed number of processors are down. In frame `f + 1`, more processors are down.
 record Sinks (spec : Parts) (script : ScriptParts) (f : ℕ) : Type 0 where
   before : down_below script f (length spec.procs) ≤ spec.halts
   after : spec.halts < down_below script (suc f) (length spec.procs)

@@ -12,9 +12,9 @@ use Rattle.scram_types.specs.Scripts.{ScriptParts}
 use Rattle.fault_script.specs.Times.{halts_in, is_halt_in, is_over, is_restart_between, is_up, is_up_since, latest_halt, restarted}
 use Rattle.fault_script.specs.Laws.{UpAfterEachHalt}
 
--- Tests.
+-- Lemmas on the restarts of a processor, and on the frames in which the processor is up.
 
--- Lists.
+-- Here `p` is a processor, `h` is the frame of a halt, and `f` is the frame in which `p` may be up.
 
 -- A restart is of processor `p`, after frame `h`, and in frame `f` or an earlier one.
 
@@ -76,7 +76,7 @@ pub up_after_each_halt : UpAfterEachHalt
 unfolding EachOver
 up_after_each_halt script p f = (each_over script p f f, over_up script p f f)
 
--- The same condition, stated for the lists of halts and restarts.
+-- Lemmas on the condition `EachOver`, stated for the lists of halts and restarts.
 
 over_of : (a b r : Bool) → (a ≡ true → b ≡ true → r ≡ true) → not (a && b && not r) ≡ true
 over_of true true true h = refl

@@ -1,4 +1,5 @@
--- Halts and losses show in the next frame's environment.
+-- In a script that fits, a processor that halts in a frame is down in the next frame. A processor that does not
+-- commit a frame is down in that frame or in the next one.
 use Rattle.std.proofs.Common.{◌≡◌, ℕ, zero, suc, ◌+◌, ◌-◌, ◌<◌, ◌≤◌, Bool, true, false, not, refl, arith, ◌⊎◌, ap, sym, ◌∙◌, List, length, get_or}
 use mathlib.Core.Logic.{inl, inr}
 use Rattle.std.specs.Prelude.{◌&&◌, ◌==◌, Some, nat_le, slice_get}

@@ -1,4 +1,5 @@
--- In a script that fits, each halt is one that its processor may have. Without restarts each processor halts once.
+-- In a script that fits, each halt is one that its processor may have. Without restarts, each processor halts at most
+-- once.
 use Rattle.std.proofs.Common.{◌≡◌, ◌≤◌, ◌<◌, ◌+◌, ◌==◌, ℕ, zero, suc, Bool, true, false, ◌&&◌, ◌||◌, cond, List, [], ◌∷◌, ◌++◌, length, map, arith, refl, sym, ◌∙◌, inl, inr}
 use Rattle.std.specs.Prelude.{Some, slice_get}
 use Rattle.std.specs.List.{AllByRecursion, IsDistinct, list_any}

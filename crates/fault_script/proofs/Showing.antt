@@ -1,4 +1,4 @@
--- The environment of a frame of a script that fits.
+-- In a script that fits, the environment of each frame satisfies `Shows`.
 use Rattle.std.proofs.Common.{◌≡◌, ℕ, suc, ◌<◌, Bool, true, false, refl, arith, ap, sym, ◌∙◌, List, [], ◌∷◌, length, subst}
 use Rattle.std.specs.Prelude.{◌&&◌, ◌==◌, Some, if◌then◌else◌, nat_le, slice_get}
 use Rattle.std.proofs.lemmas.Option.{slice_get_within}
@@ -13,8 +13,8 @@ use Rattle.fault_script.specs.Times.{is_up, value_after}
 use Rattle.fault_script.specs.Fits.{IsChange}
 use Rattle.fault_script.specs.Laws.{EnvironmentsShow}
 
--- If the value before a change has a property, and the change sets a value with that property, so does the value
--- after it.
+-- If the value before a change has a property, and the change sets a value with that property, the value after the
+-- change has the property.
 keeps : (P : ℕ → Type 0) (b : Bool) (new old : ℕ) → (b ≡ true → P new) → P old → P (if b then new else old)
 keeps P true new old made had = made refl
 keeps P false new old made had = had

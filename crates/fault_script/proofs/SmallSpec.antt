@@ -58,7 +58,7 @@ small p0 p1 app conf x0 x1 = record {
   window = 40;
 }
 
--- If the items have names, the small specification has the names that it needs.
+-- If the items have names, the small specification satisfies `HasNames`.
 pub small_names : (p0 p1 : Proc) (app : AppSpec) (conf : Conf) (x0 x1 : Factor) → IsTrue (is_name p0.name) → IsTrue (is_name p1.name) → IsTrue (is_name app.name) → IsTrue (is_name conf.name)
     → IsTrue (is_name x0.name) → IsTrue (is_name x1.name) → HasValueNames x0 → HasValueNames x1 → HasNames (small p0 p1 app conf x0 x1)
 small_names p0 p1 app conf x0 x1 named0 named1 named_app named_conf named_x0 named_x1 values0 values1 = record {
@@ -70,7 +70,7 @@ small_names p0 p1 app conf x0 x1 named0 named1 named_app named_conf named_x0 nam
   demands = each_none _;
 }
 
--- If the items keep their invariants, the small specification keeps its invariant.
+-- If the items satisfy their invariants, the small specification satisfies its invariant.
 pub small_kept : (p0 p1 : Proc) (app : AppSpec) (conf : Conf) (x0 x1 : Factor) → p0.name ≡ codes "p0" → p1.name ≡ codes "p1" → IsProc p0 → IsProc p1 → IsAppSpec (app ∷ []) app
     → ((procs : List Proc) (apps : List AppSpec) → IsConf procs apps conf) → x0.name ≡ codes "alternator1" → x1.name ≡ codes "alternator2" → IsFactor x0 → IsFactor x1
     → HasNames (small p0 p1 app conf x0 x1) → IsSpec (small p0 p1 app conf x0 x1)

@@ -21,14 +21,16 @@ pub seam : {A : Type 0} (xs ys : List A) (x : A) → slice_get (xs ++ x ∷ ys) 
 seam [] ys x = refl
 seam (z ∷ zs) ys x = seam zs ys x
 
--- If a relation holds for each item and the next one, it holds for the item before an item and the item.
+-- If a relation holds for each item of a list and the next one, it holds for the last item of `xs` and the item `x`
+-- that comes after `xs`.
 pub next_at : {A : Type 0} (R : A → A → Type 0) (xs ys : List A) (x l : A) → EachNext R (xs ++ x ∷ ys) → last_of xs ≡ Some l → R l x
 next_at R xs ys x l each last =
     let within = slice_get_within xs (length xs - 1) l last in
     let place : length xs ≡ (length xs - 1) + 1 = omega (arith, within) in
     each (length xs - 1) l x (front xs (x ∷ ys) (length xs - 1) l last) (ap (slice_get (xs ++ x ∷ ys)) (sym place) ∙ seam xs ys x)
 
--- If a relation holds for each item and each later one, it holds for each earlier item and the item.
+-- If a relation holds for each item of a list and each later one, it holds for each item of `xs` and the item `x`
+-- that comes after `xs`.
 pub later_at : {A : Type 0} (R : A → A → Type 0) (xs ys : List A) (x y : A) (i : ℕ) → EachLater R (xs ++ x ∷ ys) → slice_get xs i ≡ Some y → R y x
 later_at R xs ys x y i each there =
     each i (length xs) y x (slice_get_within xs i y there) (front xs (x ∷ ys) i y there) (seam xs ys x)

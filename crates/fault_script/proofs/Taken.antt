@@ -1,4 +1,4 @@
--- Facts that follow from a step that returned a value.
+-- Facts that follow if a step of reading returns a value.
 use Rattle.std.proofs.Common.{◌≡◌, ◌≤◌, ◌<◌, ◌+◌, ℕ, zero, suc, Bool, true, false, ◌&&◌, ◌||◌, List, [], ◌∷◌, length, arith, refl, ap, sym, ◌∙◌, nat_lt, inl, inr}
 use Rattle.std.specs.Prelude.{Option, Some, None, Result, Ok, Err, nat_le, option_and_then, bytes_eq, cond, slice_get, ⊤}
 use Rattle.std.proofs.lemmas.Bool.{and_parts, or_cases}

@@ -64,7 +64,7 @@ restarts_short spec script is fits =
     let sum = list_weight exact (restart_data spec) 47 script.restarts (λ i restart there. restart_short spec script.frames restart is.names fits.frames (fits.restarts i restart there)) in
     omega (arith, few, sum)
 
--- The value of a script that fits is small enough in either version.
+-- The value of a script that fits has a weight of at most 1,500,000 in either version.
 light : (restarts : List RestartAt) (spec : Parts) (script : ScriptParts) → IsSpec spec → Fits spec script → weight exact (script_data_by restarts spec script) ≤ 1500000
 light [] spec script is fits =
     let most = fits.frames in

@@ -21,8 +21,8 @@ later_not frame f h = grind (arith, nat_tests)
 later_other : (frame f : ℕ) → nat_le frame f ≡ false → (frame == f) ≡ false
 later_other frame f h = grind (arith, nat_tests)
 
--- A test that only kept items can pass has the same result for all items and for the kept ones. The same holds for a
--- test that only kept items can fail.
+-- If only kept items can pass a test, some item passes the test if and only if some kept item does. If only kept
+-- items can fail a test, all items pass the test if and only if all kept items do.
 
 any_kept_in : {A : Type 0} (test keep : A → Bool) (x : A) (xs : List A) (kept : Bool) → keep x ≡ kept → (keep x ≡ false → test x ≡ false)
     → list_any test (filter keep xs) ≡ list_any test xs → list_any test (if kept then x ∷ filter keep xs else filter keep xs) ≡ (test x || list_any test xs)

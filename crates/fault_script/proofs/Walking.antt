@@ -1,4 +1,4 @@
--- The factors' values after the changes that have come so far.
+-- Lemmas on the factors' values after the changes up to a frame, on walks, and on windows.
 use Rattle.std.proofs.Common.{◌≡◌, ℕ, zero, suc, ◌+◌, ◌-◌, ◌<◌, ◌≤◌, Bool, true, false, not, refl, arith, ap, sym, subst, ◌∙◌, List, [], ◌∷◌, length, get_or}
 use mathlib.Core.Logic.{inl, inr}
 use Rattle.scram_types.proofs.Naturals.{at_or_below, above_test, below_or_at, at_most_test}
@@ -139,7 +139,7 @@ nothing_taken (change ∷ changes) = refl
 pub first_later : (spec : Parts) (script : ScriptParts) → Fits spec script → IsWhole script.changes 0 0
 first_later spec script fits = λ change there. (let least = (fits.changes 0 change there).least in omega arith)
 
--- Walks along the frames.
+-- Lemmas on walks along the frames.
 
 env_whole : (spec : Parts) (script : ScriptParts) (f : ℕ) (env : Env) → env.up ≡ bits_below (λ p. is_up script p f) (length spec.procs) → env.factors ≡ factors_at script f
     → env ≡ env_at spec script f
@@ -169,14 +169,14 @@ walk_moves spec script fits f after at taken values whole up = record {
   env = env_whole spec script (f + 1) after.env up (values ∙ values_are script (f + 1) after.taken fits.changes_ordered taken whole);
 }
 
--- A walk is at the frame that it holds.
+-- A walk at frame `f` is at the frame in its field `frame`.
 pub stands_there : (spec : Parts) (script : ScriptParts) (f : ℕ) (walk : Walk) → IsWalk spec script f walk → IsWalk spec script walk.frame walk
 stands_there spec script f walk is = subst (λ g. IsWalk spec script g walk) (sym is.frame) is
 
 pub stands_next : (spec : Parts) (script : ScriptParts) (f : ℕ) (walk after : Walk) → IsWalk spec script f walk → IsWalk spec script (walk.frame + 1) after → IsWalk spec script (f + 1) after
 stands_next spec script f walk after is there = subst (λ g. IsWalk spec script (g + 1) after) is.frame there
 
--- Windows that count change frames.
+-- Lemmas on windows that count change frames.
 
 pub changes_more : (spec : Parts) (script : ScriptParts) (f : ℕ) (walk after : Walk) (changed : Bool) → IsWalk spec script f walk → IsWalk spec script (f + 1) after
     → changed ≡ not (is_same_env walk.env after.env) → changed ≡ is_change_frame spec script (f + 1)
@@ -262,7 +262,7 @@ window_moves spec script f window after left late is leads trails c l changes =
       changes = rw (← apart) (omega arith);
     }
 
--- A window shows whether its last frame is a change frame too many.
+-- The fields of a window determine whether its last frame is a change frame too many.
 pub window_tells : (spec : Parts) (script : ScriptParts) (f : ℕ) (window : Window) → IsWindow spec script f window
     → (window.changed && nat_lt (spec.changes + 1) window.changes) ≡ is_change_too_many spec script f
 window_tells spec script f window is =

@@ -11,19 +11,19 @@ use Rattle.fault_script.specs.declared.assumption.OutsideKind.TheVariants as kin
 use Rattle.fault_script.specs.Times.{is_up}
 use Rattle.fault_script.specs.Environments.{env_at}
 
--- The number of processors below `n` that are down in frame `f`.
+-- The number of the first `n` processors that are down in frame `f`.
 abbrev pub down_below : ScriptParts → ℕ → ℕ → ℕ
 down_below script f n = count_below (λ p. not (is_up script p f)) n
 
--- More processors are down in frame `f` than the failure assumption allows.
+-- Whether more processors are down in frame `f` than the failure assumption allows.
 abbrev pub has_too_many_down : Parts → ScriptParts → ℕ → Bool
 has_too_many_down spec script f = nat_lt spec.halts (down_below script f (length spec.procs))
 
--- Two environments are equal.
+-- Whether two environments are equal.
 abbrev pub is_same_env : Env → Env → Bool
 is_same_env v w = v.up == w.up && bytes_eq v.factors w.factors
 
--- The environment of frame `f` differs from that of the preceding frame. Frame 0 is no change frame.
+-- Whether the environment of frame `f` differs from that of the preceding frame. The value is `false` for frame 0.
 abbrev pub is_change_frame : Parts → ScriptParts → ℕ → Bool
 is_change_frame spec script zero = false
 is_change_frame spec script (suc f) = not (is_same_env (env_at spec script f) (env_at spec script (suc f)))
@@ -37,23 +37,24 @@ changes_upto spec script (suc f) = changes_upto spec script f + (if is_change_fr
 abbrev pub changes_in_window : Parts → ScriptParts → ℕ → ℕ
 changes_in_window spec script f = changes_upto spec script f - changes_upto spec script (f - spec.window)
 
--- Frame `f` is a change frame, and the window that ends with it has too many change frames.
+-- Whether frame `f` is a change frame and the window that ends with `f` has too many change frames.
 abbrev pub is_change_too_many : Parts → ScriptParts → ℕ → Bool
 is_change_too_many spec script f = is_change_frame spec script f && nat_lt (spec.changes + 1) (changes_in_window spec script f)
 
--- Too many processors are down in the frame after `f`, and `f` is not the script's number of frames. A processor that
--- halts in frame `f` is down in the next frame.
+-- Whether too many processors are down in the frame after `f`. The value is `false` if `f` is the script's number of
+-- frames. A processor that halts in frame `f` is down in the next frame.
 abbrev pub brings_too_many_down : Parts → ScriptParts → ℕ → Bool
 brings_too_many_down spec script f = not (f == script.frames) && has_too_many_down spec script (f + 1)
 
--- The way in which frame `f` leaves the assumption, or `None` if it does not.
+-- The way in which frame `f` leaves the assumption, or `None` if the frame does not leave it. The way is `Halts` if
+-- the frame leaves the assumption in both ways.
 abbrev pub outside_at : Parts → ScriptParts → ℕ → Option Outside
 outside_at spec script f =
     if brings_too_many_down spec script f then Some (record { frame = f; kind = kind.Halts })
     else (if is_change_too_many spec script f then Some (record { frame = f; kind = kind.Changes }) else None)
 
--- The first frame from 0 to the number of frames, inclusive, that leaves the assumption, with the way in which it
--- does, or `None` if there is no such frame.
+-- The first frame from 0 to the number of frames, inclusive, that leaves the assumption, and the way in which it
+-- leaves it. The value is `None` if there is no such frame.
 abbrev pub first_outside : Parts → ScriptParts → Option Outside
 first_outside spec script = first_below (outside_at spec script) (suc script.frames)
 

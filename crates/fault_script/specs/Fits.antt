@@ -9,7 +9,8 @@ use Rattle.scram_types.specs.Scripts.{ScriptParts}
 use Rattle.scram_types.specs.Specification.{Each, Parts}
 use Rattle.fault_script.specs.Times.{words}
 
--- A change is in a frame after the first, to a value that its factor has.
+-- A change is in a frame after frame 0 and before frame `frames`. Its factor exists and has a value with the index
+-- that the change sets.
 pub record IsChange (spec : Parts) (frames : ℕ) (change : Change) : Type 0 where
   pub least : 1 ≤ change.frame
   pub most : change.frame < frames
@@ -24,13 +25,13 @@ pub record IsHalt (spec : Parts) (frames : ℕ) (halt : HaltAt) : Type 0 where
   pub frame : halt.frame < frames
   pub step : halt.step ≤ words spec + 1
 
--- A restart is of a processor that exists, in a frame of the script from the third one on.
+-- A restart is of a processor that exists, in frame 2 or a later frame of the script.
 pub record IsRestart (spec : Parts) (frames : ℕ) (restart : RestartAt) : Type 0 where
   pub proc : restart.proc.0 < length spec.procs
   pub least : 2 ≤ restart.frame
   pub most : restart.frame < frames
 
--- A pair of a frame and a number comes before another, by frame and then by number.
+-- A pair of a frame and a number comes before another pair, in the order by frame and then by number.
 abbrev pub Before : ℕ → ℕ → ℕ → ℕ → Type 0
 Before frame number next_frame next_number = (frame < next_frame) ⊎ ((frame ≡ next_frame) × (number < next_number))
 
@@ -77,8 +78,8 @@ AtMostTwice halts = (i j k : ℕ) (x y z : HaltAt) → i < j → j < k
     → x.proc.0 ≡ y.proc.0 → x.proc.0 ≡ z.proc.0 → ⊥
 
 -- A script fits a specification. The names in it exist, its numbers and lengths are in range, and its lists are in
--- order. A processor restarts at most once, two frames or more after a halt of it. A processor halts at most twice, and
--- the second time not before its restart.
+-- order. A processor restarts at most once, two frames or more after one of its halts. A processor halts at most
+-- twice. Its second halt does not come before its restart.
 pub record Fits (spec : Parts) (script : ScriptParts) : Type 0 where
   pub frames : script.frames ≤ MAX_FRAMES
   pub changes_count : length script.changes ≤ MAX_CHANGES

@@ -6,8 +6,9 @@ use Rattle.scram_types.specs.Specification.{Parts}
 use Rattle.fault_script.specs.declared.inputs.Input.{Input}
 use Rattle.fault_script.specs.Times.{factors_at, halts_after_mark, halts_before_mark, restarts_in}
 
--- The input of frame `f`: the values of the factors, and the sets of processors that halt in the frame before the
--- mark, that halt in it after the mark, and that restart in it.
+-- The input of frame `f`: the values of the factors, and three sets of processors, as bits. The sets are the
+-- processors that halt in the frame before their mark, those that halt in the frame after their mark, and those that
+-- restart in the frame.
 abbrev pub input_at : Parts → ScriptParts → ℕ → Input
 input_at spec script f = record {
   factors = factors_at script f;

@@ -13,17 +13,19 @@ use Rattle.fault_script.specs.Times.{commits, factor_at, halts_in, is_up, restar
 use Rattle.fault_script.specs.Environments.{env_at}
 use Rattle.fault_script.specs.Fits.{Fits}
 
--- A processor that halts in frame `h` is down in the environment of frame `h + 1`.
+-- In a script that fits, a processor that halts in frame `h` is down in the environment of frame `h + 1`.
 abbrev pub HaltsShow : Type 0
 HaltsShow = (spec : Parts) (script : ScriptParts) → Fits spec script → (p h : ℕ) → halts_in script p h ≡ true
     → (is_up script p (suc h) ≡ false) × (bit_at (env_at spec script (suc h)).up p ≡ 0)
 
--- A processor that does not commit a frame is down in that frame's environment or in the next one's.
+-- In a script that fits, a processor that does not commit a frame is down in the environment of that frame or of the
+-- next one.
 abbrev pub LossesShow : Type 0
 LossesShow = (spec : Parts) (script : ScriptParts) → Fits spec script → (p f : ℕ) → commits spec script p f ≡ false
     → (is_up script p f ≡ false) ⊎ (is_up script p (suc f) ≡ false)
 
--- A processor is up in frame `f` if and only if it has restarted since each of its halts in a frame below `f`.
+-- A processor is up in frame `f` if and only if it has restarted, up to frame `f`, after each of its halts in an
+-- earlier frame.
 abbrev pub UpAfterEachHalt : Type 0
 UpAfterEachHalt = (script : ScriptParts) (p f : ℕ) →
     (is_up script p f ≡ true → (h : ℕ) → h < f → halts_in script p h ≡ true → restarted script p h f ≡ true)
@@ -38,7 +40,7 @@ pub record Shows (spec : Parts) (script : ScriptParts) (f : ℕ) : Type 0 where
   pub values : (x : ℕ) (factor : Factor) → slice_get spec.factors x ≡ Some factor → factor_at script x f < length factor.values
   pub rest : (x : ℕ) → length spec.factors ≤ x → factor_at script x f ≡ 0
 
--- The environment of each frame shows the processors that are up and the values of the factors.
+-- In a script that fits, the environment of each frame satisfies `Shows`.
 abbrev pub EnvironmentsShow : Type 0
 EnvironmentsShow = (spec : Parts) (script : ScriptParts) → IsSpec spec → Fits spec script → (f : ℕ) → Shows spec script f
 
@@ -54,8 +56,8 @@ abbrev pub LaterIsUnseen : Type 0
 LaterIsUnseen = (spec : Parts) (one other : ScriptParts) (f : ℕ) → AgreeUpTo f one other
     → (env_at spec one f ≡ env_at spec other f) × ((p : ℕ) → commits spec one p f ≡ commits spec other p f)
 
--- If the first frame that leaves the failure assumption has too many processors down after it, a processor halts in
--- that frame. Without restarts it is the frame of halt number `halts + 1` in the script's order.
+-- If the first frame that leaves the failure assumption has the kind `Halts`, a processor halts in that frame.
+-- Without restarts, the frame is that of halt number `halts + 1` in the script's order.
 abbrev pub TooManyDownShowsAHalt : Type 0
 TooManyDownShowsAHalt = (spec : Parts) (script : ScriptParts) → Fits spec script
     → (f : ℕ) → first_outside spec script ≡ Some (record { frame = f; kind = kind.Halts })

@@ -8,7 +8,7 @@ use Rattle.fault_script.specs.declared.version.Version.{Version}
 use Rattle.fault_script.specs.declared.version.Version.TheVariants.{First, Second}
 use Rattle.fault_script.specs.Times.{is_halt_of, is_restart_of}
 
--- A frame and a number come after the last frame and number, ordered by frame and then by number.
+-- Whether a frame and a number come after the last frame and number, in the order by frame and then by number.
 abbrev pub comes_after : ℕ → ℕ → ℕ → ℕ → Bool
 comes_after last_frame last_number frame number = nat_lt last_frame frame || (last_frame == frame && nat_lt last_number number)
 
@@ -16,36 +16,37 @@ comes_after last_frame last_number frame number = nat_lt last_frame frame || (la
 abbrev pub last_of : {A : Type 0} → List A → Option A
 last_of xs = slice_get xs (length xs - 1)
 
--- A change comes after the last change, if there is one.
+-- Whether a change comes after an optional last change. The value is `true` for `None`.
 abbrev pub change_after : Option Change → Change → Bool
 change_after None change = true
 change_after (Some last) change = comes_after last.frame last.factor.0 change.frame change.factor.0
 
--- A change comes after the preceding ones.
+-- Whether a change comes after the preceding ones.
 abbrev pub change_follows : List Change → Change → Bool
 change_follows before change = change_after (last_of before) change
 
--- A halt comes after the last halt, if there is one.
+-- Whether a halt comes after an optional last halt. The value is `true` for `None`.
 abbrev pub halt_after : Option HaltAt → HaltAt → Bool
 halt_after None halt = true
 halt_after (Some last) halt = comes_after last.frame last.proc.0 halt.frame halt.proc.0
 
--- A halt comes after the preceding ones. In the first version, its processor has not halted before.
+-- Whether a halt comes after the preceding ones. In the first version, its processor must also not have halted
+-- before.
 abbrev pub halt_follows : Version → List HaltAt → HaltAt → Bool
 halt_follows First before halt = halt_after (last_of before) halt && not (list_any (is_halt_of halt.proc.0) before)
 halt_follows Second before halt = halt_after (last_of before) halt
 
--- A restart comes after the last restart, if there is one.
+-- Whether a restart comes after an optional last restart. The value is `true` for `None`.
 abbrev pub restart_after : Option RestartAt → RestartAt → Bool
 restart_after None restart = true
 restart_after (Some last) restart = comes_after last.frame last.proc.0 restart.frame restart.proc.0
 
--- A halt is of processor `p` and two frames or more before frame `f`.
+-- Whether a halt is of processor `p` and two frames or more before frame `f`.
 abbrev pub is_halt_before : ℕ → ℕ → HaltAt → Bool
 is_halt_before p f halt = halt.proc.0 == p && nat_le (halt.frame + 2) f
 
--- A restart comes after the preceding ones, is the first of its processor, and is two frames or more after a halt of
--- it.
+-- Whether a restart comes after the preceding ones, is the first of its processor, and is two frames or more after a
+-- halt of its processor.
 abbrev pub restart_follows : List HaltAt → List RestartAt → RestartAt → Bool
 restart_follows halts before restart =
     restart_after (last_of before) restart
@@ -57,12 +58,12 @@ abbrev pub halts_of : ℕ → List HaltAt → ℕ
 halts_of p [] = 0
 halts_of p (halt ∷ halts) = (if halt.proc.0 == p then 1 else 0) + halts_of p halts
 
--- A restart is of processor `p` and in frame `f` or an earlier one.
+-- Whether a restart is of processor `p` and in frame `f` or an earlier one.
 abbrev pub is_restart_by : ℕ → ℕ → RestartAt → Bool
 is_restart_by p f restart = restart.proc.0 == p && nat_le restart.frame f
 
--- A processor may have a halt after the halts `before`: it has none among them, or it has one and has restarted by
--- then.
+-- Whether a processor may have a halt after the halts `before`. It may if it has no halt in `before`. It also may if
+-- it has one there and restarts in the frame of the new halt or an earlier one.
 abbrev pub may_halt : List RestartAt → List HaltAt → HaltAt → Bool
 may_halt restarts before halt =
     halts_of halt.proc.0 before == 0

@@ -1,4 +1,4 @@
--- The script that a document encodes, or the first rule that it breaks.
+-- The script that a document encodes, or the first rule that the document breaks.
 use Rattle.std.specs.Prelude.{ℕ, suc, ◌+◌, ◌==◌, ◌||◌, Bool, List, [], ◌∷◌, ◌++◌, length, codes, Option, Some, None, option_and_then, slice_get, Result, Ok, nat_le, if◌then◌else◌, ⊤}
 use Rattle.serde_json.specs.Data.{Data}
 use Rattle.scram_doc.specs.declared.fault.DocFault.{DocFault}
@@ -169,8 +169,8 @@ abbrev pub make_members : Data → Data → Data → Data → Option Data → Sc
 make_members scram frames changes halts restarts =
     record { scram = scram; frames = frames; changes = changes; halts = halts; restarts = restarts }
 
--- The value of the member `restarts` in the second version, which must have it, or `None` in the first version, which
--- must not have it.
+-- The value of the member `restarts` in the second version, or the broken rule if the member is missing. In the first
+-- version the value is `None`.
 abbrev pub need_restarts : Version → Data → Result (Option Data) DocFault
 need_restarts First d = Ok None
 need_restarts Second d = ok_map (λ (restarts : Data). Some restarts) (required_at (codes "restarts") [] d)

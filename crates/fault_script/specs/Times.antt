@@ -1,4 +1,4 @@
--- The factors' values in a frame, and the processors that are up in it and commit it.
+-- The factors' values in a frame, the processors that are up in the frame, and the processors that commit it.
 use Rattle.std.specs.Prelude.{ℕ, zero, suc, ◌*◌, Bool, true, not, ◌&&◌, ◌==◌, nat_lt, nat_le, List, [], ◌∷◌, length, find, Option, Some, None, option_map, if◌then◌else◌}
 use Rattle.std.specs.List.{list_any}
 use Rattle.scram_types.specs.declared.scripts.Change.{Change}
@@ -23,19 +23,19 @@ abbrev pub factors_at : ScriptParts → ℕ → List ℕ
 factors_at script f = factor_at script 0 f ∷ factor_at script 1 f ∷ factor_at script 2 f ∷ factor_at script 3 f ∷ factor_at script 4 f
     ∷ factor_at script 5 f ∷ []
 
--- A halt is of processor `p`.
+-- Whether a halt is of processor `p`.
 abbrev pub is_halt_of : ℕ → HaltAt → Bool
 is_halt_of p halt = halt.proc.0 == p
 
--- A halt is of processor `p` and in frame `f`.
+-- Whether a halt is of processor `p` and in frame `f`.
 abbrev pub is_halt_in : ℕ → ℕ → HaltAt → Bool
 is_halt_in p f halt = halt.proc.0 == p && halt.frame == f
 
--- A restart is of processor `p`.
+-- Whether a restart is of processor `p`.
 abbrev pub is_restart_of : ℕ → RestartAt → Bool
 is_restart_of p restart = restart.proc.0 == p
 
--- A restart is of processor `p`, after frame `h`, and in frame `f` or an earlier one.
+-- Whether a restart is of processor `p`, after frame `h`, and in frame `f` or an earlier one.
 abbrev pub is_restart_between : ℕ → ℕ → ℕ → RestartAt → Bool
 is_restart_between p h f restart = restart.proc.0 == p && nat_lt h restart.frame && nat_le restart.frame f
 
@@ -51,7 +51,7 @@ halt_in script p f = find (is_halt_in p f) script.halts
 abbrev pub restart_of : ScriptParts → ℕ → Option ℕ
 restart_of script p = option_map (λ (restart : RestartAt). restart.frame) (find (is_restart_of p) script.restarts)
 
--- Processor `p` halts in frame `f`.
+-- Whether processor `p` halts in frame `f`.
 abbrev pub halts_in : ScriptParts → ℕ → ℕ → Bool
 halts_in script p f = list_any (is_halt_in p f) script.halts
 
@@ -60,25 +60,26 @@ abbrev pub latest_halt : ScriptParts → ℕ → ℕ → Option ℕ
 latest_halt script p zero = None
 latest_halt script p (suc f) = if halts_in script p f then Some f else latest_halt script p f
 
--- Processor `p` restarts after frame `h`, and in frame `f` or an earlier one.
+-- Whether processor `p` restarts after frame `h`, and in frame `f` or an earlier one.
 abbrev pub restarted : ScriptParts → ℕ → ℕ → ℕ → Bool
 restarted script p h f = list_any (is_restart_between p h f) script.restarts
 
--- Processor `p` restarts in frame `f`.
+-- Whether processor `p` restarts in frame `f`.
 abbrev pub restarts_in : ScriptParts → ℕ → ℕ → Bool
 restarts_in script p f = list_any (λ (restart : RestartAt). restart.proc.0 == p && restart.frame == f) script.restarts
 
--- Processor `p` is up in frame `f`, given its latest halt in a frame below `f`.
+-- Whether processor `p` is up in frame `f`, given its latest halt in a frame below `f`.
 abbrev pub is_up_since : ScriptParts → ℕ → ℕ → Option ℕ → Bool
 is_up_since script p f None = true
 is_up_since script p f (Some h) = restarted script p h f
 
--- Processor `p` is up in frame `f`: it has no halt in a frame below `f`, or has restarted since the latest such halt.
+-- Whether processor `p` is up in frame `f`: it has no halt in a frame below `f`, or has restarted since the latest
+-- such halt, up to frame `f`.
 abbrev pub is_up : ScriptParts → ℕ → ℕ → Bool
 is_up script p f = is_up_since script p f (latest_halt script p f)
 
--- A halt does not keep processor `p` down in frame `f`: it is not of `p`, or not in a frame below `f`, or `p` has
--- restarted since.
+-- Whether a halt does not keep processor `p` down in frame `f`: the halt is not of `p`, or not in a frame below `f`,
+-- or `p` has restarted since, up to frame `f`.
 abbrev pub is_over : ScriptParts → ℕ → ℕ → HaltAt → Bool
 is_over script p f halt = not (halt.proc.0 == p && nat_lt halt.frame f && not (restarted script p halt.frame f))
 
@@ -86,14 +87,14 @@ is_over script p f halt = not (halt.proc.0 == p && nat_lt halt.frame f && not (r
 abbrev pub words : Parts → ℕ
 words spec = 8 * length spec.apps
 
--- Processor `p` halts in frame `f` before its mark.
+-- Whether processor `p` halts in frame `f` before its mark.
 abbrev pub halts_before_mark : Parts → ScriptParts → ℕ → ℕ → Bool
 halts_before_mark spec script p f = list_any (λ (halt : HaltAt). is_halt_in p f halt && nat_le halt.step (words spec)) script.halts
 
--- Processor `p` halts in frame `f` after its mark.
+-- Whether processor `p` halts in frame `f` after its mark.
 abbrev pub halts_after_mark : Parts → ScriptParts → ℕ → ℕ → Bool
 halts_after_mark spec script p f = halts_in script p f && not (halts_before_mark spec script p f)
 
--- Processor `p` commits frame `f`: it is up in `f`, and does not halt in `f` before its mark.
+-- Whether processor `p` commits frame `f`: it is up in `f`, and does not halt in `f` before its mark.
 abbrev pub commits : Parts → ScriptParts → ℕ → ℕ → Bool
 commits spec script p f = is_up script p f && not (halts_before_mark spec script p f)

@@ -1,4 +1,4 @@
--- Walks along the frames of a script. A walk has the factors' values after the changes up to its frame.
+-- Walks along the frames of a script. A walk contains the factors' values after the changes up to its frame.
 use Rattle.std.specs.Prelude.{◌≡◌, ℕ, zero, suc, ◌+◌, ◌-◌, ◌<◌, ◌≤◌, ◌==◌, List, [], ◌∷◌, slice_get, slice_index, Some, if◌then◌else◌}
 use Rattle.scram_types.specs.declared.scripts.Change.{Change}
 use Rattle.scram_types.specs.Scripts.{ScriptParts}
@@ -38,7 +38,7 @@ HaveCome changes f n = (k : ℕ) (change : Change) → k < n → slice_get chang
 abbrev pub IsWhole : List Change → ℕ → ℕ → Type 0
 IsWhole changes f n = (change : Change) → slice_get changes n ≡ Some change → f < change.frame
 
--- A walk is at frame `f`. It has the environment of that frame, and the number of changes that it has taken.
+-- A walk is at frame `f`. It contains the environment of that frame, and the number of changes that it has taken.
 pub record IsWalk (spec : Parts) (script : ScriptParts) (f : ℕ) (walk : Walk) : Type 0 where
   pub frame : walk.frame ≡ f
   pub taken : HaveCome script.changes f walk.taken
@@ -46,7 +46,8 @@ pub record IsWalk (spec : Parts) (script : ScriptParts) (f : ℕ) (walk : Walk) 
   pub env : walk.env ≡ env_at spec script f
 
 -- A window ends with frame `f`. Its walk `lead` is at `f`, and its walk `trail` is at the frame before the window, or
--- at frame 0. It has the number of change frames since `trail`, and whether `f` is a change frame.
+-- at frame 0. `changes` is the number of change frames after the frame of `trail` and up to `f`. `changed` is `true`
+-- if `f` is a change frame.
 pub record IsWindow (spec : Parts) (script : ScriptParts) (f : ℕ) (window : Window) : Type 0 where
   pub lead : IsWalk spec script f window.lead
   pub trail : IsWalk spec script (f - spec.window) window.trail

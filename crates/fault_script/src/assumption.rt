@@ -25,15 +25,16 @@ pub struct Outside {
     pub kind: OutsideKind,
 }
 
-/// Checks that a script that fits the specification keeps to its failure assumption. In every frame, and in the frame
-/// after the last one, at most `halts` processors are down. Any `window` consecutive frames have at most `changes + 1`
-/// frames whose environment differs from that of the preceding frame. A window may begin before the first frame.
+/// Checks that a script that fits the specification keeps to the specification's failure assumption. In every frame,
+/// and in the frame after the last one, at most `halts` processors are down. Any `window` consecutive frames have at
+/// most `changes + 1` frames whose environment differs from that of the preceding frame. A window may begin before
+/// the first frame.
 ///
 /// # Errors
 ///
-/// Returns an error with the first frame that leaves the assumption. A processor halts in that frame, which brings
-/// too many processors down, or else the frame changes the environment once too often for the window that ends with
-/// it.
+/// Returns an error with the first frame that leaves the assumption. Either a processor that halts in that frame
+/// brings too many processors down, or the environment changes in that frame once too often for the window that ends
+/// with the frame.
 pub fn within(spec: &Spec, script: &Script) -> Result<(), Outside>
     requires { Fits spec.now script.now }
     ensures within { OnOk result (first_outside spec.now script.now ≡ None) }
@@ -89,7 +90,7 @@ fn has_too_many_down(spec: &Spec, script: &Script, frame: u32) -> bool
     spec.halts < count_down(script, spec.procs.items().len() as u8, frame)
 }
 
-// Returns the number of processors below `processors` that are down in a frame.
+// Returns the number of the first `processors` processors that are down in a frame.
 fn count_down(script: &Script, processors: u8, frame: u32) -> u8
     ensures value { result ≡ down_below script.now frame processors }
     ensures most { result ≤ processors }

@@ -2,25 +2,25 @@
 
 ghost use Rattle.fault_script.specs.Laws.{EnvironmentsShow, HaltsShow, LaterIsUnseen, LossesShow, TooManyDownShowsAHalt, UpAfterEachHalt};
 
-/// States that a processor that halts in a frame is down in the environment of the next frame, if the script fits.
+/// States that in a script that fits, a processor that halts in a frame is down in the environment of the next frame.
 pub fn halts_show()
     ensures { HaltsShow }
 {}
 
-/// States that a processor that does not commit a frame is down in that frame's environment or in the next one's, if
-/// the script fits.
+/// States that in a script that fits, a processor that does not commit a frame is down in the environment of that
+/// frame or of the next one.
 pub fn losses_show()
     ensures { LossesShow }
 {}
 
-/// States that a processor is up in a frame if and only if it has restarted since each of its halts in earlier
-/// frames.
+/// States that a processor is up in a frame if and only if it has restarted, up to that frame, after each of its
+/// halts in earlier frames.
 pub fn up_after_each_halt()
     ensures { UpAfterEachHalt }
 {}
 
-/// States that the bits of an environment show which processors are up, and that each factor has one of its values.
-/// The entries past the last processor and the last factor are zero.
+/// States that in a script that fits, a bit of an environment is set if and only if its processor exists and is up.
+/// Each factor has one of its values, and the entries past the last factor are zero.
 pub fn environments_show()
     ensures { EnvironmentsShow }
 {}
@@ -31,8 +31,8 @@ pub fn later_is_unseen()
     ensures { LaterIsUnseen }
 {}
 
-/// States that a processor halts in the frame that [`within`](crate::within) returns if it returns that too many
-/// processors are down. Without restarts it is the frame of halt number `halts + 1`, in the script's order.
+/// States that if [`within`](crate::within) returns a frame after which too many processors are down, a processor
+/// halts in that frame. Without restarts, the frame is that of halt number `halts + 1` in the script's order.
 pub fn too_many_down_shows_a_halt()
     ensures { TooManyDownShowsAHalt }
 {}

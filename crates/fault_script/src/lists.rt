@@ -16,7 +16,7 @@ use scram_types::{Change, FactorId, HaltAt, List, ProcId, RestartAt, Spec};
 use serde_json::Value;
 use std::alloc::Global;
 
-// Returns the fault of a rule at a path if the test fails.
+// Returns an error with the fault of a rule at a path if the test fails.
 pub(crate) fn check(test: bool, rule: u8, at: &Path) -> Result<(), ScriptFault>
     ensures { result ≡ check test rule at.now }
 {
@@ -219,7 +219,8 @@ fn read_restart(spec: &Spec, frames: u32, v: &Value, at: &Path) -> Result<Restar
     Ok(RestartAt { proc, frame })
 }
 
-/// A reader of the restarts of a script with `frames` frames. Each restart must come after the preceding ones.
+/// A reader of the restarts of a script with `frames` frames. Each restart must follow the preceding ones and the
+/// halts as `restart_follows` requires.
 #[derive(Clone, Copy)]
 pub(crate) struct Restarts<'a> {
     pub(crate) spec: &'a Spec,

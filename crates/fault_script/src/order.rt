@@ -69,8 +69,8 @@ fn has_halted_before(halts: &[HaltAt], proc: ProcId, frame: u32) -> bool
     halts.iter().any(|halt| halt.proc.0 == proc.0 && u64::from(halt.frame) + 2 <= u64::from(frame))
 }
 
-/// Returns `true` if a restart comes after the preceding ones, by frame and then by the processor's number. It must
-/// be the first restart of its processor, and two frames or more after a halt of the processor.
+/// Returns `true` if a restart comes after the preceding ones, by frame and then by the processor's number. The
+/// restart must be the first of its processor, and two frames or more after a halt of the processor.
 pub fn restart_follows(halts: &[HaltAt], before: &[RestartAt], restart: &RestartAt) -> bool
     ensures { result ≡ restart_follows halts.now before.now restart.now }
 {
@@ -97,7 +97,8 @@ fn count_halts(halts: &[HaltAt], proc: ProcId) -> usize
     count
 }
 
-/// Returns `true` if a halt is the first of its processor, or the second and not before the processor's restart.
+/// Returns `true` if a halt is the first of its processor, or if it is the second and the processor restarts in the
+/// frame of the halt or an earlier one.
 pub fn may_halt(restarts: &[RestartAt], before: &[HaltAt], halt: &HaltAt) -> bool
     ensures { result ≡ may_halt restarts.now before.now halt.now }
 {

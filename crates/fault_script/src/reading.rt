@@ -140,8 +140,8 @@ fn read_document(alloc: Global, spec: &Spec, v: &Value) -> Result<Script, Script
 ///
 /// # Errors
 ///
-/// Returns an error with the first rule that the document breaks and the path at which it breaks it, and `NoMemory` if
-/// memory runs out.
+/// Returns an error with the first rule that the document breaks and the path of the value that breaks the rule, and
+/// `NoMemory` if memory runs out.
 pub fn read_script(alloc: Global, bytes: &[u8], spec: &Spec) -> Result<Script, ScriptError>
     ensures script { Answers (script_of spec.now bytes.now) (λ script. script) result }
     ensures fits { IfOk result (λ script. Fits spec.now script) }

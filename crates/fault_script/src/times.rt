@@ -77,7 +77,8 @@ pub fn up_at(script: &Script, proc: ProcId, frame: u32) -> bool
     are_halts_over(script, proc, frame)
 }
 
-// Returns `true` if a processor has restarted since each of its halts in a frame before this one.
+// Returns `true` if a processor has restarted, up to and including a frame, after each of its halts in earlier
+// frames.
 fn are_halts_over(script: &Script, proc: ProcId, frame: u32) -> bool
     ensures { result ≡ list_all (is_over script.now proc.0 frame) script.now.halts }
 {

@@ -11,8 +11,8 @@ use crate::inputs::{Input, input_at};
 use crate::times::up_at;
 use scram_types::{Change, Env, ProcId, Script, Spec};
 
-/// A walk along the frames of a script, which visits each change once. It has its current frame and the environment
-/// of that frame.
+/// A walk along the frames of a script, which visits each change once. It contains its current frame and the
+/// environment of that frame.
 #[derive(Clone, Copy, Debug)]
 pub struct Walk {
     pub frame: u32,
@@ -77,8 +77,9 @@ impl Walk {
     }
 }
 
-// A window that ends with a frame. It has the number of frames in it that change the environment, and whether its
-// last frame does. The walk `lead` is at its last frame, and the walk `trail` at the frame before the window.
+// A window that ends with a frame. `changes` is the number of frames of the window that change the environment, and
+// `changed` is `true` if the last frame of the window does. The walk `lead` is at the last frame of the window. The
+// walk `trail` is at the frame before the window, or at frame 0.
 #[derive(Clone, Copy)]
 pub(crate) struct Window {
     lead: Walk,
@@ -128,8 +129,8 @@ pub(crate) fn next_window(spec: &Spec, script: &Script, window: &Window, frame: 
     }
 }
 
-// Returns the number of changes up to a frame, and the factors' values after them, given the same for an earlier
-// frame.
+// Returns the number of changes up to a frame, and the factors' values after these changes. `before` and
+// `values_before` are the number and the values for an earlier frame.
 fn take_changes(
     changes: &[Change],
     before: usize,

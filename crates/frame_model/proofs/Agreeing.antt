@@ -1,4 +1,4 @@
--- The effect of a frame depends only on processors that exist.
+-- The effect of a frame depends only on whether the processors that exist commit.
 use Rattle.std.proofs.Common.{◌≡◌, ◌∙◌, ℕ, ◌<◌, refl, ap, length, Bool, List}
 use Rattle.std.specs.Prelude.{ℤ, Option, Some, None, IfSome, option_and_then, slice_get}
 use Rattle.scram_types.specs.declared.ids.ConfId.{ConfId}
@@ -22,7 +22,7 @@ use Rattle.frame_model.specs.Phases.{phase_at}
 use Rattle.frame_model.specs.States.{State, has_arrived, act_after, act_on, acts_in, area_after, area_at, area_on, areas_in, keeper_after, keeper_at, keeper_on, keepers_in, law_of, row_of, step, step_with, world_in, mode_decided}
 use Rattle.frame_model.specs.Tasks.{halting_order, initialising_order, preparing_order, task_for, task_in}
 
--- If a processor is given, it exists.
+-- The optional processor is `None` or exists in the specification.
 unfoldable pub Exists : Parts → Option ProcId → Type 0
 Exists spec proc = IfSome proc (λ p. p.0 < length spec.procs)
 

@@ -19,7 +19,8 @@ use Rattle.frame_model.proofs.ReadLaws.{ended_append, reading_append}
 abbrev below : ℕ → List Report → List (ConfId × ℕ)
 below m reports = map beginning (filter (begins_below m) reports)
 
--- If two reports have the same source and first frame, listing one or the other gives the same beginnings.
+-- If two reports have the same source and the same first frame, a list of the one and a list of the other have the
+-- same beginnings.
 open_same : (b : Bool) (x y : Report) → beginning x ≡ beginning y → map beginning (if b then x ∷ [] else []) ≡ map beginning (if b then y ∷ [] else [])
 open_same true x y same = ap (λ z. z ∷ []) same
 open_same false x y same = refl
@@ -107,7 +108,7 @@ opened_start c = tt
 below_append : (m : ℕ) (xs ys : List Report) → below m (xs ++ ys) ≡ below m xs ++ below m ys
 below_append m xs ys = ap (map beginning) (filter-append (begins_below m) xs ys) ∙ map-append beginning (filter (begins_below m) xs) (filter (begins_below m) ys)
 
--- All reports that the first rows of a flight show began in these rows.
+-- All reconfigurations that are read off the first rows of a flight began in these rows.
 front_same : (spec : Parts) (front : List Row) (r : Reading) → r ≡ reading_after spec (Steady spec.start) 0 front
     → below (length front) (ended_in spec (Steady spec.start) 0 front ++ as_list (close r (length front))) ≡ map beginning (ended_in spec (Steady spec.start) 0 front ++ as_list (close r (length front)))
 front_same spec front r is =

@@ -1,5 +1,5 @@
--- Lemmas that the acts, areas and keepers made in a frame, and the row and the system made of them, are those that the
--- definitions give.
+-- The acts, areas and keepers that a frame computes equal those of the definitions, and so do the row and the system
+-- after the frame.
 use Rattle.std.proofs.Common.{◌≡◌, ◌∙◌, ℕ, suc, ◌+◌, refl, ap, arith, List}
 use Rattle.std.specs.Prelude.{ℤ, Bool, Option}
 use Rattle.scram_types.specs.declared.ids.ProcId.{ProcId}

@@ -1,4 +1,4 @@
--- The first application of a kind, in the order of numbers.
+-- Lemmas on the search for the lowest-numbered application of a kind.
 use Rattle.std.proofs.Common.{◌≡◌, ◌∙◌, ℕ, zero, suc, ◌+◌, ◌<◌, refl, arith, drop, List, [], ◌∷◌, length, true, false}
 use Rattle.std.specs.Prelude.{ℤ, ◌==◌, slice_get, slice_index_or, if◌then◌else◌}
 use Rattle.std.proofs.lemmas.Bool.Decides.{nat_tests}

@@ -43,7 +43,8 @@ by_halt : (script : ScriptParts) → script.restarts ≡ [] → (p f g : ℕ) (b
 by_halt script none p f g true before = down_for_good script none p g f
 by_halt script none p f g false before = before
 
--- In a script without restarts, a processor is up after its halts before frame `f` exactly if there are no such halts.
+-- In a script without restarts, a processor is up since its latest halt before frame `f` if and only if there is no
+-- such halt.
 up_since_latest : (script : ScriptParts) → script.restarts ≡ [] → (p f g : ℕ) → is_up_since script p g (latest_halt script p f) ≡ not (has_halted script p f)
 up_since_latest script none p zero g = ap not (sym (none_yet script.halts p))
 up_since_latest script none p (suc f) g = rw (halted_more script p f) (by_halt script none p f g (halts_in script p f) (up_since_latest script none p f g))

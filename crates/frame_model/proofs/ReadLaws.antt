@@ -94,8 +94,8 @@ moving_reading spec c s f (row ∷ rows) all =
 left_row : (spec : Parts) (c : ConfId) (g : ℕ) (left : Row) → runs spec left.acts c ≡ false → read_row spec (Steady c) g left.acts ≡ Leaving c g
 left_row spec c g left out = rw out refl
 
--- If each row before a row runs `c` and this row does not, the reading after it is `Leaving`, with `c` and the frame
--- of this row.
+-- If each row before a row runs `c` and the row itself does not, the reading after the row is `Leaving`, with `c` and
+-- the frame of the row.
 leaves_ended : (spec : Parts) (c : ConfId) (f : ℕ) (before : List Row) (left : Row) (on : List Row) → All (Runs spec c) before → runs spec left.acts c ≡ false
     → ended_in spec (Steady c) f (before ++ (left ∷ on)) ≡ ended_in spec (Leaving c (f + length before)) (suc (f + length before)) on
 leaves_ended spec c f before left on all out =

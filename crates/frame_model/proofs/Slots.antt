@@ -1,4 +1,4 @@
--- Each slot of an image has eight words and is found in the image.
+-- Each slot of an image has eight words and equals the slot that `slot_in` reads from the image.
 use Rattle.std.proofs.Common.{◌≡◌, ◌∙◌, ℕ, zero, suc, ◌+◌, ◌*◌, ◌<◌, refl, ap, sym, arith, length, Bool, List, [], ◌∷◌, ◌++◌, ◌⊎◌}
 use mathlib.Core.Logic.{inl, inr}
 use Rattle.std.specs.Prelude.{ℤ, pos, Option, Some, None, slice_index_or}

@@ -1,4 +1,4 @@
--- Reading a list of tasks at an index within the list gives the same task for any default.
+-- Reading a list of tasks at an index within the list returns the same task for any default.
 use Rattle.std.proofs.Common.{◌≡◌, ◌∙◌, ◌<◌, ℕ, List, ap, length}
 use Rattle.std.specs.Prelude.{None, slice_index_or}
 use Rattle.std.proofs.lemmas.List.{get_or_default}

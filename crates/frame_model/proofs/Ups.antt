@@ -17,7 +17,8 @@ use Rattle.fault_script.specs.Times.{commits, halts_before_mark, halts_in, is_ha
 use Rattle.fault_script.specs.Inputs.{input_at}
 use Rattle.frame_model.specs.Standing.{is_up_before, up_before}
 
--- A restart after a halt is at or before frame `f` + 1 exactly if it is at or before frame `f`, or in frame `f` + 1.
+-- A restart after a halt is at or before frame `f + 1` if and only if it is at or before frame `f`, or in frame `f +
+-- 1`.
 one_more : (b : Bool) (h f r : ℕ) → h ≤ f → ((b && nat_lt h r) && nat_le r (suc f)) ≡ (((b && nat_lt h r) && nat_le r f) || (b && (r == suc f)))
 one_more true h f r below = grind (arith, nat_tests)
 one_more false h f r below = refl
@@ -53,7 +54,7 @@ up_step : (script : ScriptParts) (p f : ℕ) (b : Bool) → IfSome (latest_halt 
 up_step script p f true below = restarted_more script p f f (omega arith) ∙ rw (not_restarted script p f, and-false (is_up script p f)) refl
 up_step script p f false below = since_more script p f (latest_halt script p f) below ∙ rw (and-true (is_up script p f)) refl
 
--- A processor is up in a frame if it was up at the end of the preceding frame or restarts in this one.
+-- A processor is up in a frame if and only if it was up at the end of the preceding frame or restarts in the frame.
 pub up_again : (script : ScriptParts) (p f : ℕ) → is_up script p f ≡ (is_up_before script p f || restarts_in script p f)
 up_again script p zero = refl
 up_again script p (suc f) = up_step script p f (halts_in script p f) (latest_below script p f)

@@ -27,21 +27,21 @@ wanted Retarget spec from to v = choose spec from v
 wanted Settle spec from to v = if is_runnable spec to v then to else choose spec from v
 
 -- The mode if a reconfiguration under way changes its target to `t`. While a configuration halts, only the target
--- changes. After that, a new reconfiguration begins, in which the old target halts if it was to run, and nothing
--- halts otherwise.
+-- changes. After that, the phases begin anew in frame `frame`. The old target `to` halts first if `settled` is
+-- `true`, and nothing halts otherwise.
 abbrev pub turn_to : Parts → ℕ → ConfId → Option ConfId → ConfId → ℕ → Bool → ConfId → KMode
 turn_to spec frame from halting to since settled t =
     if nat_lt (frame - since) (halting_frames spec halting) then Moving from halting t since
     else (if settled then Moving from (Some to) t frame else Moving from None t frame)
 
--- The decision in a moving mode, given the target `t` that the policy chooses: the mode stays if `t` is its target,
--- or else changes to `t`.
+-- The decision in a moving mode, given the target `t` that the policy chooses. The mode does not change if `t` is the
+-- present target `to`. Otherwise the target changes to `t`.
 abbrev pub moving_decision : Parts → ℕ → ConfId → Option ConfId → ConfId → ℕ → Bool → ConfId → KMode
 moving_decision spec frame from halting to since settled t =
     if t.0 == to.0 then Moving from halting to since else turn_to spec frame from halting to since settled t
 
 -- The decision at the start of a frame, given the mode of the preceding frame. `settled` is `true` if the preceding
--- frame was settled. `arrived` is `true` if it was settled and its row ran the target.
+-- frame was settled. `arrived` is `true` if the preceding frame was settled and its row ran the target.
 abbrev pub decision : Parts → ℕ → KMode → Bool → Bool → Env → KMode
 decision spec frame (Stable c) settled arrived v = stable_decision spec c frame v
 decision spec frame (Moving from halting to since) settled arrived v =

@@ -33,7 +33,7 @@ row_at spec script f = row_of spec f (env_at spec script f) (λ p. commits spec 
 abbrev pub rows_of : Parts → ScriptParts → List Row
 rows_of spec script = listed_below (row_at spec script) script.frames
 
--- The reconfigurations that the rows of a flight show.
+-- The reconfigurations that are read off the rows of a flight.
 abbrev pub reports_of : Parts → ScriptParts → List Report
 reports_of spec script = reports spec (rows_of spec script)
 
@@ -41,17 +41,17 @@ reports_of spec script = reports spec (rows_of spec script)
 abbrev pub task_given : Parts → ScriptParts → ℕ → ℕ → Task
 task_given spec script f a = task_of spec (decided spec script f) f a
 
--- The processor is given, and it is processor `p`.
+-- Whether an optional processor is processor `p`. The value is `false` for `None`.
 abbrev pub is_proc : ℕ → Option ProcId → Bool
 is_proc p proc = option_map_or (λ (q : ProcId). q.0 == p) proc false
 
--- The slot of application `a` in the image of processor `p` before the first frame: the start area if `p` keeps it,
--- or else zeros.
+-- The slot of application `a` in the image of processor `p` before the first frame: the start area if `p` is the
+-- keeper of `a` before the first frame, or else zeros.
 abbrev pub start_slot : Parts → ℕ → ℕ → List ℤ
 start_slot spec p a = if is_proc p (start_keeper_of spec a) then start_area_of spec a else zeros
 
--- The slot of application `a` that processor `p` drafts in frame `f`: the area that the task gives if the task names
--- `p`, or else the old slot.
+-- The slot of application `a` that processor `p` drafts in frame `f`: the area by the law of `a` if the task of `a`
+-- names `p`, or else the slot `old`.
 abbrev pub slot_drafted : Parts → ScriptParts → ℕ → ℕ → ℕ → List ℤ → List ℤ
 slot_drafted spec script p f a old =
     if is_proc p (task_given spec script f a).proc
@@ -59,13 +59,13 @@ slot_drafted spec script p f a old =
     else old
 
 -- The slot of application `a` in the image of processor `p` after the first `f` frames. In each frame that `p`
--- commits, its draft replaces the slot.
+-- commits, the slot that `p` drafts replaces the old slot.
 abbrev pub slot_after : Parts → ScriptParts → ℕ → ℕ → ℕ → List ℤ
 slot_after spec script p zero a = start_slot spec p a
 slot_after spec script p (suc f) a =
     if commits spec script p f then slot_drafted spec script p f a (slot_after spec script p f a) else slot_after spec script p f a
 
--- The image of the slots of the eight applications, in order.
+-- The image that consists of the slots of the eight applications, in order.
 abbrev pub image_of : (ℕ → List ℤ) → List ℤ
 image_of slot = slot 0 ++ slot 1 ++ slot 2 ++ slot 3 ++ slot 4 ++ slot 5 ++ slot 6 ++ slot 7
 

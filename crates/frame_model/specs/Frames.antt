@@ -9,11 +9,11 @@ use Rattle.fault_script.specs.declared.inputs.Input.{Input}
 use Rattle.frame_model.specs.declared.systems.Sys.{Sys}
 use Rattle.frame_model.specs.States.{State, row_of, step}
 
--- The state of a system that is kept from frame to frame.
+-- The state of a system: all its fields except the frame and the processors that are up.
 abbrev pub state_of : Sys → State
 state_of sys = record { mode = sys.mode; arrived = sys.settled; areas = sys.areas; keepers = sys.keepers; world = sys.world }
 
--- The environment of the frame. A processor that restarts in the frame is up.
+-- The environment of the frame that a system flies with an input. A processor that restarts in the frame is up.
 abbrev pub frame_env : Sys → Input → Env
 frame_env sys input = record { up = bit_or sys.up input.back; factors = input.factors }
 
@@ -21,12 +21,12 @@ frame_env sys input = record { up = bit_or sys.up input.back; factors = input.fa
 abbrev pub committing : Sys → Input → ℕ
 committing sys input = bit_and (frame_env sys input).up (bit_not w8 input.early)
 
--- Processor `p` commits the frame.
+-- Whether processor `p` commits the frame.
 abbrev pub commits_in : Sys → Input → ℕ → Bool
 commits_in sys input p = has_bit (committing sys input) p
 
--- The processors that are up at the end of the frame, as bits: those that are up and do not halt, before or after their
--- mark.
+-- The processors that are up at the end of the frame, as bits: those that are up in the frame and do not halt in it,
+-- before or after their mark.
 abbrev pub up_after : Sys → Input → ℕ
 up_after sys input = bit_and (frame_env sys input).up (bit_not w8 (bit_or input.early input.late))
 

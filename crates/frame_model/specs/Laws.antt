@@ -35,12 +35,12 @@ abbrev pub AreasAreKept : Type 0
 AreasAreKept = (spec : Parts) (script : ScriptParts) (f a : ℕ) → a < 8
     → IsSlotOfKeeper (keeper_at (state_after spec script f).keepers a) (area_at (state_after spec script f).areas a) (λ p. slot_after spec script p f a)
 
--- If two scripts agree up to frame `f`, they have the same row of frame `f` and the same state after it.
+-- If two scripts agree up to frame `f`, they have the same row of frame `f` and the same state after frame `f`.
 abbrev pub LaterIsUnseenInRows : Type 0
 LaterIsUnseenInRows = (spec : Parts) (one other : ScriptParts) (f : ℕ) → AgreeUpTo f one other
     → (row_at spec one f ≡ row_at spec other f) × (state_after spec one (suc f) ≡ state_after spec other (suc f))
 
--- Processor `p` halts in a frame before frame `f`.
+-- Whether processor `p` halts in a frame before frame `f`.
 abbrev pub has_halted : ScriptParts → ℕ → ℕ → Bool
 has_halted script p f = list_any (λ (halt : HaltAt). halt.proc.0 == p && nat_lt halt.frame f) script.halts
 
@@ -55,12 +55,12 @@ choosing_anew spec frame (Stable c) settled arrived v = stable_decision spec c f
 choosing_anew spec frame (Moving from halting to since) settled arrived v =
     if arrived then stable_decision spec to frame v else moving_decision spec frame from halting to since settled (choose spec from v)
 
--- Under the policy `Retarget`, each decision in a reconfiguration is by the table's choice in that frame.
+-- Under the policy `Retarget`, each decision equals the decision of `choosing_anew`.
 abbrev pub RetargetChoosesAnew : Type 0
 RetargetChoosesAnew = (spec : Parts) → spec.policy ≡ Retarget → (frame : ℕ) (mode : KMode) (settled arrived : Bool) (v : Env)
     → decision spec frame mode settled arrived v ≡ choosing_anew spec frame mode settled arrived v
 
--- A reconfiguration is settled exactly if its phase is the last one, in which the target is to run.
+-- A reconfiguration is settled if and only if its phase is the last one, in which the target is to run.
 abbrev pub SettlesWithItsPhases : Type 0
 SettlesWithItsPhases = (spec : Parts) (from : ConfId) (halting : Option ConfId) (to : ConfId) (since f : ℕ)
     → is_settled spec (Moving from halting to since) f ≡ is_running (phase_at spec (Moving from halting to since) f)
@@ -79,7 +79,7 @@ pub record RunsFirst (spec : Parts) (j : ConfId) (row : Row) : Type 0 where
   pub here : runs spec row.acts j ≡ true
   pub least : (c : ℕ) → c < j.0 → runs spec row.acts (conf_id c) ≡ false
 
--- Reading rows from frame `f` on gives these reconfigurations if configuration `c` runs before the rows.
+-- Rows from frame `f` on, before which configuration `c` runs, are read in the following way.
 pub record ReadsAsTold (spec : Parts) (c : ConfId) (f : ℕ) : Type 0 where
   -- If each row runs `c`, no reconfiguration is read.
   pub quiet : (rows : List Row) → All (Runs spec c) rows → (ended_in spec (Steady c) f rows ≡ []) × (reading_after spec (Steady c) f rows ≡ Steady c)
@@ -98,17 +98,18 @@ pub record ReadsAsTold (spec : Parts) (c : ConfId) (f : ℕ) : Type 0 where
       ≡ record { from = c; to = Some j; begin = f + length before; end = e } ∷ ended_in spec (Steady j) (e + 1) rest)
       × (reading_after spec (Steady c) f (before ++ (left ∷ (between ++ (arrived ∷ rest)))) ≡ reading_after spec (Steady j) (e + 1) rest)
 
--- For every specification, rows are read in this way from any configuration and any frame on.
+-- For every specification, the readings of rows satisfy `ReadsAsTold` for any configuration and any frame.
 abbrev pub ReadsReconfigurations : Type 0
 ReadsReconfigurations = (spec : Parts) (c : ConfId) (f : ℕ) → ReadsAsTold spec c f
 
--- Reading a further row continues the reading of the rows before it.
+-- The reading after a further row, and the reconfigurations that have ended, follow from those after the rows before
+-- it.
 abbrev pub ReadsRowByRow : Type 0
 ReadsRowByRow = (spec : Parts) (rows : List Row) (row : Row)
     → (reading_of spec (rows ++ row ∷ []) ≡ read_row spec (reading_of spec rows) (length rows) row.acts)
     × (ended spec (rows ++ row ∷ []) ≡ ended spec rows ++ as_list (report_of spec (reading_of spec rows) (length rows) row.acts))
 
--- The reconfiguration began before frame `m`.
+-- Whether the reconfiguration began before frame `m`.
 abbrev pub begins_below : ℕ → Report → Bool
 begins_below m report = nat_lt report.begin m
 
@@ -116,8 +117,8 @@ begins_below m report = nat_lt report.begin m
 abbrev pub beginning : Report → ConfId × ℕ
 beginning report = (report.from, report.begin)
 
--- The reconfigurations that began in the first rows of a flight have the sources and the first frames that these rows
--- show by themselves.
+-- The reconfigurations of a flight that began in its first rows have the sources and the first frames of the
+-- reconfigurations that are read off these rows alone.
 abbrev pub BeginningsAreRead : Type 0
 BeginningsAreRead = (spec : Parts) (front back : List Row)
     → map beginning (filter (begins_below (length front)) (reports spec (front ++ back))) ≡ map beginning (reports spec front)

@@ -33,8 +33,7 @@ area_made spec sys phase committing seen a =
 abbrev pub keeper_made : Parts → Sys → Phase → ℕ → ℕ → Option ProcId
 keeper_made spec sys phase committing a = keeper_on (has_bit committing) (keeper_at sys.keepers a) (task_in spec phase a).proc
 
--- Two settings belong to the same frame. They differ at most in the mode and the area that they show to a single
--- application.
+-- Two settings belong to the same frame. What applications see in them differs at most in the mode and the own area.
 pub record IsSharedAlike (setting other : Setting) : Type 0 where
   pub stage : other.stage ≡ setting.stage
   pub committing : other.committing ≡ setting.committing

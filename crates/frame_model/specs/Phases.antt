@@ -26,8 +26,8 @@ after_halting spec to age =
     else (if nat_lt (age - preparing_time spec to) (initialising_time spec to) then Initialising to (age - preparing_time spec to)
     else Running to)
 
--- The phase of a reconfiguration to `to` in the frame that is `age` frames after its first frame. The halting phase
--- comes first if a configuration halts.
+-- The phase of a reconfiguration to `to`, `age` frames after its phases began. The halting phase comes first if a
+-- configuration halts.
 abbrev pub moving_phase : Parts → Option ConfId → ConfId → ℕ → Phase
 moving_phase spec None to age = after_halting spec to age
 moving_phase spec (Some c) to age =
@@ -39,25 +39,26 @@ abbrev pub phase_at : Parts → KMode → ℕ → Phase
 phase_at spec (Stable c) f = Running c
 phase_at spec (Moving from halting to since) f = moving_phase spec halting to (f - since)
 
--- In frame `f`, a reconfiguration that began in frame `since` is past halting, preparing and initialising, and its
--- target is to run.
+-- Whether frame `f` of a reconfiguration that began in frame `since` is past halting, preparing and initialising, so
+-- that the target is to run.
 abbrev pub is_past : Parts → Option ConfId → ConfId → ℕ → ℕ → Bool
 is_past spec halting to since f =
     nat_le (halting_frames spec halting + preparing_time spec to + initialising_time spec to) (f - since)
 
--- In frame `f`, the mode is a reconfiguration that is past halting, preparing and initialising.
+-- Whether the mode is a reconfiguration that is past halting, preparing and initialising in frame `f`.
 abbrev pub is_settled : Parts → KMode → ℕ → Bool
 is_settled spec (Stable c) f = false
 is_settled spec (Moving from halting to since) f = is_past spec halting to since f
 
--- The list that has for each application the frame of the phase in which its turn begins, counted from 0.
+-- For each application, the frame of the phase in which its turn begins, counted from 0. The frame is 0 if the
+-- applications have no turns in the phase.
 abbrev pub offsets_in : Parts → Phase → List ℕ
 offsets_in spec (Running c) = replicate 8 0
 offsets_in spec (Halting c age) = (timetable spec c).halt
 offsets_in spec (Preparing c age) = replicate 8 0
 offsets_in spec (Initialising c age) = (timetable spec c).init
 
--- The phase is the last one, in which each application with a place runs.
+-- Whether the phase is the last one, in which each application with a place runs.
 abbrev pub is_running : Phase → Bool
 is_running (Running c) = true
 is_running (Halting c age) = false

@@ -9,8 +9,8 @@ use Rattle.frame_model.specs.declared.readings.Reading.{Reading}
 use Rattle.frame_model.specs.declared.readings.Reading.TheVariants.{Steady, Leaving}
 use Rattle.frame_model.specs.Runs.{running, runs}
 
--- The reading after a row of a reconfiguration that left `c` in frame `begin`, given the configuration that the row
--- runs, if any. The reconfiguration ends if there is one.
+-- The reading after a row, given the configuration that the row runs, if any. A reconfiguration that left `c` in
+-- frame `begin` is under way, and it ends if the row runs a configuration.
 abbrev pub arrive : ConfId → ℕ → Option ConfId → Reading
 arrive c begin None = Leaving c begin
 arrive c begin (Some j) = Steady j
@@ -42,12 +42,13 @@ abbrev pub as_list : {A : Type 0} → Option A → List A
 as_list None = []
 as_list (Some x) = x ∷ []
 
--- The reading after a list of rows, given the reading before it and the frame `f` of the first row.
+-- The reading after a list of rows, given the reading before the rows and the frame `f` of the first row.
 abbrev pub reading_after : Parts → Reading → ℕ → List Row → Reading
 reading_after spec reading f [] = reading
 reading_after spec reading f (row ∷ rows) = reading_after spec (read_row spec reading f row.acts) (suc f) rows
 
--- The reconfigurations that end in a list of rows, given the reading before it and the frame `f` of the first row.
+-- The reconfigurations that end in a list of rows, given the reading before the rows and the frame `f` of the first
+-- row.
 abbrev pub ended_in : Parts → Reading → ℕ → List Row → List Report
 ended_in spec reading f [] = []
 ended_in spec reading f (row ∷ rows) =
@@ -61,6 +62,6 @@ reading_of spec rows = reading_after spec (Steady spec.start) 0 rows
 abbrev pub ended : Parts → List Row → List Report
 ended spec rows = ended_in spec (Steady spec.start) 0 rows
 
--- All reconfigurations that the rows of a flight show. The last one may be cut off.
+-- All reconfigurations that are read off the rows of a flight. The last one may be cut off.
 abbrev pub reports : Parts → List Row → List Report
 reports spec rows = ended spec rows ++ as_list (close (reading_of spec rows) (length rows))

@@ -8,7 +8,7 @@ use Rattle.scram_types.specs.declared.orders.Act.{Act}
 use Rattle.scram_types.specs.declared.orders.Act.TheVariants as act
 use Rattle.scram_types.specs.Specification.{Parts}
 
--- By this act, the application ran in the mode and on the processor of the place.
+-- Whether an application with this act ran in the mode and on the processor of the place.
 abbrev pub is_ran_at : Place → Act → Bool
 is_ran_at place (act.Ran mode proc) = mode.0 == place.mode.0 && proc.0 == place.proc.0
 is_ran_at place (act.Halting k n proc) = false
@@ -18,7 +18,7 @@ is_ran_at place (act.Initialising k n proc) = false
 is_ran_at place act.Off = false
 is_ran_at place act.Lost = false
 
--- By this act, the application was off.
+-- Whether an application with this act was off.
 abbrev pub is_off : Act → Bool
 is_off (act.Ran mode proc) = false
 is_off (act.Halting k n proc) = false
@@ -28,7 +28,8 @@ is_off (act.Initialising k n proc) = false
 is_off act.Off = true
 is_off act.Lost = false
 
--- By this act, an application with a place ran there, and an application without a place was off.
+-- Whether an act agrees with an optional place: an application with a place ran there, and an application without a
+-- place was off.
 abbrev pub is_run_by : Option Place → Act → Bool
 is_run_by None done = is_off done
 is_run_by (Some place) done = is_ran_at place done
@@ -37,7 +38,7 @@ is_run_by (Some place) done = is_ran_at place done
 abbrev pub act_at : List Act → ℕ → Act
 act_at acts a = slice_index_or acts a act.Off
 
--- The acts run configuration `c`: by its act, each application that has a place in `c` ran there, and each other
+-- Whether the acts run configuration `c`: each application that has a place in `c` ran there, and each other
 -- application was off.
 abbrev pub runs : Parts → List Act → ConfId → Bool
 runs spec acts c = all_below (λ a. is_run_by (place_of spec c a) (act_at acts a)) (length spec.apps)

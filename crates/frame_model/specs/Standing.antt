@@ -10,7 +10,8 @@ use Rattle.frame_model.specs.declared.systems.Sys.{Sys}
 use Rattle.frame_model.specs.Flights.{state_after}
 use Rattle.frame_model.specs.Frames.{state_of}
 
--- Processor `p` was up in the frame before frame `f` and did not halt in it, or `f` is 0.
+-- Whether processor `p` was up in the frame before frame `f` and did not halt in that frame. The value is `true` if
+-- `f` is 0.
 abbrev pub is_up_before : ScriptParts → ℕ → ℕ → Bool
 is_up_before script p zero = true
 is_up_before script p (suc f) = is_up script p f && not (halts_in script p f)

@@ -28,8 +28,8 @@ use Rattle.frame_model.specs.Phases.{is_settled, phase_at, target}
 use Rattle.frame_model.specs.Runs.{runs}
 use Rattle.frame_model.specs.Tasks.{task_in}
 
--- The state between two frames: the mode of the preceding frame, whether that frame was settled and its row ran the
--- target, the areas and their keepers, and the world.
+-- The state between two frames: the mode of the preceding frame, the areas and their keepers, and the world.
+-- `arrived` is `true` if the preceding frame was settled and its row ran the target.
 pub record State : Type 0 where
   pub mode : KMode
   pub arrived : Bool
@@ -49,14 +49,14 @@ area_at areas a = slice_index_or areas a zeros
 abbrev pub keeper_at : List (Option ProcId) → ℕ → Option ProcId
 keeper_at keepers a = slice_index_or keepers a None
 
--- The area of the first application of a kind, given the areas of the applications in order, or zeros if there is
--- none.
+-- The area of the first application of a kind, given the areas of the applications in order, or zeros if the kind has
+-- no application.
 abbrev pub lead_among : List AppSpec → List (List ℤ) → ℕ → List ℤ
 lead_among [] areas kind = zeros
 lead_among (app ∷ apps) [] kind = zeros
 lead_among (app ∷ apps) (area ∷ areas) kind = if app.kind.0 == kind then area else lead_among apps areas kind
 
--- The area of the application of a kind that has the smallest number, or zeros if there is none.
+-- The area of the lowest-numbered application of a kind, or zeros if the kind has no application.
 abbrev pub lead_of : Parts → List (List ℤ) → ℕ → List ℤ
 lead_of spec areas kind = lead_among spec.apps areas kind
 
@@ -76,7 +76,7 @@ seen_by_all spec v state = record {
 abbrev pub seen_in : Seen → Mode → List ℤ → Seen
 seen_in seen mode own = record seen { mode = mode; own = own }
 
--- Two values of `Seen` differ at most in the mode and the area that they show to a single application.
+-- Two values of `Seen` differ at most in the mode and the own area.
 abbrev pub ShowAlike : Seen → Seen → Type 0
 ShowAlike seen other = (mode : Mode) (own : List ℤ) → seen_in other mode own ≡ seen_in seen mode own
 
@@ -84,7 +84,7 @@ ShowAlike seen other = (mode : Mode) (own : List ℤ) → seen_in other mode own
 abbrev pub seen_by : Parts → Env → State → Mode → ℕ → Seen
 seen_by spec v state mode a = seen_in (seen_by_all spec v state) mode (area_at state.areas a)
 
--- The area of application `a` after a task by the law of its kind.
+-- The area of application `a` after a task, by the law of the application's kind.
 abbrev pub law_of : Parts → Env → State → Task → ℕ → List ℤ
 law_of spec v state task a = law (kind_of_app spec a) task.order (seen_by spec v state task.mode a)
 
@@ -137,8 +137,8 @@ areas_in spec v commits state phase = eight (λ a. area_after spec v commits sta
 abbrev pub keepers_in : Parts → (ℕ → Bool) → State → Phase → List (Option ProcId)
 keepers_in spec commits state phase = eight (λ a. keeper_after commits state (task_in spec phase a) a)
 
--- The world after the airframe's step. The step depends on the surfaces that the first flight control has set in its
--- area at the end of the frame.
+-- The world after the airframe's step. The step depends on the surfaces in the area of the lowest-numbered flight
+-- control at the end of the frame.
 abbrev pub world_in : Parts → World → List (List ℤ) → World
 world_in spec world areas = step_of world (word (lead_of spec areas 1) 1) (word (lead_of spec areas 1) 2)
 
@@ -161,7 +161,7 @@ row_in spec f v commits state mode = record {
 abbrev pub row_of : Parts → ℕ → Env → (ℕ → Bool) → State → Row
 row_of spec f v commits state = row_in spec f v commits state (mode_decided spec f v state)
 
--- The frame of the row was settled, and the row ran the target of its mode.
+-- Whether the frame of the row was settled and the row ran the target of its mode.
 abbrev pub has_arrived : Parts → Row → Bool
 has_arrived spec row = is_settled spec row.mode row.frame && runs spec row.acts (target row.mode)
 
@@ -179,7 +179,8 @@ step_with spec commits state row = record {
 abbrev pub step : Parts → ℕ → Env → (ℕ → Bool) → State → State
 step spec f v commits state = step_with spec commits state (row_of spec f v commits state)
 
--- The start area of application `a`: that of its kind if it has a place in the start configuration, or else zeros.
+-- The start area of application `a`, given its place in the start configuration: the start area of its kind, or zeros
+-- if there is no place.
 abbrev pub start_area_at : Parts → ℕ → Option Place → List ℤ
 start_area_at spec a None = zeros
 start_area_at spec a (Some place) = start_of (kind_of_app spec a)

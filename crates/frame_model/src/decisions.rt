@@ -24,9 +24,10 @@ struct Move {
 /// Returns the kernel's mode at the start of a frame, given the state before the frame and the frame's environment.
 ///
 /// A stable configuration stays if the choice table chooses it, and is left otherwise. If a reconfiguration was
-/// settled and its row ran the target, the same holds for the target. Otherwise the target stays if the policy still
-/// chooses it. If the policy chooses another target, only the target changes while a configuration halts. After that,
-/// a new reconfiguration begins, in which the old target halts if it was settled, and nothing halts otherwise.
+/// settled in the preceding frame and the row of that frame ran the target, the same rule applies to the target.
+/// Otherwise the target stays if the policy still chooses it. If the policy chooses another target while a
+/// configuration halts, only the target changes. After that, the phases begin anew. The old target halts first if the
+/// preceding frame was settled, and nothing halts otherwise.
 pub fn decide(spec: &Spec, sys: &Sys, env: &Env) -> KMode
     ensures { result ≡ mode_decided spec.now sys.now.frame env.now (state_of sys.now) }
 {

@@ -20,10 +20,10 @@ use app_model::kinds::flight_control;
 use fault_script::Input;
 use scram_types::{Area, Env, KMode, Row, Spec, World};
 
-/// Flies one frame and returns its row. `sys` is then the state after the frame. A processor that restarts in the
-/// frame is up. The kernel decides on the frame's environment. Each application carries out its order if its
-/// processor commits. Its act is `Lost` if the processor is not up or halts before its mark. Then the airframe makes
-/// a step.
+/// Flies one frame and returns its row. Afterwards, `sys` is the state after the frame. A processor that restarts in
+/// the frame is up. The kernel decides by the frame's environment. An application carries out its order if its
+/// processor commits. Its act is `Lost` if the processor is not up or halts before its mark. At the end, the airframe
+/// makes a step.
 pub fn frame(spec: &Spec, sys: &mut Sys, input: &Input, racks: &mut [Rack]) -> Row
     requires frame { sys.old.frame < MAX_FRAMES }
     ensures row { result ≡ row_given spec.now sys.old input.now }
@@ -81,7 +81,7 @@ fn up_after(sys: &Sys, input: &Input) -> u8
     (sys.up | input.back) & !(input.early | input.late)
 }
 
-/// Returns the world after a frame, given the world before it and the areas after it.
+/// Returns the world after a frame, given the world before the frame and the areas after the frame.
 pub fn world_in(spec: &Spec, world: World, areas: &[Area; 8]) -> World
     ensures { result ≡ world_in spec.now world areas.now }
 {
@@ -101,7 +101,8 @@ fn read_word(area: &Area, i: usize) -> i64
     area[i]
 }
 
-/// Returns `true` if the frame of a row, which is in this phase, was settled and the row ran the target.
+/// Returns `true` if the frame of a row was settled and the row ran the target. `phase` must be the phase of the
+/// frame.
 pub fn has_arrived(spec: &Spec, row: &Row, phase: Phase) -> bool
     requires { phase ≡ phase_at spec.now row.now.mode row.now.frame }
     ensures { result ≡ has_arrived spec.now row.now }

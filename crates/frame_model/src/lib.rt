@@ -1,6 +1,6 @@
 //! The one-thread trace of a script: the kernel's decisions and orders in each frame, the areas, keepers, world and
-//! row that result under halts and restarts, and the reconfigurations that rows show. All of these are proved to be
-//! as defined, for every specification and every script that fits it.
+//! row that result under halts and restarts, and the reconfigurations that are read off rows. All of these are proved
+//! to be as defined, for every specification and every script that fits it.
 #![tactic(auto)]
 
 pub mod acts;

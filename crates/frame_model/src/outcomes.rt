@@ -15,8 +15,8 @@ use app_model::racks::racks_frame;
 use app_model::{Rack, Seen};
 use scram_types::{Act, AppId, Area, Mode, Order, ProcId, Spec};
 
-/// What all applications of a frame share: what they see, except for their modes and their own areas, the processors
-/// that commit the frame, as bits, and the phase.
+/// What all applications share in a frame: the phase, the processors that commit the frame, as bits, and what the
+/// applications see, without their modes and their own areas.
 #[derive(Clone, Copy)]
 pub(crate) struct Setting {
     pub(crate) seen: Seen,
@@ -24,9 +24,9 @@ pub(crate) struct Setting {
     pub(crate) stage: Stage,
 }
 
-/// Performs the task of each application and returns the act of each. The areas and keepers of `sys` are then those
-/// after the frame, and its other fields are unspecified. `setting` is left with the mode and the area of the last
-/// application that was performed.
+/// Performs the task of each application and returns the act of each. Afterwards, the areas and keepers of `sys` are
+/// those after the frame, and its other fields are unspecified. `setting` then contains the mode and the area of the
+/// last application whose processor commits, if any.
 pub(crate) fn perform_all(
     spec: &Spec,
     sys: &mut Sys,
@@ -100,7 +100,7 @@ fn has(set: u8, p: u8) -> bool
     set >> p & 1 == 1
 }
 
-/// Returns the area of the application of a kind that has the smallest number, or zeros if there is none.
+/// Returns the area of the lowest-numbered application of a kind, or zeros if the kind has no application.
 pub(crate) fn lead_of(spec: &Spec, areas: &[Area; 8], kind: u8) -> Area
     ensures { result ≡ lead_of spec.now areas.now kind }
 {

@@ -17,9 +17,9 @@ pub enum Reading {
 }
 
 /// Reads the row of a frame. Returns the new reading, and the reconfiguration that ends with the row, if any. The
-/// first row that does not run the configuration makes the reading `Leaving`. The first later row that runs some
-/// configuration makes the reading `Steady` and ends the reconfiguration. If that row runs several, the one with the
-/// smallest number counts.
+/// first row that does not run the configuration of a `Steady` reading makes the reading `Leaving`. The first later
+/// row that runs some configuration makes the reading `Steady` and ends the reconfiguration. If that row runs
+/// several, the one with the smallest number counts.
 pub fn read_row(
     spec: &Spec,
     reading: Reading,
@@ -74,7 +74,7 @@ pub fn close(reading: Reading, frames: u32) -> Option<Report>
     }
 }
 
-/// Returns the reconfigurations that rows show, in order. The first row is that of frame 0, and the start
+/// Returns the reconfigurations that are read off rows, in order. The first row is that of frame 0, and the start
 /// configuration runs before it. The last reconfiguration may be cut off by the end of the rows. Returns an error
 /// only if memory runs out.
 pub fn reports(alloc: Global, spec: &Spec, rows: &[Row]) -> Result<Vec<Report>, NoMemory>

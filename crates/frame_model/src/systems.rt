@@ -17,9 +17,9 @@ pub const START_WORLD: World = World {
 };
 
 /// The state before frame `frame`. `mode` is the mode of the preceding frame, or the stable mode of the start
-/// configuration before frame 0. `keepers` has for each application the processor whose image holds its area. `up`
-/// has the processors that were up and had not halted by the end of the preceding frame, as bits. `settled` is `true`
-/// if the preceding frame was past the phases of a reconfiguration and its row ran the target.
+/// configuration before frame 0. `keepers` contains for each application the processor whose image contains its area.
+/// `up` contains the processors that were up and had not halted by the end of the preceding frame, as bits. `settled`
+/// is `true` if the preceding frame was past the phases of a reconfiguration and its row ran the target.
 #[derive(Clone, Copy, Debug)]
 pub struct Sys {
     pub frame: u32,
@@ -33,7 +33,8 @@ pub struct Sys {
 
 impl Sys {
     /// Returns the state before frame 0. Every processor is up. An application that is on in the start configuration
-    /// has its start area, and the processor of its place keeps it. The other applications have zeros and no keeper.
+    /// has its start area, and its keeper is the processor of its place. The other applications have zeros and no
+    /// keeper.
     pub fn start(spec: &Spec) -> Sys
         ensures { result ≡ sys_of 0 (2 ^ length spec.now.procs - 1) (start_state spec.now) }
     {

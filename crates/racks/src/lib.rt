@@ -1,5 +1,5 @@
 //! Macros that create racks of the boxes of kinds 0 to 4. A rack holds the boxes from which it is created, in their
-//! order. Nothing is promised about their kinds; `racks_fit` tests them after the racks are created.
+//! order. No contract states the kinds of the boxes. `racks_fit` tests the kinds after the racks are created.
 #![tactic(auto)]
 
 pub mod macros;
