@@ -119,7 +119,7 @@ all_ones (suc n) = let before = all_ones n in rw (twice n) (omega arith)
 pub bits_all : (n : ℕ) → 2 ^ n - 1 ≡ bits_below (λ i. true) n
 bits_all n = let all = all_ones n in omega arith
 
--- A member of a set to which `k` was added is a member of the original set or `k`.
+-- If the number `k` is added to a set, each member of the new set is `k` or a member of the original set.
 pub has_more : (set k n : ℕ) → has_bit (bit_or set (2 ^ k)) n ≡ true → (has_bit set n ≡ true) ⊎ (n ≡ k)
 has_more set k n is = elim (same_or_not n k) [
   | inl same ↦ inr same
@@ -157,7 +157,8 @@ last_more : (b t : Bool) (c : ℕ) → (b ≡ true → t ≡ false) → c + bit_
 last_more true t c f = rw (f refl) (omega arith)
 last_more false t c f = omega arith
 
--- If a test is extended by a number that did not pass it, the count of the numbers that pass rises by one.
+-- A test that `q` fails is extended so that `q` passes. Then the count of the numbers that pass rises by one. If `b`
+-- is `false`, the test is not extended and the count stays the same.
 pub count_more : (s : ℕ → Bool) (q n : ℕ) (b : Bool) → q < n → (b ≡ true → s q ≡ false) → count_below (λ p. (q == p && b) || s p) n ≡ count_below s n + bit_of b
 count_more s q zero b less apart = absurd (omega arith)
 count_more s q (suc n) b less apart = elim (below_or_at q n less) [

@@ -78,7 +78,7 @@ pub struct Choice {
     pub to: ConfId,
 }
 
-/// The maximum length of a reconfiguration between two configurations, 1 to 1,000 frames.
+/// The maximum length of a reconfiguration from configuration `from` to configuration `to`: 1 to 1,000 frames.
 #[derive(Clone, Copy, Debug, PartialEq, Eq)]
 pub struct Bound {
     pub from: ConfId,
