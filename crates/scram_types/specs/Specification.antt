@@ -53,8 +53,8 @@ abbrev pub mode_in : List ModeSpec → ℕ → Option ModeSpec
 mode_in [] mode = None
 mode_in (listed ∷ modes) mode = if listed.mode.0 == mode then Some listed else mode_in modes mode
 
--- The first bound of the list, in frames, for the pair of configurations `from` and `to`, or `None` if the list has
--- none.
+-- The first bound of the list, in frames, on a reconfiguration from configuration `from` to configuration `to`, or
+-- `None` if the list has no such bound.
 abbrev pub bound_in : List Bound → ℕ → ℕ → Option ℕ
 bound_in [] from to = None
 bound_in (bound ∷ bounds) from to =
