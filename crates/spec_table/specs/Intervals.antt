@@ -36,15 +36,16 @@ read_variable (Some app) at d =
 abbrev pub read_end : List ℕ → Data → Result ℤ DocFault
 read_end at d = int_at (minus 1000000000) (pos 1000000000) at d
 
--- The ends of the interval of an object at path `at`, read from its members, or the first document rule that the
--- members break.
+-- The ends of the interval that the members `least` and `greatest` of the object at path `at` encode, or the first
+-- document rule that these members break.
 abbrev pub read_ends : List ℕ → Data → Data → Result Ends DocFault
 read_ends at least greatest =
     chain (read_end (member_path at (codes "least")) least) (λ (low : ℤ).
     chain (read_end (member_path at (codes "greatest")) greatest) (λ (high : ℤ).
     if int_le low high then Ok (record { least = low; greatest = high }) else broken EMPTY_INTERVAL (member_path at (codes "greatest"))))
 
--- The interval of an object at path `at`, read from its members, or the first document rule that the members break.
+-- The interval that the members of the object at path `at` encode, or the first document rule that these members
+-- break.
 abbrev pub read_interval : List AppSpec → List ℕ → Data → Data → Data → Data → Result Interval DocFault
 read_interval apps at app variable least greatest =
     chain (read_app_id apps (member_path at (codes "app")) app) (λ (app : AppId).
