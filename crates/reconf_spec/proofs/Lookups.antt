@@ -22,7 +22,7 @@ not_so : (test : Bool) (P : Type 0) → Decides test P → (P → ⊥) → test 
 not_so true P decides apart = absurd (apart (decides.0 refl))
 not_so false P decides apart = refl
 
--- No element before an element has its name.
+-- If the names of a list differ, no element before `x` has the name of `x`.
 none_before : {A : Type 0} (name : A → List ℕ) (k : ℕ) (xs : List A) (x : A) (after : List A) → NamesDiffer name (xs ++ x ∷ after) → number_from name k xs (name x) ≡ None
 none_before name k [] x after differ = refl
 none_before name k (y ∷ ys) x after differ =
