@@ -8,11 +8,11 @@ use Rattle.reconf_spec.specs.Documents.{spec_of}
 use Rattle.spec_text.specs.Texts.{spec_text}
 use Rattle.mission_gen.specs.declared.texts.TheConstants.{GENERATED, UAV}
 
--- The text of the aircraft with two alternators and two computers.
+-- The text of the specification of an aircraft with two alternators and two computers.
 unfoldable pub uav_text : List ℕ
 uav_text = UAV.now
 
--- The text of the same aircraft with four further factors.
+-- The text of the specification of the same aircraft with four further factors.
 unfoldable pub generated_text : List ℕ
 generated_text = GENERATED.now
 
