@@ -1,4 +1,4 @@
--- Lemmas that give the answer to a mission from its specification and its script.
+-- Lemmas that derive the answer to a mission from its specification and its script.
 use Rattle.std.proofs.Common.{◌≡◌, ◌∙◌, ℕ, List, refl, sym, ap, arith, subst, inl, inr}
 use Rattle.std.specs.Prelude.{◌⊎◌, Option, Some, None, Result, Ok, Err}
 use Rattle.scram_types.specs.Scripts.{ScriptParts}

@@ -90,7 +90,8 @@ fn fly_on_threads<R: AllocGlobal + Threads + Wait + Sync>(
     Ok(flight.run(rt).flown)
 }
 
-/// Prints the text of the given kind for a mission that was flown.
+/// Prints the text of the given kind for a mission. `flown` must have the rows and reports of the mission's
+/// one-thread flight.
 pub fn tell_flown<K: Sink>(
     out: &mut K,
     mission: &Mission,

@@ -135,7 +135,7 @@ fn fly_read<'a, W: Watch, R: Threads + Wait + Sync>(
     )
 }
 
-// Returns the summary that a new reader sees, which includes all rows that the writer has published.
+// Returns the summary of all frames. The writer must have published all rows.
 fn last_summary(publisher: Publisher) -> Summary
     requires { rows_published publisher.writer ≡ (tap_mission publisher.tap.now).script.frames }
     ensures { result ≡ summary_after (tap_mission publisher.entry.tap.now) (tap_mission publisher.entry.tap.now).script.frames }
@@ -145,7 +145,7 @@ fn last_summary(publisher: Publisher) -> Summary
     tap.read(&mut reader)
 }
 
-// Reads until the summary of all frames is seen, or gives up after many reads.
+// Reads summaries until one is of all frames, or gives up after `MAX_READS` reads.
 fn read_to_the_end(tap: &Tap, mut reader: Reader)
     requires { IsReaderOf tap.now reader }
 {
