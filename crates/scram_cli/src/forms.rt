@@ -113,8 +113,8 @@ pub enum SpecificationForm<N> {
     Fill {
         specification: N,
     },
-    /// Prints the configuration that each rule chooses, with the configurations from which and the number of
-    /// environments in which the rule chooses it.
+    /// Prints the configuration that each rule chooses, the configurations from which the rule chooses it, and the
+    /// number of environments in which the rule chooses it.
     Choices {
         specification: N,
     },
