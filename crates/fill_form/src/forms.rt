@@ -28,7 +28,7 @@ use scram_types::{Bound, List, NoMemory, Spec};
 use std::alloc::Global;
 
 /// Prints the specification in a file with sufficient bounds and a sufficient window. If too many environments are in
-/// scope, or a bound or the window would be too long, it prints the refusal instead.
+/// scope, or a bound or the window would be too long, the refusal is printed instead.
 pub fn fill<F: Files, K: Sink>(
     alloc: Global,
     specification: &str,
