@@ -23,7 +23,8 @@ pub enum Rule {
     GreatestFirst,
     /// The kernel, or the first processor that has a next event if the kernel has none.
     KernelFirst,
-    /// The actor whose place is a random number from a generator with this seed.
+    /// The first actor that has a next event, from a random place on. The random numbers are from a generator with
+    /// this seed.
     Seeded(u64),
 }
 
@@ -145,7 +146,7 @@ fn next_in_order(core: &Core, procs: usize, backwards: bool, place: usize) -> Op
 }
 
 // Returns the first place whose actor has a next event, with the event, or `None` if there is none. The places from
-// `begin` on come first, and then the places before it.
+// `begin` on come first, and then the places before `begin`.
 fn first_from(core: &Core, procs: usize, backwards: bool, begin: usize) -> Option<(usize, Event)>
     requires procs { procs ≡ length core.now.spec.procs }
     requires few { procs ≤ 8 }
