@@ -51,7 +51,7 @@ fn print_summaries(rt: &HostRuntime, before: Option<Summary>, note: Summary) -> 
     print_summary(rt, "note", &note)
 }
 
-/// Hands the first `count` rows to a watch that has taken none. If there are fewer rows, hands all of them.
+/// Hands the first `count` rows, or all rows if there are fewer, to a watch. The watch must have taken no row before.
 fn hand_rows<W: Watch>(rows: &[Row], count: u32, watch: &mut W)
     requires rows { rows.now ≡ rows_of (W.watched watch.old).spec (W.watched watch.old).script }
     requires taken { W.taken watch.old ≡ 0 }
