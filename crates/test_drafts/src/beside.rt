@@ -60,7 +60,7 @@ fn fly(
     }
 }
 
-/// Halts a processor after the last frame, and restarts it if there is a spare rack. Prints both.
+/// Halts a processor after the last frame, and restarts it if there is a spare rack. Prints the halt and the restart.
 fn print_return(rt: &HostRuntime, live: Live, spare: Option<Rack>) -> io::Result<()>
     requires { live.proc.0 < 8 }
 {
