@@ -1,4 +1,4 @@
--- Each flight that is answered with status 0 is assured.
+-- If a form that flies a mission answers with status 0, the flight is assured.
 use Rattle.std.proofs.Common.{◌≡◌, ℕ, List, [], refl, sym}
 use Rattle.std.specs.Prelude.{◌≢◌, Option, Some, None, Result, Ok, Err}
 use Rattle.scram_types.specs.declared.rows.Flown.{Flown}

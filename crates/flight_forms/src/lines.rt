@@ -23,7 +23,8 @@ pub fn make_script_line(fault: &ScriptFault) -> Line
     line
 }
 
-/// Returns the line for a script that leaves the failure assumption, with the frame in which it does and the reason.
+/// Returns the line for a script that leaves the failure assumption. It has the frame in which the script leaves the
+/// assumption, and the reason.
 pub fn make_outside_line(outside: &Outside) -> Line
     ensures { result ≡ outside_line outside.now }
 {

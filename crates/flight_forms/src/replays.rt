@@ -40,7 +40,7 @@ struct Replay {
     list: List<Event>,
 }
 
-/// Flies the mission of a specification and a script by a schedule, and prints its trace.
+/// Flies the mission of a specification and a script by a schedule, and prints the trace of the flight.
 pub fn replay_form<F: Files, K: Sink>(
     alloc: Global,
     named: ReplayFiles<'_>,

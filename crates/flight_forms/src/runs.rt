@@ -33,7 +33,8 @@ pub enum FlightText {
     Summary(u32),
 }
 
-/// Flies the mission of a specification and a script with a thread for each processor, and prints its trace.
+/// Flies the mission of a specification and a script with a thread for each processor, and prints the trace of the
+/// flight.
 pub fn run<R: AllocGlobal + Threads + Wait + Sync, F: Files, K: Sink>(
     rt: &R,
     named: MissionFiles<'_>,

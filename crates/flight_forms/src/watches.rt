@@ -28,8 +28,8 @@ use word_deck::WordFlight;
 /// The number of reads after which a reader gives up.
 const MAX_READS: u32 = 1_000_000;
 
-/// Flies the mission of a specification and a script with a thread for each processor, while two readers read its
-/// summary. Prints the last summary.
+/// Flies the mission of a specification and a script with a thread for each processor, while two readers read the
+/// summary of the flight. Prints the last summary.
 pub fn watch<R: AllocGlobal + Threads + Wait + Sync, F: Files, K: Sink>(
     rt: &R,
     named: MissionFiles<'_>,
@@ -70,7 +70,7 @@ fn watch_mission<R: AllocGlobal + Threads + Wait + Sync, K: Sink>(
     }
 }
 
-// Returns the summary of all frames of a mission that is flown while two readers read its summary.
+// Returns the summary of all frames of a mission that is flown while two readers read the summary of the flight.
 fn fly_watched<R: AllocGlobal + Threads + Wait + Sync>(
     rt: &R,
     mission: &Mission,
@@ -90,8 +90,8 @@ fn fly_watched<R: AllocGlobal + Threads + Wait + Sync>(
     Ok(last_summary(fly_read(rt, &tap, flight, publisher, (one, other))))
 }
 
-// Flies the mission of a tap while two readers read its summary. The watch is passed through the scope by value, since
-// nothing is known about a reference that a closure captures.
+// Flies the mission of a tap while two readers read the summary of the flight. The watch is passed through the scope
+// by value, since nothing is known about a reference that a closure captures.
 fn fly_read<'a, W: Watch, R: Threads + Wait + Sync>(
     rt: &R,
     tap: &Tap<'a>,
