@@ -74,7 +74,7 @@ fn fill_in(alloc: Global, spec: Spec) -> Result<Vec<u8>, Refusal>
     }
 }
 
-// Returns the refusal of a specification that shows the reason `shown`.
+// Returns the refusal of a specification for the reason `shown`.
 fn refuse(spec: Spec, shown: &Shown) -> Refusal
     ensures { answer_of result ≡ (NOT_ACCEPTED, shown_line spec shown.now) }
 {
