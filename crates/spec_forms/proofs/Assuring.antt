@@ -1,4 +1,4 @@
--- Each answer of `check` or `bounds` with status 0 gives the assurance of its form.
+-- If `check` or `bounds` answers with status 0, the assurance of its form holds.
 use Rattle.std.proofs.Common.{◌≡◌, ℕ, List, [], refl}
 use Rattle.std.specs.Prelude.{Option, Some, None}
 use Rattle.scram_types.specs.Specification.{IsSpec, Parts}
