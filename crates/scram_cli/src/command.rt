@@ -44,7 +44,7 @@ use trace_text::lines::Line;
 /// Answers the words after the program's name by their form. Words that have none of these forms are refused.
 ///
 /// - `run SPEC SCRIPT` flies a mission.
-/// - `watch SPEC SCRIPT` flies a mission while two readers read its summary.
+/// - `watch SPEC SCRIPT` flies a mission while two readers read the summary of the flight.
 /// - `pair SPEC SCRIPT UNIT FRAME STEP` flies a mission with the kernel on two units, of which unit `UNIT` may halt in
 ///   frame `FRAME` after `STEP` of its steps.
 /// - `replay SPEC SCRIPT SCHEDULE` flies a mission by a schedule.
