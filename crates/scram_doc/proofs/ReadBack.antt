@@ -14,7 +14,7 @@ use Rattle.scram_doc.specs.Lists.{AllAfter, elements_at, elements_from}
 use Rattle.scram_doc.specs.Paths.{item_path}
 use Rattle.scram_doc.specs.Values.{items_within, whole_below}
 
--- If a step succeeds, the chain has the result of the rest at the value of the step.
+-- If the first step of a chain succeeds with the value `a`, the chain has the result of `rest` at `a`.
 pub chained : {A B E : Type 0} (r : Result A E) (rest : A → Result B E) (a : A) (b : Result B E) → r ≡ Ok a → rest a ≡ b → chain r rest ≡ b
 chained r rest a b e f = rw (e) f
 
