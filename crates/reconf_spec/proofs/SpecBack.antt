@@ -90,7 +90,8 @@ with_choice demands policy spec = record {
   window = spec.window;
 }
 
--- The rest of a document, without its policy and its demands, is read back as it was written.
+-- The members of a document after those that contain names, except the policy and the demands, are read back as they
+-- were written.
 record RestIsBack (spec : Parts) : Type 0 where
   rules : read_choices spec.procs spec.confs spec.factors (member_path [] (codes "rules")) (list_data (choice_data spec) spec.rules) ≡ Ok spec.rules
   bounds : read_bounds spec.confs (member_path [] (codes "bounds")) (list_data (bound_data spec.confs) spec.bounds) ≡ Ok spec.bounds
