@@ -15,7 +15,7 @@ prefix_after old mid new a b first second = record {
   took = took_more old mid new a second.front first second.took;
 }
 
--- A prefix of `a` is a prefix of each text that begins with `a`.
+-- If a sink takes a prefix of `a`, it takes a prefix of `a ++ b`.
 pub prefix_more : (old new : SinkState) (a b : List ℕ) → TookPrefix old new a → TookPrefix old new (a ++ b)
 prefix_more old new a b first = record {
   front = first.front;
@@ -57,8 +57,8 @@ surely_none_by : (room : Option ℕ) (count : ℕ) → IfSome room (λ _. count 
 surely_none_by None count below = tt
 surely_none_by (Some n) count below = λ fits. (record { same = refl; below = below }, let same : n ≡ n - 0 = omega arith in ap (λ (left : ℕ). Some left) same)
 
--- A sink without a put takes the empty list, and no count rises. If the number of bytes that the sink is sure to take
--- is known, its count of faults must be below the maximum.
+-- Without a put, a sink takes the empty list, and no count rises. If the number of bytes that the sink is sure to
+-- take is known, its count of faults must be below the maximum.
 pub printed_none : (sink : SinkState) → IfSome sink.surely (λ _. sink.faults < greatest_count) → Printed sink sink []
 printed_none sink below = record {
   count = omega arith;
@@ -83,7 +83,7 @@ cut_after old mid new a b first second = record {
   surely = surely_more old mid new a b first.surely second.surely;
 }
 
--- If bytes are cut off, each text that begins with them is cut off.
+-- If `a` is cut off, `a ++ b` is cut off.
 pub cut_more : (old new : SinkState) (a b : List ℕ) → CutOff old new a → CutOff old new (a ++ b)
 cut_more old new a b cut = record {
   count = cut.count;

@@ -41,7 +41,7 @@ pub record FilesState : Type 0 where
   pub steady : Bool
   pub faults : ℕ
 
--- Each of the reads has the bytes that the map has for its name.
+-- The bytes of each read are the bytes that the map has for the name of the read.
 abbrev pub Agrees : FileMap → History → Type 0
 Agrees map reads = AllByRecursion (λ (read : List ℕ × List ℕ). file_at read.0 map ≡ Some read.1) reads
 
@@ -117,8 +117,8 @@ pub record Flushed (old new : SinkState) : Type 0 where
   pub count : old.faults ≤ new.faults
   pub surely : TakesSurely old new []
 
--- A flush neither takes nor loses bytes. No bytes are held back if the result is `Ok`, and the count of faults rose
--- if it is `Err`.
+-- A flush neither takes nor loses bytes. If the result is `Ok`, no bytes are held back. If the result is `Err`, the
+-- count of faults rose.
 pub record Flushes {A E : Type 0} (result : Result A E) (old new : SinkState) : Type 0 where
   pub kept : Flushed old new
   pub sent : OnOk result (new.held ≡ [])
