@@ -25,8 +25,8 @@ seam : {A : Type 0} (xs : List A) (x : A) (ys : List A) → slice_get (xs ++ x �
 seam [] x ys = refl
 seam (y ∷ xs) x ys = seam xs x ys
 
--- If each element satisfies a fact with the elements before it, the element `x` satisfies it with the elements
--- `before`.
+-- If each element of the list `before ++ x ∷ after` satisfies a fact with the elements before it, `x` satisfies the
+-- fact with the elements `before`.
 pub fact_after : {A : Type 0} (Fact : List A → A → Type 0) (before : List A) (x : A) (after : List A) → AllAfter Fact (before ++ x ∷ after) → Fact before x
 fact_after {A} Fact before x after all =
     subst (λ (ys : List A). Fact ys x) (take-append_seam before (x ∷ after)) (all (length before) x (seam before x after))

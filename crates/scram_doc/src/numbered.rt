@@ -213,8 +213,8 @@ pub fn read_named_items<T: Drop, N: Naming<T>, E: NamedElements<T, N>>(
     Ok(done)
 }
 
-/// Returns the elements of the list `v` at path `at`, whose length has to be within `lengths`. Each element has a
-/// name.
+/// Returns the elements of the list `v` at path `at`. The length of the list must be within `lengths`. Each element
+/// has a name.
 ///
 /// # Errors
 ///
