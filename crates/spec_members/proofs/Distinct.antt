@@ -60,7 +60,7 @@ found_differ {A} name xs new i j x y there too same = elim (compare i j) [
   ]
 ]
 
--- If each name is new as it is read, the names differ.
+-- If no element of a list has the name of an element before it, the names of the list differ.
 pub new_differ : {A : Type 0} → (name : A → List ℕ) → (xs : List A) → AllAfter (λ (done : List A) (x : A). index_named name done (name x) ≡ None) xs → NamesDiffer name xs
 new_differ name xs new = found_differ name xs (λ i x e. sym (place_found name (take i xs) (name x)) ∙ new i x e)
 
