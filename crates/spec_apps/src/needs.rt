@@ -192,7 +192,7 @@ fn finish_apps(
 /// # Errors
 ///
 /// Returns an error with the first broken rule and its path, and `NoMemory` if memory runs out. If the needs have a
-/// cycle, the error contains it.
+/// cycle, the error contains a cycle.
 pub fn read_apps(
     alloc: Global,
     members: &Members<'_>,
