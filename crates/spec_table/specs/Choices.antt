@@ -81,6 +81,6 @@ read_choice procs confs factors at done d =
     chain (read_conf_id confs (member_path at (codes "to")) to) (λ (to : ConfId).
     Ok (record { from = from; wants = wants; up = up; to = to })))))))))))
 
--- The 0 to 64 rules of the choice table that a value encodes, or the first document rule that it breaks.
+-- The 0 to 64 rules of the choice table that a value encodes, or the first document rule that the value breaks.
 abbrev pub read_choices : List Proc → List Conf → List Factor → List ℕ → Data → Result (List Choice) DocFault
 read_choices procs confs factors at d = elements_at (read_choice procs confs factors) 0 64 at d

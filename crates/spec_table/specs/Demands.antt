@@ -57,8 +57,8 @@ read_modes_on apps at d = chain (list_at 0 8 at d) (λ (ds : Items). folded_from
 abbrev pub on_set : List (Option (List Mode)) → ℕ
 on_set on = bits_below (λ a. is_some (given on a)) 8
 
--- The requirements of a demand on processors, applications and the chosen configuration, read from the members of its
--- object at path `at`, or the first document rule that the members break.
+-- The requirements of a demand on processors, applications and the chosen configuration, or the first document rule
+-- that they break. They are read from members of the demand's object at path `at`.
 abbrev pub read_requirements : List Proc → List AppSpec → List Conf → List ℕ → Data → Data → Data → Data → Data → Result Requirements DocFault
 read_requirements procs apps confs at up down to on off =
     chain (read_procs_set procs 0 (member_path at (codes "up")) up) (λ (up : ℕ).
@@ -88,6 +88,6 @@ read_demand procs apps confs factors at done d =
     chain (read_requirements procs apps confs at up down to on off) (λ (asked : Requirements).
     Ok (record { name = name; from = from; wants = wants; up = asked.up; down = asked.down; to = asked.to; on = asked.on; off = asked.off })))))))))))))))
 
--- The 0 to 64 demands that a value encodes, or the first document rule that it breaks.
+-- The 0 to 64 demands that a value encodes, or the first document rule that the value breaks.
 abbrev pub read_demands : List Proc → List AppSpec → List Conf → List Factor → List ℕ → Data → Result (List Demand) DocFault
 read_demands procs apps confs factors at d = elements_at (read_demand procs apps confs factors) 0 64 at d

@@ -102,7 +102,7 @@ pub record FitsPrecondition (apps : List AppSpec) (confs : List Conf) (pre : Pre
   pub conf : IsIn confs pre.conf
   pub interval : FitsInterval apps (record { app = pre.app; variable = pre.variable; ends = record { least = pre.least; greatest = pre.greatest } })
 
--- No number is in both of two sets.
+-- No number is in both sets.
 abbrev pub IsApart : ℕ → ℕ → Type 0
 IsApart set other = (n : ℕ) → has_bit set n ≡ true → has_bit other n ≡ false
 
@@ -125,7 +125,7 @@ pub record ListsModes (found : Option AppSpec) (modes : List Mode) : Type 0 wher
   pub few : length modes ≤ 3
   pub each : AllAfter (IsNewOn found) modes
 
--- Each application that must be on exists and lists the modes.
+-- Each application that must be on exists and lists the modes that are allowed for it.
 abbrev pub AreOn : List AppSpec → List (Option (List Mode)) → Type 0
 AreOn apps on = (a : ℕ) (modes : List Mode) → given on a ≡ Some modes → ListsModes (slice_get apps a) modes
 

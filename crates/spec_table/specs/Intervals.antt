@@ -68,7 +68,7 @@ read_invariant apps confs at done d =
     chain (read_interval apps at app variable least greatest) (λ (i : Interval).
     Ok (record { from = from; app = i.app; variable = i.variable; least = i.ends.least; greatest = i.ends.greatest }))))))))))
 
--- The 0 to 64 invariants that a value encodes, or the first document rule that it breaks.
+-- The 0 to 64 invariants that a value encodes, or the first document rule that the value breaks.
 abbrev pub read_invariants : List AppSpec → List Conf → List ℕ → Data → Result (List Invariant) DocFault
 read_invariants apps confs at d = elements_at (read_invariant apps confs) 0 64 at d
 
@@ -87,6 +87,6 @@ read_precondition apps confs at done d =
     chain (read_interval apps at app variable least greatest) (λ (i : Interval).
     Ok (record { conf = conf; app = i.app; variable = i.variable; least = i.ends.least; greatest = i.ends.greatest }))))))))))
 
--- The 0 to 64 preconditions that a value encodes, or the first document rule that it breaks.
+-- The 0 to 64 preconditions that a value encodes, or the first document rule that the value breaks.
 abbrev pub read_preconditions : List AppSpec → List Conf → List ℕ → Data → Result (List Precondition) DocFault
 read_preconditions apps confs at d = elements_at (read_precondition apps confs) 0 64 at d
