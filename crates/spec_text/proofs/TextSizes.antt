@@ -180,7 +180,8 @@ assumption_short spec is =
     let window = count_short spec.window (omega (arith, most)) in
     omega (arith, halts, changes, window)
 
--- Lemmas on the length of a demand's text. Its names need no escapes, so their lengths are counted exactly.
+-- Lemmas on the length of a demand's text. The names in the text need no escapes, so their lengths are counted
+-- exactly.
 
 -- The weight of a value by the exact lengths of its texts is at most its weight by `widest`.
 mutual

@@ -348,7 +348,7 @@ fn make_assumption(alloc: Global, spec: &Spec) -> Result<Value, AllocError>
     json!(in alloc; {"changes": spec.changes, "halts": spec.halts, "window": spec.window})
 }
 
-/// Writes the members to which the rest of the document refers: processors, applications, configurations and factors.
+/// Writes the members to which the other members refer by name: processors, applications, configurations and factors.
 fn put_named(members: &mut Map<String, Value>, alloc: Global, spec: &Spec) -> Result<(), AllocError>
     ensures { OnOk result (members_view members.new.entries ≡ with_named spec.now (members_view members.old.entries)) }
 {
