@@ -45,7 +45,7 @@ taken (suc i) j [] x e = absurd (let none : None ≡ Some x = e in cc)
 taken (suc i) zero (y ∷ ys) x e = (omega arith, e)
 taken (suc i) (suc j) (y ∷ ys) x e = let rest = taken i j ys x e in (omega (arith, rest.0), rest.1)
 
--- A mode is one that an application lists, and is not among the modes before it.
+-- The application lists the mode, and the mode is not among the modes before it.
 record NewMode (app : AppSpec) (done : List Mode) (mode : Mode) : Type 0 where
   new : is_among done mode.0 ≡ false
   listed : IsSome (mode_in app.modes mode.0)
