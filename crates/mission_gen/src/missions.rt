@@ -76,7 +76,7 @@ fn make_script(alloc: Global, n: u32) -> Result<Script, NoMemory>
 }
 
 /// Returns mission `n`: the specification of the aircraft with four further factors, and a script of 1,000 to 19,000
-/// frames. The script fits the specification and keeps to its failure assumption.
+/// frames. The script fits the specification and keeps to the failure assumption of the specification.
 ///
 /// # Errors
 ///
