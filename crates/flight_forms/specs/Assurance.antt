@@ -1,4 +1,4 @@
--- The assurances that status 0 gives about flights.
+-- The assurances of status 0 for the forms that fly missions.
 use Rattle.std.specs.Prelude.{◌≡◌, ℕ, List, []}
 use Rattle.scram_types.specs.Scripts.{ScriptParts}
 use Rattle.scram_types.specs.Specification.{Parts}

@@ -19,7 +19,7 @@ use Rattle.flight_forms.specs.Summaries.{last_run, longest_duration}
 abbrev pub script_line : DocFault → List ℕ
 script_line fault = codes "refused: script" ++ rule_text fault.rule fault.path ++ codes "\n"
 
--- The text of the way in which a script leaves the failure assumption.
+-- The word for the way in which a script leaves the failure assumption.
 abbrev pub outside_kind_text : OutsideKind → List ℕ
 outside_kind_text Halts = codes "halts"
 outside_kind_text Changes = codes "changes"

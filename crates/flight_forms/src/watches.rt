@@ -1,4 +1,5 @@
-//! The form `watch`, which flies a mission with a thread for each processor, while readers read its summary.
+//! The form `watch`, which flies a mission with a thread for each processor, while readers read the summary of the
+//! flight.
 
 ghost use Rattle.std.specs.Prelude.{◌≡◌, ◌∷◌, [], IfOk};
 ghost use Rattle.form_base.specs.Answers.{Gives};
