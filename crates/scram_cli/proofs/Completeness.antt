@@ -28,7 +28,7 @@ use Rattle.flight_forms.specs.Missions.{UnlessRefused, mission_refusal, refusal_
 use Rattle.flight_forms.specs.Texts.{flight_text}
 use Rattle.scram_cli.specs.Laws.{EndsAnswered, HasRoomFor, HoldsMission, MissionsAreAnswered}
 
--- If a value is read from bytes, there are at most as many bytes as the limit allows.
+-- If a value is read from bytes, the number of bytes is within the limit.
 short_by : {A E : Type 0} (few : Bool) (read : Result A E) (fault : E) (value : A) → cond few read (Err fault) ≡ Ok value → few ≡ true
 short_by true read fault value is = refl
 short_by false read fault value is = absurd (let e = is in cc)
@@ -42,7 +42,7 @@ record RestAnswers (map : FileMap) (Answers : Answer) (before after : FilesState
   agrees : Agrees map rest
   answers : Answers between after rest status text
 
--- If the file exists, is not too long, and no fault count rose, the answer is the one to the file's bytes.
+-- If the file exists and is not too long, and no fault count rose, the answer is the answer to the file's bytes.
 
 bytes_answered : (limit : ℕ) (name : List ℕ) (A : List ℕ → Answer) (map : FileMap) (bytes : List ℕ) (before after : FilesState) (reads : History)
     (status : ℕ) (text : List ℕ) → file_at name map ≡ Some bytes → Agrees map reads → AnswersBytes limit name A before after reads status text
