@@ -1,4 +1,4 @@
--- If `fill` answers with status 0, its assurance holds.
+-- If `fill` answers with status 0, `AssuresFill` holds.
 use Rattle.std.proofs.Common.{◌≡◌, ℕ, List, refl}
 use Rattle.std.specs.Prelude.{Option, Some, None}
 use Rattle.scram_types.specs.Specification.{Parts}
