@@ -10,7 +10,7 @@ use std::sync::atomic::{AtomicU64, Ordering};
 pub struct Calls {
     /// The numbers of calls of the boxes: `kinds[k]` is the number of calls of the box of kind `k`.
     pub kinds: [AtomicU64; 5],
-    /// The number of calls that waited for a call of another rack that did not come.
+    /// The number of calls that waited in vain for a call of another rack.
     pub in_vain: AtomicU64,
 }
 
