@@ -1,6 +1,7 @@
-//! The files of a row, and the lines of the row that change them:
+//! The files of a row, and the lines of the row that determine the files, the sink and the boxes:
 //!
-//! - The first file is in the data folder. Each line `~ PIECE => OTHER` replaces a piece of it.
+//! - The first file is in the data folder. Each line `~ PIECE => OTHER` replaces the first occurrence of `PIECE` in
+//!   the file by `OTHER`.
 //! - The second file has the lines of the row that begin with `= `. It is missing if no line begins with `=`.
 //! - The third file has the lines of the row that begin with `- `. It is missing if no line begins with `-`.
 //! - `! read N` and `! put N`: A read or a put that fails, counted from 0. If a put fails, the number of lines that
@@ -83,8 +84,8 @@ fn pad(alloc: Global, text: String, row: &str, words: &str) -> io::Result<String
     }
 }
 
-/// Returns the file of the lines of a row that begin with a mark, each without the mark and the space after it. A line
-/// that is only the mark adds no line to the file, but makes the file exist.
+/// Returns the text of the lines of a row that begin with a mark, each without the mark and the space after it.
+/// Returns `None` if there is no such line. A line that is only the mark adds no text.
 fn listed_file(alloc: Global, row: &str, mark: &str) -> io::Result<Option<String>> {
     let mut file = None;
     for line in row.split('\n') {

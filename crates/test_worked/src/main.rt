@@ -1,5 +1,5 @@
 //! A test of worked rows. The rows of `rows.txt` are separated by blank lines. The title of a row has the words of
-//! the command, and its other lines change the files that the words name. The program prints the answer of the
+//! the command, and its other lines determine the files that the words name. The program prints the answer of the
 //! command. Of a flight's frames, it prints only those whose numbers follow `: `.
 //!
 //! The expected output is worked out by hand from the rules, with four exceptions:
