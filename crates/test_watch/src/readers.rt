@@ -152,7 +152,7 @@ fn read_flight<'a, R: AllocGlobal + Threads + Wait + Sync>(
     }
 }
 
-/// Prints whether a flight is that on one thread, and the results of its readers.
+/// Prints whether a flight equals that on one thread, and the results of the readers of the flight.
 fn print_watched(rt: &HostRuntime, watched: &Watched, flown: &Flown) -> io::Result<()> {
     println!(rt; "as on one thread: {}", is_same(&watched.flown, flown))?;
     print_seen(rt, "one", watched.one)?;
