@@ -135,7 +135,7 @@ fn snapshot(spec: &Spec, sys: &Sys, input: &Input, images: &[Image; 8]) -> Snaps
     }
 }
 
-/// Returns the start images. The image of each keeper has the areas that it keeps.
+/// Returns the start images. The image of each keeper has the areas that the keeper keeps.
 fn start_images(sys: &Sys) -> [Image; 8] {
     let mut images = [[0; 64]; 8];
     for a in 0..8 {
