@@ -94,13 +94,14 @@ pub record TookPrefix (old new : SinkState) (bytes : List ℕ) : Type 0 where
 abbrev pub TakesSurely : SinkState → SinkState → List ℕ → Type 0
 TakesSurely old new bytes = IfSome old.surely (λ room. length bytes ≤ room → Unrisen old.faults new.faults × (new.surely ≡ Some (room - length bytes)))
 
--- The sink took all of the bytes, and the count of faults did not fall.
+-- The sink took all of the bytes, the count of faults did not fall, and `TakesSurely` holds.
 pub record Printed (old new : SinkState) (bytes : List ℕ) : Type 0 where
   pub count : old.faults ≤ new.faults
   pub whole : Took old new bytes
   pub surely : TakesSurely old new bytes
 
--- The sink failed: it took a prefix of the bytes, and the count of faults rose or is at the maximum.
+-- The sink failed: it took a prefix of the bytes, and the count of faults rose or is at the maximum. `TakesSurely`
+-- holds.
 pub record CutOff (old new : SinkState) (bytes : List ℕ) : Type 0 where
   pub count : old.faults ≤ new.faults
   pub prefix : TookPrefix old new bytes
@@ -111,7 +112,7 @@ pub record CutOff (old new : SinkState) (bytes : List ℕ) : Type 0 where
 abbrev pub Prints : {A E : Type 0} → Result A E → SinkState → SinkState → List ℕ → Type 0
 Prints result old new bytes = MatchResult result (λ _. Printed old new bytes) (λ _. CutOff old new bytes)
 
--- The sink neither took nor lost bytes, and the count of faults did not fall.
+-- The sink neither took nor lost bytes, the count of faults did not fall, and `TakesSurely` holds for the empty list.
 pub record Flushed (old new : SinkState) : Type 0 where
   pub same : taken new ≡ taken old
   pub count : old.faults ≤ new.faults
