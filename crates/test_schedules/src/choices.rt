@@ -14,8 +14,8 @@ use scram_types::ProcId;
 /// A rule that chooses the actor of the next event. Actors without a next event are skipped.
 #[derive(Clone, Copy, Debug)]
 pub enum Rule {
-    /// The actor after that of the last event, in the order of the processors and then the kernel. After the kernel,
-    /// the first processor follows.
+    /// The first actor that has a next event, from the actor after that of the last event on. The order has the
+    /// processors and then the kernel, and begins again after the kernel.
     InTurns,
     /// The first processor that has a next event, or the kernel if none has one.
     LeastFirst,
@@ -102,8 +102,8 @@ fn seed_of(rule: Rule) -> u64
     }
 }
 
-// Returns the place after the given place of the last event's actor. It is the first place if that actor is the
-// kernel, or if there has been no event.
+// Returns the place that follows the place `last` of the last event's actor. It is the first place if that actor is
+// the kernel, or if there has been no event.
 fn place_in_turn(procs: usize, last: Option<usize>) -> usize
     requires { procs ≤ 8 }
     ensures place { result ≡ place_in_turn procs last }
