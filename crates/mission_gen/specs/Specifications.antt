@@ -20,7 +20,7 @@ generated_text = GENERATED.now
 abbrev pub mission_text : Parts → ScriptParts → List ℕ
 mission_text spec script = spec_text spec ++ codes "\n" ++ script_text spec script ++ codes "\n"
 
--- A text encodes a specification.
+-- The text encodes a specification.
 pub record GivesSpecification (text : List ℕ) : Type 0 where
   pub spec : Parts
   pub given : spec_of text ≡ Ok spec

@@ -17,7 +17,8 @@ use reconf_spec::{SpecError, read_spec, write_spec};
 use scram_types::{HaltAt, List, NoMemory, ProcId, Script, Spec};
 use std::alloc::Global;
 
-/// Returns the specification that a text encodes. The text must encode one. Returns an error if memory runs out.
+/// Returns the specification that a text encodes. The text must encode a specification. Returns an error if memory
+/// runs out.
 fn read_text(alloc: Global, text: &str) -> Result<Spec, NoMemory>
     requires { GivesSpecification text.now }
     ensures { IfOk result (λ spec. spec_of text.now ≡ Ok spec) }
