@@ -29,7 +29,7 @@ abbrev pub outside_line : Outside → List ℕ
 outside_line outside = codes "refused: outside at frame " ++ decimal outside.frame ++ codes ": " ++ outside_kind_text outside.kind ++ codes "\n"
 
 -- The line for the flight of a mission with a number. It has the number of frames, the number of reconfigurations,
--- the duration of the longest finished reconfiguration in frames, and the last configuration that was run.
+-- the duration in frames of the longest finished reconfiguration, and the last configuration that was run.
 abbrev pub fly_line : ℕ → Parts → List Row → List Report → List ℕ
 fly_line number spec rows reports =
     codes "fly " ++ decimal number ++ counts_text rows reports ++ codes " longest " ++ decimal (longest_duration reports)

@@ -38,7 +38,7 @@ pub fn make_outside_line(outside: &Outside) -> Line
 }
 
 /// Returns the line for the flight of a mission with a number. It has the number of frames, the number of
-/// reconfigurations, the duration of the longest finished reconfiguration in frames, and the last configuration that
+/// reconfigurations, the duration in frames of the longest finished reconfiguration, and the last configuration that
 /// was run.
 pub fn make_fly_line(number: u32, spec: &Spec, flown: &Flown) -> Line
     requires rows { length flown.now.rows < 2 ^ 32 }
