@@ -213,7 +213,7 @@ assumption_data spec = object (
 abbrev pub start_data : Parts → Data
 start_data spec = string (name_of_item name_of_conf spec.confs spec.start.0)
 
--- The canonical value of a specification in version 1, whose policy is to retarget.
+-- The canonical value, in version 1, of a specification whose policy is to retarget.
 abbrev pub retarget_data : Parts → Data
 retarget_data spec = object (
     member (codes "apps") (list_data (app_data spec.apps) spec.apps) (
@@ -229,7 +229,7 @@ retarget_data spec = object (
     member (codes "scram") (count_data 1) (
     member (codes "start") (start_data spec) no_members))))))))))))
 
--- The canonical value of a specification in version 2, whose policy is to settle.
+-- The canonical value, in version 2, of a specification whose policy is to settle.
 abbrev pub settle_data : Parts → Data
 settle_data spec = object (
     member (codes "apps") (list_data (app_data spec.apps) spec.apps) (
