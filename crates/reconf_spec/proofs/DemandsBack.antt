@@ -38,7 +38,7 @@ use Rattle.reconf_spec.proofs.Lookups.{all_new, number_back}
 use Rattle.reconf_spec.proofs.RestBack.{NewWant, want_back}
 use Rattle.reconf_spec.proofs.Sets.{IsFree, all_free, set_back}
 
--- An item of a prefix of a list is an item of the whole list.
+-- Item `j` of the first `i` items of a list is item `j` of the list, and `j` is below `i`.
 taken : {A : Type 0} (i j : ℕ) (xs : List A) (x : A) → slice_get (take i xs) j ≡ Some x → (j < i) × (slice_get xs j ≡ Some x)
 taken zero j xs x e = absurd (let none : None ≡ Some x = e in cc)
 taken (suc i) j [] x e = absurd (let none : None ≡ Some x = e in cc)
