@@ -26,7 +26,8 @@ use Rattle.spec_table.specs.Choices.{read_conf_id, read_source}
 abbrev pub read_app_id : List AppSpec → List ℕ → Data → Result AppId DocFault
 read_app_id apps at d = ok_map (λ (a : ℕ). record { 0 = a }) (read_named name_of_app apps UNKNOWN_APPLICATION at d)
 
--- The variable of the application's kind that a value names, or the first document rule that the value breaks.
+-- The variable of the application's kind that a value names, or the first document rule that the value breaks. If the
+-- application is `None`, it has no variable.
 abbrev pub read_variable : Option AppSpec → List ℕ → Data → Result ℕ DocFault
 read_variable None at d = broken UNKNOWN_VARIABLE at
 read_variable (Some app) at d =
