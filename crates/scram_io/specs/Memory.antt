@@ -81,7 +81,7 @@ empty_sink room failing = record { bytes = []; room = room; failing = failing; p
 abbrev pub put_takes : SinkHeld → List ℕ → Bool
 put_takes held bytes = not (is_listed held.failing held.puts) && nat_le (length held.bytes + length bytes) held.room
 
--- The sink after a put of these bytes.
+-- The sink after a put of these bytes. If the put does not take the bytes, the count of faults rises.
 abbrev pub after_put : SinkHeld → List ℕ → SinkHeld
 after_put held bytes =
     if put_takes held bytes then record held { bytes = held.bytes ++ bytes; puts = counted held.puts }
