@@ -1,4 +1,4 @@
-//! The values in the summary line of a flight that are computed from its rows and reports.
+//! The values of a flight's summary line that are computed from the rows and reports of the flight.
 
 ghost use Rattle.std.specs.Prelude.{◌≡◌};
 ghost use Rattle.flight_forms.specs.Summaries.{duration, last_run, longest_duration};
