@@ -12,12 +12,13 @@ pub record IsRead (spec_bytes script_bytes : List ℕ) (spec : Parts) (script : 
   pub spec_reads : spec_of spec_bytes ≡ Ok spec
   pub script_reads : script_of spec script_bytes ≡ Ok script
 
--- The canonical texts of both were written, after everything that the sink took before.
+-- The canonical texts of the specification and the script were sent, after all bytes that the sink had taken before.
+-- No bytes are held back.
 pub record AreSent (spec : Parts) (script : ScriptParts) (old new : SinkState) : Type 0 where
   pub sent : new.sent ≡ taken old ++ mission_text spec script
   pub held : new.held ≡ []
 
--- The canonical text of each value that the bytes encode was written.
+-- The bytes encode a specification and a script, and the canonical texts of both were sent.
 pub record IsPrinted (spec_bytes script_bytes : List ℕ) (old new : SinkState) : Type 0 where
   pub spec : Parts
   pub script : ScriptParts

@@ -29,7 +29,8 @@ pub enum Refusal<'a> {
     Output(#[from] SinkFault),
 }
 
-/// Returns the bytes of a file, which may be as long as a script.
+/// Returns the bytes of a file of at most `MAX_SCRIPT_BYTES` bytes. Returns an error if the file cannot be read or is
+/// longer, or if memory runs out.
 pub fn load<'a, F: Files>(
     alloc: Global,
     files: &mut F,
@@ -44,7 +45,7 @@ pub fn load<'a, F: Files>(
     }
 }
 
-/// Reads both documents.
+/// Reads a specification and a script for it. Returns an error if one of them breaks a rule, or if memory runs out.
 pub fn read<'a>(alloc: Global, spec: &[u8], script: &[u8]) -> Result<(Spec, Script), Refusal<'a>>
     ensures { IfOk result (λ read. IsRead spec.now script.now read.0 read.1) }
 {
@@ -64,7 +65,8 @@ pub fn read<'a>(alloc: Global, spec: &[u8], script: &[u8]) -> Result<(Spec, Scri
     }
 }
 
-/// Reads both documents once, writes them `times` times, at least once, and prints their canonical texts.
+/// Reads a specification and a script once, writes both `times` times, or once if `times` is 0, and prints their
+/// canonical texts.
 pub fn print<'a, K: Sink>(
     alloc: Global,
     spec: &[u8],

@@ -1,7 +1,8 @@
 //! Reads or writes a specification and a script a given number of times, so that one reading or writing can be timed.
 //!
-//! `read SPECIFICATION SCRIPT TIMES` reads both documents `TIMES` times. `write SPECIFICATION SCRIPT TIMES` reads both
-//! once, writes both `TIMES` times, at least once, and prints the canonical texts, one on each line.
+//! `read SPECIFICATION SCRIPT TIMES` reads both documents `TIMES` times. `write SPECIFICATION SCRIPT TIMES` reads
+//! both once, and writes both `TIMES` times, or once if `TIMES` is 0. It then prints the canonical texts, one on each
+//! line.
 #![tactic(auto)]
 
 mod documents;

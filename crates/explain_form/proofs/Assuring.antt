@@ -1,4 +1,4 @@
--- Each answer of `explain` with status 0 gives the assurance of the form.
+-- If `explain` answers with status 0, `AssuresExplain` or `AssuresExplainScript` holds.
 use Rattle.std.proofs.Common.{◌≡◌, ℕ, List, [], ap, arith, refl}
 use Rattle.std.specs.Prelude.{◌≢◌, Option, Some, None}
 use Rattle.scram_types.specs.Scripts.{ScriptParts}

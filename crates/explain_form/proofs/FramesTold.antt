@@ -11,7 +11,7 @@ use Rattle.fault_script.specs.Assumption.{brings_too_many_down, first_outside, i
 use Rattle.form_base.specs.Texts.{texts_below}
 use Rattle.explain_form.specs.Outsides.{change_frame_text, change_frames_text}
 
--- If the numbers of the frames up to frame `last` were appended, the line of the change frames up to `last` is
+-- If the numbers of the change frames up to frame `last` were appended, the start of the line of change frames is
 -- complete.
 pub frames_told : (spec : Parts) (script : ScriptParts) (last n : ℕ) (old mid text : List ℕ) → mid ≡ old ++ codes "  frames" → last + 1 ≤ n → n ≤ last + 1
     → text ≡ mid ++ texts_below (change_frame_text spec script last) n → text ≡ old ++ change_frames_text spec script last

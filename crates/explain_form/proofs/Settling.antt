@@ -1,4 +1,4 @@
--- Lemmas that give the answers of `explain` from the texts that are made.
+-- Lemmas that derive the answers of `explain` from the texts that are made.
 use Rattle.std.proofs.Common.{◌≡◌, sym, subst}
 use Rattle.std.specs.Prelude.{Option, Some, None, Result}
 use Rattle.scram_types.specs.Scripts.{ScriptParts}

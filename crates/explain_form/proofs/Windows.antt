@@ -22,12 +22,12 @@ module _ (spec : Parts) (script : ScriptParts) where
     abbrev before : ℕ
     before = suc (last - spec.window)
 
-    -- No frame before the window is shown. Frame 0 is never shown, since it is not a change frame.
+    -- No frame before the window is printed. Frame 0 is never printed, since it is not a change frame.
     none_before : (f : ℕ) → f < before → is_change_told spec script last f ≡ false
     none_before zero low = and-false (is_in_window spec last 0)
     none_before (suc f) low = rw (not_below_test last (suc f + spec.window) (omega (arith, low))) refl
 
-    -- A frame at or after the start of the window is shown if and only if it is a change frame.
+    -- A frame at or after the start of the window is printed if and only if it is a change frame.
     same_after : (f : ℕ) → before ≤ f → is_change_told spec script last f ≡ is_change_frame spec script f
     same_after f high = rw (below_test last (f + spec.window) (omega (arith, high))) refl
 

@@ -10,12 +10,11 @@ use Rattle.fault_script.specs.Environments.{env_at}
 use Rattle.form_base.specs.Lines.{added, names_down}
 use Rattle.form_base.specs.Texts.{texts_below}
 
--- Whether frame `f` is at or after the start of the window that ends with frame `last`.
+-- Frame `f` is at or after the start of the window that ends with frame `last`.
 abbrev pub is_in_window : Parts → ℕ → ℕ → Bool
 is_in_window spec last f = nat_lt last (f + spec.window)
 
--- Whether the environment changes in frame `f`, and `f` is at or after the start of the window that ends with frame
--- `last`.
+-- The environment changes in frame `f`, and `f` is at or after the start of the window that ends with frame `last`.
 abbrev pub is_change_told : Parts → ScriptParts → ℕ → ℕ → Bool
 is_change_told spec script last f = is_in_window spec last f && is_change_frame spec script f
 
@@ -28,20 +27,21 @@ frame_text f = codes " " ++ decimal f
 abbrev pub change_frame_text : Parts → ScriptParts → ℕ → ℕ → List ℕ
 change_frame_text spec script last f = if is_change_told spec script last f then frame_text f else []
 
--- The end of the line of change frames, with the maximum number of them that the assumption allows.
+-- The end of the line of change frames, with the maximum number of change frames that the assumption allows.
 abbrev pub assumed_line : Parts → List ℕ
 assumed_line spec = codes " change, at most " ++ decimal (spec.changes + 1) ++ codes " in " ++ decimal spec.window ++ codes " frames\n"
 
--- The start of the line of change frames, with those of the window that ends with frame `last`.
+-- The start of the line of change frames, with the change frames of the window that ends with frame `last`.
 unfoldable pub change_frames_text : Parts → ScriptParts → ℕ → List ℕ
 change_frames_text spec script last = codes "  frames" ++ texts_below (change_frame_text spec script last) (suc last)
 
--- The line of the change frames of the window that ends with frame `last`, and the maximum number of them that the
--- assumption allows.
+-- The line of the change frames of the window that ends with frame `last`. It ends with the maximum number of change
+-- frames that the assumption allows.
 abbrev pub too_many_changes_text : Parts → ScriptParts → ℕ → List ℕ
 too_many_changes_text spec script last = change_frames_text spec script last ++ assumed_line spec
 
--- The line of the processors that are down in frame `f`, and the maximum number of them that the assumption allows.
+-- The line of the processors that are down in frame `f`. It ends with the maximum number of such processors that the
+-- assumption allows.
 abbrev pub down_line : Parts → ScriptParts → ℕ → List ℕ
 down_line spec script f =
     codes "  down " ++ added (names_down spec.procs (env_at spec script f).up) ++ codes ", at most " ++ decimal spec.halts ++ codes "\n"

@@ -17,8 +17,8 @@ use Rattle.explain_form.specs.Outsides.{outside_text}
 abbrev pub accepted_text : Parts → List ℕ
 accepted_text spec = accepted_line spec ++ idle_text spec
 
--- The text for a specification that is not accepted, which is the refusal and the lines for the places at which its
--- condition does not hold.
+-- The text for a specification that is not accepted: the refusal, and the lines for the places at which the condition
+-- of the refusal does not hold.
 abbrev pub refused_text : Parts → Shown → List ℕ
 refused_text spec shown = shown_line spec shown ++ breaks_text spec shown.condition
 

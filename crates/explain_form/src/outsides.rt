@@ -26,7 +26,7 @@ pub(crate) fn make_outside(
     requires { outside.now.frame ≤ script.now.frames }
     ensures { IfOk result (λ text. text.items ≡ outside_text spec.now script.now outside.now) }
 {
-    // Using a field of a script shows that it has at most 20,000 frames.
+    // A use of a field proves that the script has at most 20,000 frames.
     let _ = &script.frames;
     let mut text = Vec::new(alloc);
     match outside.kind {
@@ -38,8 +38,8 @@ pub(crate) fn make_outside(
     Ok(text)
 }
 
-// Returns the line of the processors that are down in a frame, and the maximum number of them that the assumption
-// allows.
+// Returns the line of the processors that are down in a frame. It ends with the maximum number of such processors
+// that the assumption allows.
 fn make_down_line(spec: &Spec, script: &Script, frame: u32) -> Line
     ensures { result ≡ down_line spec.now script.now frame }
 {
@@ -109,7 +109,7 @@ fn make_frame(frame: u32) -> Line
     line
 }
 
-// Returns the end of the line of change frames, with the maximum number of them that the assumption allows.
+// Returns the end of the line of change frames, with the maximum number of change frames that the assumption allows.
 fn make_assumed_line(spec: &Spec) -> Line
     ensures { result ≡ assumed_line spec.now }
 {

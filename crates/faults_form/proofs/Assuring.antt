@@ -1,4 +1,4 @@
--- Each answer of `faults` with status 0 gives the assurance of the form.
+-- If `faults` answers with status 0, `AssuresFaults` holds.
 use Rattle.std.proofs.Common.{◌≡◌, ℕ, List, refl}
 use Rattle.std.specs.Prelude.{Option, Some, None}
 use Rattle.scram_types.specs.Specification.{IsSpec, Parts}

@@ -15,7 +15,7 @@ use Rattle.faults_form.specs.Counts.{number}
 use Rattle.faults_form.specs.Families.{family_text}
 
 -- The status and the text with which `faults` answers. If `shown` is a refusal of the specification, the text is the
--- line of the refusal. If it is `None`, the text consists of the lines of the scripts with `count` faults.
+-- line of the refusal. If `shown` is `None`, the text consists of the lines of the scripts with `count` faults.
 abbrev pub faults_answer : Parts → FaultCount → Option Shown → ℕ × List ℕ
 faults_answer spec count (Some shown) = (NOT_ACCEPTED, shown_line spec shown)
 faults_answer spec count None = (ANSWERED, family_text spec (number count))
@@ -30,7 +30,7 @@ FaultsAnswers specification count =
     AsksSpecification specification (λ (spec : Parts). WithoutFiles (Gives (faults_answer spec count (first_refusal spec))))
 
 -- If `faults` ends with status 0, it has read only the file of the specification, the specification is accepted, and
--- the text consists of the lines of its scripts with `count` faults.
+-- the text consists of the lines of the specification's scripts with `count` faults.
 abbrev pub AssuresFaults : List ℕ → FaultCount → History → List ℕ → Type 0
 AssuresFaults specification count =
     OfSpecification specification (λ (spec : Parts) (reads : History) (text : List ℕ).

@@ -1,5 +1,5 @@
 //! The form `faults`, which prints the family of fault scripts of a specification: the scripts with a given number of
-//! faults that keep to its failure assumption.
+//! faults that keep to the failure assumption of the specification.
 
 ghost use Rattle.std.specs.Prelude.{◌≡◌, ◌+◌, ◌*◌, ◌≤◌, ◌∷◌, [], length};
 ghost use Rattle.coverage_check.specs.Acceptance.{first_refusal};

@@ -17,7 +17,7 @@ pub fn make_script_line(spec: &Spec, script: &FaultScript<'_>) -> Line
     requires { length script.now.faults.now ≤ 3 }
     ensures { result ≡ script_text spec.now (script_in_frames script.now.frames script.now.faults.now) ++ codes "\n" }
 {
-    // Using a field of a specification shows that it keeps its invariant.
+    // A use of a field proves that the specification satisfies its invariant.
     let _ = &spec.procs;
     spelled_script(spec, script)
 }

@@ -59,7 +59,8 @@ module _ (spec : Parts) where
       (all_of_each (λ (x : Bound). ⊤) spec.bounds (λ k x there. tt)))
       (all_missing spec IsLongEnough (λ i j left right missing asked. le_refl (least spec (conf_id i) (conf_id j))))
 
-  -- If each bound of a list is sufficient, then the first bound of the list for a pair is sufficient.
+  -- If each bound of a list is sufficient, the first bound of the list for a pair that requires a bound is
+  -- sufficient.
   first_for : (xs : List Bound) (i j : ConfId) → is_bound_asked spec i j.0 ≡ true → AllByRecursion IsLongEnough xs → gives xs i.0 j.0 ≡ true
       → option_map_or (λ (t : ℕ). nat_le (least spec i j) t) (bound_in xs i.0 j.0) false ≡ true
   first_for [] i j asked all some = absurd (cc)

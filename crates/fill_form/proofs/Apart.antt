@@ -14,11 +14,11 @@ use Rattle.scram_types.proofs.Options.{same_some}
 use Rattle.reconf_spec.specs.Writable.{lists_pair}
 use Rattle.spec_members.specs.Kept.{NoDuplicates}
 
--- Whether a bound is for the pair `i` and `j`.
+-- The bound is for the pair of configurations `i` and `j`.
 abbrev pub is_for : ℕ → ℕ → Bound → Bool
 is_for i j bound = bound.from.0 == i && bound.to.0 == j
 
--- Whether some bound of a list is for the pair `i` and `j`.
+-- Some bound of the list is for the pair of configurations `i` and `j`.
 abbrev pub gives : List Bound → ℕ → ℕ → Bool
 gives bounds i j = is_some (bound_in bounds i j)
 
@@ -119,7 +119,7 @@ new_of_apart (x ∷ xs) apart (suc i) y there =
     let other = turned x y (each_of_all (λ (z : Bound). is_for x.from.0 x.to.0 z ≡ false) xs (all_of_none xs x.from.0 x.to.0 apart.0) i y there) in
     gives_cons x (take i xs) y.from.0 y.to.0 ∙ rw (other, new_of_apart xs apart.1 i y there) refl
 
--- Lemmas that bounds for different pairs of configurations are at most 144.
+-- Lemmas that a list of bounds for different pairs of configurations has at most 144 bounds.
 
 -- Both configurations of the bound have indices below 12.
 abbrev pub IsNear : Bound → Type 0

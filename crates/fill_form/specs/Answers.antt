@@ -12,7 +12,7 @@ use Rattle.fill_form.specs.Filling.{filled_text}
 use Rattle.fill_form.specs.Refusing.{fill_refusal}
 
 -- The answer to `fill` about a specification. `shown` is the reason why the specification is not filled in, or `None`
--- if it is.
+-- if the specification is filled in.
 abbrev pub fill_answer : Parts → Option Shown → ℕ × List ℕ
 fill_answer spec (Some shown) = (NOT_ACCEPTED, shown_line spec shown)
 fill_answer spec None = (ANSWERED, filled_text spec)

@@ -6,7 +6,8 @@ use Rattle.scram_types.specs.Specification.{Parts, bound_in}
 use Rattle.coverage_check.specs.Timing.{greatest_bound, is_bound_asked, least}
 use Rattle.spec_text.specs.Texts.{spec_text}
 
--- A given bound, raised to the smallest sufficient length if it is required and shorter.
+-- A given bound. If the bound is required and shorter than the smallest sufficient length, it is raised to this
+-- length.
 abbrev pub raised : Parts → Bound → Bound
 raised spec bound = record {
   from = bound.from;
@@ -14,7 +15,7 @@ raised spec bound = record {
   frames = if is_bound_asked spec bound.from bound.to.0 then max bound.frames (least spec bound.from bound.to) else bound.frames;
 }
 
--- Whether a bound from `i` to `j` is required and not given.
+-- A bound from `i` to `j` is required and not given.
 abbrev pub is_bound_missing : Parts → ℕ → ℕ → Bool
 is_bound_missing spec i j = is_bound_asked spec (conf_id i) j && not (is_some (bound_in spec.bounds i j))
 

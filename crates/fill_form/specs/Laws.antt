@@ -7,7 +7,7 @@ use Rattle.reconf_spec.specs.Writable.{IsWritable}
 use Rattle.fill_form.specs.Filling.{filled}
 use Rattle.fill_form.specs.Refusing.{fill_refusal}
 
--- The filled-in specification keeps the invariant, can be written as a document, and is accepted.
+-- The filled-in specification satisfies `IsSpec`, can be written as a document, and is accepted.
 pub record IsFilledIn (spec : Parts) : Type 0 where
   pub sound : IsSpec (filled spec)
   pub writable : IsWritable (filled spec)

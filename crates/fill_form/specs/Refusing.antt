@@ -14,8 +14,8 @@ use Rattle.coverage_check.specs.Timing.{greatest_bound, is_bound_asked, least}
 use Rattle.fill_form.specs.declared.filling.Filling.{Filling}
 use Rattle.fill_form.specs.Filling.{filled_bounds}
 
--- Whether a bound from `i` to `j` is required and the smallest sufficient one is above the maximum length of a bound.
--- No bound that can be given is then sufficient.
+-- A bound from `i` to `j` is required, and the smallest sufficient bound is above the maximum length of a bound. In
+-- this case, no bound that can be given is sufficient.
 abbrev pub asks_too_long : Parts → ℕ → ℕ → Bool
 asks_too_long spec i j = is_bound_asked spec (conf_id i) j && nat_lt MAX_BOUND (least spec (conf_id i) (conf_id j))
 
@@ -37,13 +37,13 @@ wide_refusal greatest = shown_if (nat_lt MAX_WINDOW (greatest + 1)) (shown_nowhe
 abbrev pub length_refusal : Parts → Option Shown
 length_refusal spec = option_or (long_refusal spec) (wide_refusal (greatest_bound (filled_bounds spec)))
 
--- The reason why a specification is not filled in, or `None` if it is. There are too many environments in scope, or a
--- bound or a window would be too long.
+-- The reason why a specification is not filled in, or `None` if it is filled in. A reason is that too many
+-- environments are in scope, or that a bound or the window would be too long.
 abbrev pub fill_refusal : Parts → Option Shown
 fill_refusal spec = option_or (state_refusal spec) (length_refusal spec)
 
--- A filling holds sufficient bounds of a specification, the greatest of them, and the refusal if a bound or the window
--- would be too long.
+-- `filling` contains the filled-in bounds of the specification, the greatest of these bounds, and the refusal if a
+-- bound or the window would be too long.
 pub record IsFilling (spec : Parts) (filling : Filling) : Type 0 where
   pub bounds : filling.bounds.items ≡ filled_bounds spec
   pub greatest : filling.greatest ≡ greatest_bound (filled_bounds spec)

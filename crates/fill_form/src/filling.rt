@@ -1,4 +1,4 @@
-//! The search for sufficient bounds, and for the reason why they or the window may not be given.
+//! The search for sufficient bounds, and for the refusal if a bound or the window would be too long.
 
 ghost use Rattle.std.specs.Prelude.{◌≡◌, ◌<◌, ◌≤◌, ◌++◌, IfOk, OnOk, length, map};
 ghost use Rattle.std.specs.Option.{option_or};
@@ -82,8 +82,8 @@ fn raise_bounds(alloc: Global, spec: &Spec, sets: &[u16; 12]) -> Result<Vec<Boun
     Ok(bounds)
 }
 
-// Returns a given bound, raised to the smallest sufficient length if it is required and shorter. `set` holds the
-// configurations to which a bound from its source is required.
+// Returns a given bound. If the bound is required and shorter than the smallest sufficient length, it is raised to
+// this length. `set` contains the configurations to which a bound from the source of `bound` is required.
 fn raised(spec: &Spec, set: u16, bound: &Bound) -> Bound
     requires set { set ≡ asked_bounds spec.now bound.now.from }
     requires to { bound.now.to.0 < length spec.now.confs }

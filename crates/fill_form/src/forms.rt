@@ -28,7 +28,7 @@ use scram_types::{Bound, List, NoMemory, Spec};
 use std::alloc::Global;
 
 /// Prints the specification in a file with sufficient bounds and a sufficient window. If too many environments are in
-/// scope, or a bound or the window would be too long, it prints the refusal instead.
+/// scope, or a bound or the window would be too long, the refusal is printed instead.
 pub fn fill<F: Files, K: Sink>(
     alloc: Global,
     specification: &str,
@@ -74,7 +74,7 @@ fn fill_in(alloc: Global, spec: Spec) -> Result<Vec<u8>, Refusal>
     }
 }
 
-// Returns the refusal of a specification that shows the reason `shown`.
+// Returns the refusal of a specification for the reason `shown`.
 fn refuse(spec: Spec, shown: &Shown) -> Refusal
     ensures { answer_of result ≡ (NOT_ACCEPTED, shown_line spec shown.now) }
 {

@@ -27,7 +27,7 @@ pub(crate) fn refuse_long(spec: &Spec, sets: &[u16; 12]) -> Option<Shown>
 }
 
 // Returns the refusal of A9 for the first required bound from configuration `i` that would be too long, or `None` if
-// there is none. `set` holds the configurations to which a bound from `i` is required.
+// there is none. `set` contains the configurations to which a bound from `i` is required.
 fn refuse_long_of(spec: &Spec, set: u16, i: u8) -> Option<Shown>
     requires { set ≡ asked_bounds spec.now (conf_id i) }
     ensures { result ≡ long_refusal_of spec.now i }

@@ -1,4 +1,4 @@
--- Each flight that is answered with status 0 is assured.
+-- If a form that flies a mission answers with status 0, the flight is assured.
 use Rattle.std.proofs.Common.{◌≡◌, ℕ, List, [], refl, sym}
 use Rattle.std.specs.Prelude.{◌≢◌, Option, Some, None, Result, Ok, Err}
 use Rattle.scram_types.specs.declared.rows.Flown.{Flown}
@@ -34,7 +34,8 @@ use Rattle.flight_forms.specs.Missions.{UnlessRefused, mission_refusal, refusal_
 use Rattle.flight_forms.specs.Texts.{flight_text, watch_text}
 use Rattle.bank_words.specs.declared.events.Event.{Event}
 
--- If the status is 0, the specification and the script form a mission, and the answer is the one for it.
+-- If the status is 0, the specification and the script form a mission, and the status and the text are the answer
+-- `A`.
 
 script_zero : (spec : Parts) (script : ScriptParts) (A : ℕ → List ℕ → Type 0) (outside : Option Outside) → Accepts spec → Fits spec script → first_outside spec script ≡ outside
     → (text : List ℕ) → UnlessRefused (script_refusal outside) A ANSWERED text → IsMission (mission_of spec script) × A ANSWERED text

@@ -1,4 +1,4 @@
--- Lemmas that give the answer of a form from the script or the schedule in a file.
+-- Lemmas that derive the answer of a form from the script or the schedule in a file.
 use Rattle.std.proofs.Common.{◌≡◌, ℕ, List, ◌∷◌}
 use Rattle.std.specs.Prelude.{Result}
 use Rattle.scram_types.specs.declared.limits.TheConstants.{MAX_SCRIPT_BYTES}

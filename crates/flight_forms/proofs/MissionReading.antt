@@ -1,4 +1,4 @@
--- Lemmas that give the answer to a mission from its specification and its script.
+-- Lemmas that derive the answer to a mission from its specification and its script.
 use Rattle.std.proofs.Common.{◌≡◌, ◌∙◌, ℕ, List, refl, sym, ap, arith, subst, inl, inr}
 use Rattle.std.specs.Prelude.{◌⊎◌, Option, Some, None, Result, Ok, Err}
 use Rattle.scram_types.specs.Scripts.{ScriptParts}
@@ -21,7 +21,7 @@ use Rattle.flight_forms.specs.Missions.{MakesMission, UnlessRefused, mission_ref
 use Rattle.flight_forms.specs.Replays.{MakesReplay, GivesReplay}
 use Rattle.bank_words.specs.declared.events.Event.{Event}
 
--- The answer is the refusal if there is one, and the rest of the answer otherwise.
+-- If there is a refusal, the answer is the refusal. Otherwise, the answer is `A`.
 unless_none : (refusal : Option (ℕ × List ℕ)) (A : ℕ → List ℕ → Type 0) (status : ℕ) (text : List ℕ) → refusal ≡ None → A status text → UnlessRefused refusal A status text
 unless_none refusal A status text none is = rw none is
 

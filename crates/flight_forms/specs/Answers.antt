@@ -22,17 +22,17 @@ use Rattle.flight_forms.specs.Missions.{UnlessRefused, mission_refusal}
 use Rattle.flight_forms.specs.Texts.{flight_text, watch_text}
 use Rattle.bank_words.specs.declared.events.Event.{Event}
 
--- The status is 0, and the text is the one that `text` gives for the mission.
+-- The status is 0, and the text is the value of `text` for the mission.
 abbrev pub GivesFlight : (MissionParts → List ℕ) → MissionParts → ℕ → List ℕ → Type 0
 GivesFlight text mission = Gives (ANSWERED, text mission)
 
--- The answer after a specification and a script have been read: the text that `text` gives for their mission, or the
--- refusal if they do not form a mission.
+-- The answer after a specification and a script have been read: the value of `text` for their mission, or the refusal
+-- if they do not form a mission.
 abbrev pub ScriptAnswers : (MissionParts → List ℕ) → Parts → ScriptParts → Answer
 ScriptAnswers text spec script = WithoutFiles (UnlessRefused (mission_refusal spec script) (GivesFlight text (mission_of spec script)))
 
--- The answer if `specification` and `script` are the names of the files of a mission: the text that `text` gives for
--- the mission, or a report of why the files do not hold one.
+-- The answer if `specification` and `script` are the names of the files of a mission: the value of `text` for the
+-- mission, or a report of why the files do not contain one.
 abbrev pub FlightAnswers : (MissionParts → List ℕ) → List ℕ → List ℕ → Answer
 FlightAnswers text specification script = AsksSpecification specification (λ (spec : Parts). AsksScript spec script (ScriptAnswers text spec))
 
@@ -55,13 +55,13 @@ replay_refusal spec (replay_error.Illegal index given next) = (BROKEN_SCHEDULE, 
 replay_refusal spec (replay_error.Short events next) = (BROKEN_SCHEDULE, short_line spec events next)
 replay_refusal spec replay_error.NoMemory = (OUT_OF_MEMORY, memory_line)
 
--- The status and the text of a replay, given its result. If the flight was flown to its end, the text is the trace of
--- the flight on one thread.
+-- The status and the text of a replay, given its result. If the result is a flight, the text is the trace of the
+-- mission's one-thread flight.
 abbrev pub replay_answer : Parts → ScriptParts → Result Flown ReplayError → ℕ × List ℕ
 replay_answer spec script (Ok flown) = (ANSWERED, flight_text Trace (mission_of spec script))
 replay_answer spec script (Err error) = replay_refusal spec error
 
--- The status and the text are those of a replay of a list, which has a result other than out of memory.
+-- The status and the text are those of a replay by the events `list`. The replay did not run out of memory.
 pub record IsReplayAnswer (spec : Parts) (script : ScriptParts) (list : List Event) (status : ℕ) (text : List ℕ) : Type 0 where
   pub flown : Result Flown ReplayError
   pub answers : AnswersReplay spec script list flown
@@ -95,7 +95,7 @@ pub record GenAnswers (number : ℕ) (status : ℕ) (text : List ℕ) : Type 0 w
   pub generated : IsGenerated number spec
   pub gives : Gives (ANSWERED, mission_text spec (generated_script number)) status text
 
--- The answer after the mission generated from a number was flown, which is its summary line or a refusal.
+-- The answer for the flight of the mission generated from a number: the mission's summary line, or a refusal.
 abbrev pub SummaryAnswers : ℕ → Parts → ScriptParts → ℕ → List ℕ → Type 0
 SummaryAnswers number spec script = UnlessRefused (mission_refusal spec script) (GivesFlight (flight_text (Summary number)) (mission_of spec script))
 

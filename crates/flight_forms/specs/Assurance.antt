@@ -1,4 +1,4 @@
--- The assurances that status 0 gives about flights.
+-- The assurances of status 0 for the forms that fly missions.
 use Rattle.std.specs.Prelude.{◌≡◌, ℕ, List, []}
 use Rattle.scram_types.specs.Scripts.{ScriptParts}
 use Rattle.scram_types.specs.Specification.{Parts}
@@ -18,8 +18,9 @@ use Rattle.flight_forms.specs.Documents.{SaysSchedule, SaysScript}
 use Rattle.flight_forms.specs.Texts.{flight_text, watch_text}
 use Rattle.bank_words.specs.declared.events.Event.{Event}
 
--- The specification is accepted, and the script keeps to its failure assumption. The text is the one that `told` gives
--- for their mission. The properties of reconfigurations hold for the rows and reports of the one-thread flight.
+-- The specification is accepted, and the script keeps to the failure assumption of the specification. The text is the
+-- value of `told` for their mission. The properties of reconfigurations hold for the rows and reports of the
+-- mission's one-thread flight.
 pub record IsAssured (told : MissionParts → List ℕ) (spec : Parts) (script : ScriptParts) (text : List ℕ) : Type 0 where
   pub mission : IsMission (mission_of spec script)
   pub whole : text ≡ told (mission_of spec script)
@@ -64,7 +65,7 @@ pub record AssuresFly (number : ℕ) (reads : History) (text : List ℕ) : Type 
   pub generated : IsGenerated number spec
   pub assured : IsAssured (flight_text (Summary number)) spec (generated_script number) text
 
--- Each answer of `run`, `watch`, `replay`, `gen` or `fly` with status 0 gives the assurance of its form.
+-- If `run`, `watch`, `replay`, `gen` or `fly` answers with status 0, the assurance of its form holds.
 pub record FlightsAreAssured : Type 0 where
   pub run : (specification script : List ℕ) → IsAssuring (RunAnswers specification script) (AssuresRun specification script)
   pub watch : (specification script : List ℕ) → IsAssuring (WatchAnswers specification script) (AssuresWatch specification script)

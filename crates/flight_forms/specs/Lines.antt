@@ -19,7 +19,7 @@ use Rattle.flight_forms.specs.Summaries.{last_run, longest_duration}
 abbrev pub script_line : DocFault → List ℕ
 script_line fault = codes "refused: script" ++ rule_text fault.rule fault.path ++ codes "\n"
 
--- The text of the way in which a script leaves the failure assumption.
+-- The word for the way in which a script leaves the failure assumption.
 abbrev pub outside_kind_text : OutsideKind → List ℕ
 outside_kind_text Halts = codes "halts"
 outside_kind_text Changes = codes "changes"
@@ -28,15 +28,15 @@ outside_kind_text Changes = codes "changes"
 abbrev pub outside_line : Outside → List ℕ
 outside_line outside = codes "refused: outside at frame " ++ decimal outside.frame ++ codes ": " ++ outside_kind_text outside.kind ++ codes "\n"
 
--- The line for the flight of a mission with a number. It has the number of frames, the number of reconfigurations, the
--- duration of the longest finished one in frames, and the last configuration that was run.
+-- The line for the flight of a mission with a number. It has the number of frames, the number of reconfigurations,
+-- the duration in frames of the longest finished reconfiguration, and the last configuration that was run.
 abbrev pub fly_line : ℕ → Parts → List Row → List Report → List ℕ
 fly_line number spec rows reports =
     codes "fly " ++ decimal number ++ counts_text rows reports ++ codes " longest " ++ decimal (longest_duration reports)
     ++ codes " final " ++ conf_name spec (last_run spec rows).0 ++ codes "\n"
 
--- The line for a watched flight. It has the number of frames of a summary, the configuration and the processors that
--- are up in its last row, and the number of reconfigurations begun.
+-- The line for a watched flight. It has four values of a summary: the number of frames, the configuration that the
+-- last row runs, the processors that are up in that row, and the number of reconfigurations begun.
 abbrev pub watch_line : Parts → Summary → List ℕ
 watch_line spec summary =
     codes "watch frames " ++ decimal summary.frames ++ codes " running " ++ conf_or_dash spec (running_conf summary.running)

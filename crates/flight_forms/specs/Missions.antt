@@ -22,7 +22,7 @@ script_refusal None = None
 script_refusal (Some outside) = Some (UNASSUMED_SCRIPT, outside_line outside)
 
 -- The refusal of a specification and a script for it, given the first refusal of the specification if there is one.
--- It is `None` if neither is refused.
+-- The value is `None` if neither the specification nor the script is refused.
 abbrev pub refusal_by : Parts → ScriptParts → Option Shown → Option (ℕ × List ℕ)
 refusal_by spec script (Some shown) = Some (NOT_ACCEPTED, shown_line spec shown)
 refusal_by spec script None = script_refusal (first_outside spec script)

@@ -1,4 +1,4 @@
--- The values in the summary line of a flight that are computed from its rows and reports.
+-- The values of a flight's summary line that are computed from the rows and reports of the flight.
 use Rattle.std.specs.Prelude.{ℕ, ◌-◌, max, List, [], ◌∷◌, Option, Some, None}
 use Rattle.scram_types.specs.declared.rows.Report.{Report}
 use Rattle.scram_types.specs.declared.rows.Row.{Row}
@@ -6,8 +6,8 @@ use Rattle.scram_types.specs.declared.ids.ConfId.{ConfId}
 use Rattle.scram_types.specs.Specification.{Parts}
 use Rattle.frame_model.specs.Runs.{running}
 
--- The number of frames from the start to the end of a reconfiguration, given its target, or 0 if it has no target,
--- since it is unfinished.
+-- The number of frames from the start to the end of a reconfiguration, given its target. The number is 0 if the
+-- target is `None`, since the reconfiguration is unfinished.
 abbrev pub duration_to : Option ConfId → Report → ℕ
 duration_to None report = 0
 duration_to (Some to) report = report.end - report.begin

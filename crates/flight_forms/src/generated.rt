@@ -24,7 +24,7 @@ pub fn print_generated<K: Sink>(alloc: Global, number: u32, out: &mut K) -> Stat
 {
     match generate(alloc, number) {
         Ok((spec, script)) => {
-            // Using a field of a specification shows that it keeps its invariant.
+            // A use of a field proves that the specification satisfies its invariant.
             let _ = &spec.procs;
             let text = write_mission(alloc, &spec, &script);
             drop((spec, script));
@@ -48,7 +48,7 @@ pub fn fly_generated<R: AllocGlobal + Threads + Wait + Sync, K: Sink>(
 {
     match generate(rt.alloc(), number) {
         Ok((spec, script)) => {
-            // Using a field of a specification shows that it keeps its invariant.
+            // A use of a field proves that the specification satisfies its invariant.
             let _ = &spec.procs;
             fly_parts(rt, number, (spec, script), out, boxes)
         }

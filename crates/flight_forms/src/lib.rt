@@ -1,5 +1,5 @@
-//! The forms that fly missions: `run`, `watch`, `pair`, `replay`, `gen` and `fly`. The output of each is the answer to
-//! the bytes of the files that its words name. Each flight that is answered with status 0 is assured.
+//! The forms that fly missions: `run`, `watch`, `pair`, `replay`, `gen` and `fly`. The output of a form is the answer
+//! to the bytes of the files that its arguments name. If the status is 0, the flight is assured.
 #![tactic(auto)]
 
 mod documents;

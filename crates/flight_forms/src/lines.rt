@@ -23,7 +23,8 @@ pub fn make_script_line(fault: &ScriptFault) -> Line
     line
 }
 
-/// Returns the line for a script that leaves the failure assumption, with the frame in which it does and the reason.
+/// Returns the line for a script that leaves the failure assumption. It has the frame in which the script leaves the
+/// assumption, and the reason.
 pub fn make_outside_line(outside: &Outside) -> Line
     ensures { result ≡ outside_line outside.now }
 {
@@ -37,7 +38,8 @@ pub fn make_outside_line(outside: &Outside) -> Line
 }
 
 /// Returns the line for the flight of a mission with a number. It has the number of frames, the number of
-/// reconfigurations, the duration of the longest finished one in frames, and the last configuration that was run.
+/// reconfigurations, the duration in frames of the longest finished reconfiguration, and the last configuration that
+/// was run.
 pub fn make_fly_line(number: u32, spec: &Spec, flown: &Flown) -> Line
     requires rows { length flown.now.rows < 2 ^ 32 }
     requires reports { length flown.now.reports < 2 ^ 32 }
@@ -58,8 +60,8 @@ pub fn make_fly_line(number: u32, spec: &Spec, flown: &Flown) -> Line
     line
 }
 
-/// Returns the line for a watched flight. It has the number of frames of a summary, the configuration and the
-/// processors that are up in its last row, and the number of reconfigurations begun.
+/// Returns the line for a watched flight. It has four values of a summary: the number of frames, the configuration
+/// that the last row runs, the processors that are up in that row, and the number of reconfigurations begun.
 pub fn make_watch_line(spec: &Spec, summary: &Summary) -> Line
     ensures { result ≡ watch_line spec.now summary.now }
 {

@@ -29,8 +29,8 @@ pub struct PairFiles<'a> {
     pub halt: UnitHalt,
 }
 
-/// Flies the mission of a specification and a script with the kernel on two units, one of which may halt, and prints
-/// its trace.
+/// Flies the mission of a specification and a script with the kernel on two units, one of which may halt. Prints the
+/// trace of the flight.
 pub fn pair_form<F: Files, K: Sink>(
     alloc: Global,
     named: PairFiles<'_>,

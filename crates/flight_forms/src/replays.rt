@@ -25,7 +25,7 @@ use scram_io::{Files, Sink};
 use scram_types::{List, Script, Spec};
 use std::alloc::Global;
 
-/// The names of the files of a mission and of a schedule by which it is flown.
+/// The names of the files of a mission, and of the schedule by which the mission is flown.
 #[derive(Clone, Copy)]
 pub struct ReplayFiles<'a> {
     pub specification: &'a str,
@@ -40,7 +40,7 @@ struct Replay {
     list: List<Event>,
 }
 
-/// Flies the mission of a specification and a script by a schedule, and prints its trace.
+/// Flies the mission of a specification and a script by a schedule, and prints the trace of the flight.
 pub fn replay_form<F: Files, K: Sink>(
     alloc: Global,
     named: ReplayFiles<'_>,

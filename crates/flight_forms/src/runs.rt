@@ -33,7 +33,8 @@ pub enum FlightText {
     Summary(u32),
 }
 
-/// Flies the mission of a specification and a script with a thread for each processor, and prints its trace.
+/// Flies the mission of a specification and a script with a thread for each processor, and prints the trace of the
+/// flight.
 pub fn run<R: AllocGlobal + Threads + Wait + Sync, F: Files, K: Sink>(
     rt: &R,
     named: MissionFiles<'_>,
@@ -90,7 +91,8 @@ fn fly_on_threads<R: AllocGlobal + Threads + Wait + Sync>(
     Ok(flight.run(rt).flown)
 }
 
-/// Prints the text of the given kind for a mission that was flown.
+/// Prints the text of the given kind for a mission. `flown` must have the rows and reports of the mission's
+/// one-thread flight.
 pub fn tell_flown<K: Sink>(
     out: &mut K,
     mission: &Mission,

@@ -1,4 +1,4 @@
-//! The values in the summary line of a flight that are computed from its rows and reports.
+//! The values of a flight's summary line that are computed from the rows and reports of the flight.
 
 ghost use Rattle.std.specs.Prelude.{◌≡◌};
 ghost use Rattle.flight_forms.specs.Summaries.{duration, last_run, longest_duration};
@@ -6,7 +6,7 @@ ghost use Rattle.flight_forms.specs.Summaries.{duration, last_run, longest_durat
 use frame_model::running;
 use scram_types::{ConfId, Report, Row, Spec};
 
-/// Returns the duration of the longest finished reconfiguration in frames, or 0 if none is finished.
+/// Returns the duration in frames of the longest finished reconfiguration, or 0 if none is finished.
 pub fn longest_duration(reports: &[Report]) -> u32
     ensures { result ≡ longest_duration reports.now }
 {

@@ -1,4 +1,5 @@
-//! The form `watch`, which flies a mission with a thread for each processor, while readers read its summary.
+//! The form `watch`, which flies a mission with a thread for each processor, while readers read the summary of the
+//! flight.
 
 ghost use Rattle.std.specs.Prelude.{◌≡◌, ◌∷◌, [], IfOk};
 ghost use Rattle.form_base.specs.Answers.{Gives};
@@ -28,8 +29,8 @@ use word_deck::WordFlight;
 /// The number of reads after which a reader gives up.
 const MAX_READS: u32 = 1_000_000;
 
-/// Flies the mission of a specification and a script with a thread for each processor, while two readers read its
-/// summary. Prints the last summary.
+/// Flies the mission of a specification and a script with a thread for each processor, while two readers read the
+/// summary of the flight. Prints the last summary.
 pub fn watch<R: AllocGlobal + Threads + Wait + Sync, F: Files, K: Sink>(
     rt: &R,
     named: MissionFiles<'_>,
@@ -70,7 +71,7 @@ fn watch_mission<R: AllocGlobal + Threads + Wait + Sync, K: Sink>(
     }
 }
 
-// Returns the summary of all frames of a mission that is flown while two readers read its summary.
+// Returns the summary of all frames of a mission that is flown while two readers read the summary of the flight.
 fn fly_watched<R: AllocGlobal + Threads + Wait + Sync>(
     rt: &R,
     mission: &Mission,
@@ -90,8 +91,8 @@ fn fly_watched<R: AllocGlobal + Threads + Wait + Sync>(
     Ok(last_summary(fly_read(rt, &tap, flight, publisher, (one, other))))
 }
 
-// Flies the mission of a tap while two readers read its summary. The watch is passed through the scope by value, since
-// nothing is known about a reference that a closure captures.
+// Flies the mission of a tap while two readers read the summary of the flight. The watch is passed through the scope
+// by value, since nothing is known about a reference that a closure captures.
 fn fly_read<'a, W: Watch, R: Threads + Wait + Sync>(
     rt: &R,
     tap: &Tap<'a>,
@@ -135,7 +136,7 @@ fn fly_read<'a, W: Watch, R: Threads + Wait + Sync>(
     )
 }
 
-// Returns the summary that a new reader sees, which includes all rows that the writer has published.
+// Returns the summary of all frames. The writer must have published all rows.
 fn last_summary(publisher: Publisher) -> Summary
     requires { rows_published publisher.writer ≡ (tap_mission publisher.tap.now).script.frames }
     ensures { result ≡ summary_after (tap_mission publisher.entry.tap.now) (tap_mission publisher.entry.tap.now).script.frames }
@@ -145,7 +146,7 @@ fn last_summary(publisher: Publisher) -> Summary
     tap.read(&mut reader)
 }
 
-// Reads until the summary of all frames is seen, or gives up after many reads.
+// Reads summaries until one is of all frames, or gives up after `MAX_READS` reads.
 fn read_to_the_end(tap: &Tap, mut reader: Reader)
     requires { IsReaderOf tap.now reader }
 {

@@ -13,8 +13,8 @@ use Rattle.mission_gen.specs.Changes.{change_by, changes_by, count_of_values, fr
 use Rattle.mission_gen.specs.Turns.{Turn, turns_to}
 use Rattle.mission_gen.proofs.Ordering.{AreTurns, IsTurn, Precedes, Sorted, turns_kept}
 
--- A specification has the counts that a generated script requires: two processors, three applications, the failure
--- assumption, two factors of two values, and four of four.
+-- The specification has the counts that a generated script requires: two processors, three applications, the failure
+-- assumption, two factors with two values each, and four factors with four values each.
 pub record HasCounts (spec : Parts) : Type 0 where
   pub procs : length spec.procs ≡ 2
   pub apps : length spec.apps ≡ 3

@@ -1,4 +1,4 @@
--- Lemmas that the texts of the two specifications are read as specifications, which is shown by computation.
+-- Lemmas that the texts of the two specifications are read as specifications. The lemmas are proved by computation.
 use Rattle.std.proofs.Common.{◌≡◌, refl, ap, sym, ◌∙◌, ℕ, List, [], ◌∷◌, length}
 use Rattle.std.specs.Prelude.{Bool, true, false, ◌&&◌, drop, slice_index, nat_le, nat_lt, Option, Some, None, Result, Ok, Err, IfOk, map}
 use Rattle.std.specs.Fmt.{digits}

@@ -1,4 +1,5 @@
--- A walk makes the turns of a list after other turns, and of a block after other blocks.
+-- Lemmas on the changes and the values after two lists of turns in sequence, and on a walk that a further block
+-- extends.
 use Rattle.std.proofs.Common.{◌≡◌, refl, ap, sym, ◌∙◌, ℕ, suc, ◌+◌, add-one, subst, List, [], ◌∷◌, ◌++◌, append_assoc, replicate}
 use Rattle.scram_types.specs.declared.scripts.Change.{Change}
 use Rattle.mission_gen.specs.declared.walks.Walk.{Walk}
@@ -28,7 +29,7 @@ turned_more a b c xs ys first second = record {
       ∙ sym (ap (λ (changes : List Change). a.changes.items ++ changes) (changes_more a.values xs ys));
 }
 
--- A walk of mission `n` has passed the blocks 1 to `k`.
+-- The walk is the state of the generator after the blocks 1 to `k` of mission `n`.
 pub record Walked (n k : ℕ) (walk : Walk) : Type 0 where
   pub random : walk.random ≡ random n k
   pub values : walk.values ≡ values_after (replicate 6 0) (turns_to n k)

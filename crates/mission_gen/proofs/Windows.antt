@@ -23,7 +23,8 @@ use Rattle.mission_gen.specs.Changes.{changes_by, changes_of, frames_of, generat
 use Rattle.mission_gen.specs.Turns.{Turn, turn, turns_in, turns_to}
 use Rattle.mission_gen.proofs.Fitting.{HasCounts}
 
--- In a block the environment may change in two frames. In block 5 it may change only in the frame after the halt.
+-- The environment may change in two frames of a block. In block 5 the environment may change only in the frame after
+-- the halt.
 
 abbrev first_event : ℕ → ℕ → ℕ
 first_event n k = first_frame k (random n k)

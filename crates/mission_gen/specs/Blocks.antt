@@ -1,4 +1,4 @@
--- The random numbers of the generator, and the events in a block of sixty frames that each determines.
+-- The random numbers of the generator. Each random number determines the events in a block of sixty frames.
 use Rattle.std.specs.Prelude.{ℕ, zero, suc, ◌+◌, ◌*◌, ◌/◌, ◌%◌, ◌^◌, Bool, nat_le}
 
 -- The random number that follows `x`.
@@ -28,6 +28,6 @@ choice x = (x / 65536) % 4
 abbrev pub alternator : ℕ → ℕ
 alternator x = choice x % 2
 
--- Whether the other alternator changes too in the block with random number `x`.
+-- The other alternator changes too in the block with random number `x`.
 abbrev pub turns_both : ℕ → Bool
 turns_both x = nat_le 2 (choice x)

@@ -40,7 +40,7 @@ values_after values (turn ∷ turns) = values_after (values_by values turn) turn
 abbrev pub frames_of : ℕ → ℕ
 frames_of n = 1000 + 1000 * (n % 19)
 
--- The last block k such that 60 k + 20 is at most the number of frames.
+-- The greatest `k` such that `60 * k + 20` is at most the number of frames, or 0 if there are fewer than 20 frames.
 abbrev pub last_block : ℕ → ℕ
 last_block frames = (frames - 20) / 60
 

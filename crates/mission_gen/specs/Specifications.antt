@@ -8,11 +8,11 @@ use Rattle.reconf_spec.specs.Documents.{spec_of}
 use Rattle.spec_text.specs.Texts.{spec_text}
 use Rattle.mission_gen.specs.declared.texts.TheConstants.{GENERATED, UAV}
 
--- The text of the aircraft with two alternators and two computers.
+-- The text of the specification of an aircraft with two alternators and two computers.
 unfoldable pub uav_text : List ℕ
 uav_text = UAV.now
 
--- The text of the same aircraft with four further factors.
+-- The text of the specification of the same aircraft with four further factors.
 unfoldable pub generated_text : List ℕ
 generated_text = GENERATED.now
 
@@ -20,7 +20,7 @@ generated_text = GENERATED.now
 abbrev pub mission_text : Parts → ScriptParts → List ℕ
 mission_text spec script = spec_text spec ++ codes "\n" ++ script_text spec script ++ codes "\n"
 
--- A text encodes a specification.
+-- The text encodes a specification.
 pub record GivesSpecification (text : List ℕ) : Type 0 where
   pub spec : Parts
   pub given : spec_of text ≡ Ok spec

@@ -1,8 +1,8 @@
--- The turns of a mission's blocks: the factors that change, and the frames in which they do.
+-- The turns of a mission's blocks. A turn is the change of a factor to its next value in a frame.
 use Rattle.std.specs.Prelude.{ℕ, zero, suc, ◌+◌, ◌-◌, ◌/◌, ◌%◌, ◌==◌, List, [], ◌∷◌, ◌++◌, if◌then◌else◌}
 use Rattle.mission_gen.specs.Blocks.{alternator, delay, first_frame, random, turns_both}
 
--- A turn, which changes a factor to its next value in a frame.
+-- The turn of a factor in a frame.
 pub record Turn : Type 0 where
   pub frame : ℕ
   pub factor : ℕ

@@ -17,7 +17,8 @@ use reconf_spec::{SpecError, read_spec, write_spec};
 use scram_types::{HaltAt, List, NoMemory, ProcId, Script, Spec};
 use std::alloc::Global;
 
-/// Returns the specification that a text encodes.
+/// Returns the specification that a text encodes. The text must encode a specification. Returns an error if memory
+/// runs out.
 fn read_text(alloc: Global, text: &str) -> Result<Spec, NoMemory>
     requires { GivesSpecification text.now }
     ensures { IfOk result (λ spec. spec_of text.now ≡ Ok spec) }
@@ -76,7 +77,7 @@ fn make_script(alloc: Global, n: u32) -> Result<Script, NoMemory>
 }
 
 /// Returns mission `n`: the specification of the aircraft with four further factors, and a script of 1,000 to 19,000
-/// frames. The script fits the specification and keeps to its failure assumption.
+/// frames. The script fits the specification and keeps to the failure assumption of the specification.
 ///
 /// # Errors
 ///

@@ -1,9 +1,9 @@
-//! The random numbers of the generator, and the events in a block that each determines.
+//! The random numbers of the generator. Each random number determines the events in a block.
 
 ghost use Rattle.std.specs.Prelude.{◌≡◌, ◌<◌, ◌≤◌, ◌^◌};
 ghost use Rattle.mission_gen.specs.Blocks.{alternator, choice, delay, first_frame, next_random, random, turns_both};
 
-/// Returns the random number that follows `x`, which is below 2^31.
+/// Returns the next random number, below 2^31, given the random number `x`.
 pub(crate) fn next_random(x: u32) -> u32
     ensures value { result ≡ next_random x }
     ensures small { result < 2 ^ 31 }
@@ -22,7 +22,7 @@ pub(crate) fn random(n: u32, k: u32) -> u32
     x
 }
 
-/// Returns the frame of the first event in block `k`, whose random number is `x`.
+/// Returns the frame of the first event in block `k`, whose random number is `x`. `k` must be at most 1,000.
 pub(crate) fn first_frame(k: u32, x: u32) -> u32
     requires { k ≤ 1000 }
     ensures { result ≡ first_frame k x }

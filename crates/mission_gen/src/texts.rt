@@ -4,8 +4,8 @@
 ghost use Rattle.std.specs.Prelude.{◌≡◌};
 ghost use Rattle.mission_gen.specs.Specifications.{generated_text, uav_text};
 
-/// The text of an aircraft with two alternators and two computers. The further factors that are given follow the
-/// alternators.
+/// The text of the specification of an aircraft with two alternators and two computers. The factors that are passed
+/// to the macro follow the alternators.
 macro_rules! aircraft {
     ($($further:literal),*) => {
         concat!(
@@ -110,10 +110,10 @@ macro_rules! aircraft {
     };
 }
 
-/// The text of an aircraft with two alternators and two computers.
+/// The text of the specification of an aircraft with two alternators and two computers.
 const UAV: &str = aircraft!();
 
-/// The text of the same aircraft with four further factors, which the generated scripts change.
+/// The text of the specification of the same aircraft with four further factors, which the generated scripts change.
 const GENERATED: &str = aircraft!(
     r#",{"name":"aux0","values":["v0","v1","v2","v3"]}"#,
     r#",{"name":"aux1","values":["v0","v1","v2","v3"]}"#,

@@ -29,7 +29,7 @@ fn next_value(factor: u8, value: u8) -> u8
     ((u32::from(value) + 1) % count) as u8
 }
 
-/// Changes a factor to its next value in a frame.
+/// Changes factor `factor`, which must be below 6, to its next value in a frame.
 fn add_turn(walk: &mut Walk, frame: u32, factor: u8) -> Result<(), NoMemory>
     requires { factor < 6 }
     ensures { OnOk result (Turned walk.old walk.new (turn frame factor ∷ [])) }
@@ -107,8 +107,8 @@ pub(crate) fn make_changes(alloc: Global, n: u32, frames: u32) -> Result<Vec<Cha
     Ok(walk.changes)
 }
 
-/// Returns the number of the last block of a script with `frames` frames, which is the last block that begins at
-/// least 20 frames before the end.
+/// Returns the number of the last block that begins at least 20 frames before the end of a script with `frames`
+/// frames. The blocks are numbered from 0.
 fn last_block(frames: u32) -> u32
     requires { frames ≤ MAX_FRAMES }
     ensures value { result ≡ last_block frames }

@@ -141,7 +141,8 @@ ranked_back : (apps : List AppSpec) → with_ranks (map unranked apps) (map rank
 ranked_back [] = refl
 ranked_back (app ∷ apps) = ap (λ (xs : List AppSpec). app ∷ xs) (ranked_back apps)
 
--- A value of each application that does not depend on its rank is the same without ranks.
+-- If a value of an application does not depend on the rank, the list of these values is the same for the applications
+-- without ranks.
 over_unranked : (of : AppSpec → ℕ) (apps : List AppSpec) → ((app : AppSpec) → of (unranked app) ≡ of app) → map of (map unranked apps) ≡ map of apps
 over_unranked of [] same = refl
 over_unranked of (app ∷ apps) same = rw (same app, over_unranked of apps same) refl

@@ -38,14 +38,14 @@ use Rattle.reconf_spec.proofs.Lookups.{all_new, number_back}
 use Rattle.reconf_spec.proofs.RestBack.{NewWant, want_back}
 use Rattle.reconf_spec.proofs.Sets.{IsFree, all_free, set_back}
 
--- An item of a prefix of a list is an item of the whole list.
+-- Item `j` of the first `i` items of a list is item `j` of the list, and `j` is below `i`.
 taken : {A : Type 0} (i j : ℕ) (xs : List A) (x : A) → slice_get (take i xs) j ≡ Some x → (j < i) × (slice_get xs j ≡ Some x)
 taken zero j xs x e = absurd (let none : None ≡ Some x = e in cc)
 taken (suc i) j [] x e = absurd (let none : None ≡ Some x = e in cc)
 taken (suc i) zero (y ∷ ys) x e = (omega arith, e)
 taken (suc i) (suc j) (y ∷ ys) x e = let rest = taken i j ys x e in (omega (arith, rest.0), rest.1)
 
--- A mode is one that an application lists, and is not among the modes before it.
+-- The application lists the mode, and the mode is not among the modes before it.
 record NewMode (app : AppSpec) (done : List Mode) (mode : Mode) : Type 0 where
   new : is_among done mode.0 ≡ false
   listed : IsSome (mode_in app.modes mode.0)
@@ -129,7 +129,7 @@ on_back spec is at on width fits =
     rw (within_back 0 8 at (items_of (on_data spec 0 on)) (omega arith) (omega (arith, count, width)))
     (subst (λ (n : ℕ). folded_from (read_on_app spec.apps) at 0 (replicate n None) (items_of (on_data spec 0 on)) ≡ Ok on) width read)
 
--- An application that must be off is not among the applications that must be on.
+-- If `on` has no modes for an application that must be off, this application is not in `on_set on`.
 off_free : (on : List (Option (List Mode))) (off : ℕ) → ((a : ℕ) → has_bit off a ≡ true → given on a ≡ None) → IsFree off (on_set on)
 off_free on off one a is = elim (low_or_high a 8) [
   | inl low ↦ has_bits (λ b. is_some (given on b)) 8 a low ∙ ap (λ (o : Option (List Mode)). is_some o) (one a is)

@@ -22,7 +22,7 @@ not_so : (test : Bool) (P : Type 0) → Decides test P → (P → ⊥) → test 
 not_so true P decides apart = absurd (apart (decides.0 refl))
 not_so false P decides apart = refl
 
--- No element before an element has its name.
+-- If the names of a list differ, no element before `x` has the name of `x`.
 none_before : {A : Type 0} (name : A → List ℕ) (k : ℕ) (xs : List A) (x : A) (after : List A) → NamesDiffer name (xs ++ x ∷ after) → number_from name k xs (name x) ≡ None
 none_before name k [] x after differ = refl
 none_before name k (y ∷ ys) x after differ =
@@ -41,6 +41,7 @@ pub all_new : {A : Type 0} (name : A → List ℕ) (xs : List A) → NamesDiffer
 all_new {A} name xs differ i x e = cut xs i x _ e (λ after is.
     none_before name 0 (take i xs) x after (subst (NamesDiffer name) (sym is) differ))
 
--- If each element of a list satisfies two facts together with the elements before it, it satisfies both at once.
+-- If each element of a list satisfies `F` with the elements before it, and `G` as well, it satisfies the conjunction
+-- of `F` and `G`.
 pub both_after : {A : Type 0} (F G : List A → A → Type 0) (xs : List A) → AllAfter F xs → AllAfter G xs → AllAfter (λ (done : List A) (x : A). F done x × G done x) xs
 both_after F G xs f g i x e = (f i x e, g i x e)

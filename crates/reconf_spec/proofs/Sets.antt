@@ -27,7 +27,7 @@ pow_positive (suc k) = let rest = pow_positive k in omega (arith, rest)
 low_part : (n k : ℕ) → n % 2 ^ k < 2 ^ k
 low_part n k = let positive = pow_positive k in omega (arith, positive)
 
--- The bits of a number below k + 1 are bit k and the bits below it.
+-- The lower `k + 1` bits of a number consist of bit `k` and the lower `k` bits.
 one_bit_more : (n k : ℕ) → n % 2 ^ suc k ≡ bit_at n k * 2 ^ k + n % 2 ^ k
 one_bit_more n k = let next : suc k ≡ 1 + k = omega arith in rw (next) (mod-pow-add n 1 k)
 

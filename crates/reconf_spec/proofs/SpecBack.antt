@@ -70,7 +70,7 @@ names_back [] Retarget spec back = rw (back.procs, back.apps, back.ranks, back.c
 names_back [] Settle spec back = rw (back.procs, back.apps, back.ranks, back.confs, back.factors) refl
 names_back (demand ∷ demands) policy spec back = rw (back.procs, back.apps, back.ranks, back.confs, back.factors) refl
 
--- The specification with these demands and this policy in place of its own.
+-- The specification `spec` with its demands and its policy replaced by these.
 abbrev with_choice : List Demand → Policy → Parts → Parts
 with_choice demands policy spec = record {
   procs = spec.procs;
@@ -90,7 +90,8 @@ with_choice demands policy spec = record {
   window = spec.window;
 }
 
--- The rest of a document, without its policy and its demands, is read back as it was written.
+-- The members of a document after those that contain names, except the policy and the demands, are read back as they
+-- were written.
 record RestIsBack (spec : Parts) : Type 0 where
   rules : read_choices spec.procs spec.confs spec.factors (member_path [] (codes "rules")) (list_data (choice_data spec) spec.rules) ≡ Ok spec.rules
   bounds : read_bounds spec.confs (member_path [] (codes "bounds")) (list_data (bound_data spec.confs) spec.bounds) ≡ Ok spec.bounds

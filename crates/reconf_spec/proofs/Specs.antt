@@ -1,4 +1,4 @@
--- If the facts about the parts of a document hold, the parts form a specification.
+-- Parts of a document that satisfy `AreNames` and `FitsRest` form a specification.
 use Rattle.std.proofs.Common.{◌≡◌, ◌∙◌, ◌≤◌, ◌==◌, ℕ, true, false, List, length, arith, ap, sym, subst, take}
 use mathlib.Core.Logic.{inl, inr}
 use Rattle.std.specs.Prelude.{IsSome, Option, Some, None, is_some, slice_get}
@@ -39,7 +39,7 @@ variable_below found variable is =
 factor_fits : (done : List Factor) (factor : Factor) → IsNewFactor done factor → IsFactor factor
 factor_fits done factor fits = record { count = fits.count; differ = new_differ itself factor.values (λ i x e. (fits.values i x e).new) }
 
--- If each mode is new as it is read, the modes of a list differ.
+-- If no mode of a list is among the modes before it, the modes of the list differ.
 modes_differ : (modes : List Mode) → AllAfter (λ (done : List Mode) (mode : Mode). is_among done mode.0 ≡ false) modes
     → (i j : ℕ) (m n : Mode) → slice_get modes i ≡ Some m → slice_get modes j ≡ Some n → m.0 ≡ n.0 → i ≡ j
 modes_differ modes new i j m n there too same = elim (compare i j) [
@@ -165,7 +165,8 @@ spec_fits spec named few_rules rules few_bounds bounds start goal few_invariants
   window_most = assumed.window_most;
 }
 
--- If the rest of a document was read with names equal to those of the specification, the parts form a specification.
+-- If `rest` fits the items `names`, and `names` equals the valid items `own`, then `own` and `rest` form a
+-- specification.
 pub joined_fits : (names own : Names) (rest : Rest) → names ≡ own → AreNames own.procs own.apps own.confs own.factors → FitsRest names.procs names.apps names.confs names.factors rest
     → IsSpec (with_rest own rest)
 joined_fits names own rest same named fits =

@@ -79,7 +79,7 @@ check_version at d =
     chain (whole_at 0 1001 at d) (λ (version : ℕ).
     if nat_le 1 version && nat_le version 3 then Ok tt else broken UNKNOWN_VERSION at)
 
--- The policy of a document, or the first broken rule. A document of version 1 has no policy, which means to retarget.
+-- The policy of a document, or the first broken rule. The policy of a document of version 1 is to retarget.
 abbrev pub policy_in : Data → Result Policy DocFault
 policy_in d = if has_policy d then member_in (codes "policy") read_policy d else Ok Retarget
 
@@ -88,24 +88,23 @@ abbrev pub demands_in : Names → Data → Result (List Demand) DocFault
 demands_in names d =
     if has_demands d then member_in (codes "demands") (read_demands names.procs names.apps names.confs names.factors) d else Ok []
 
--- The items to which the rest of a document refers, given its processors and applications, or the first broken rule
--- of its configurations and factors.
+-- The processors, applications, configurations and factors of a document, or the first broken rule. The processors
+-- and applications are given, and the configurations and factors are read.
 abbrev pub names_with : List Proc → List AppSpec → Data → Result Names DocFault
 names_with procs apps d =
     chain (member_in (codes "configurations") (read_confs procs apps) d) (λ (confs : List Conf).
     chain (member_in (codes "factors") read_factors d) (λ (factors : List Factor).
     Ok (record { procs = procs; apps = apps; confs = confs; factors = factors })))
 
--- The items to which the rest of a document refers, or the first broken rule. They are its processors, applications,
--- configurations and factors.
+-- The processors, applications, configurations and factors of a document, or the first broken rule. The version is
+-- checked first.
 abbrev pub names_in : Data → Result Names DocFault
 names_in d =
     chain (member_in (codes "scram") check_version d) (λ (_ : ⊤).
     chain (member_in (codes "processors") read_procs d) (λ (procs : List Proc).
     chain (apps_in d) (λ (apps : List AppSpec). names_with procs apps d)))
 
--- The specification with these processors, applications, configurations and factors, and with the rest of its
--- document.
+-- The specification with these processors, applications, configurations and factors, and with the other parts `rest`.
 abbrev pub with_rest : Names → Rest → Parts
 with_rest names rest = record {
   procs = names.procs;
@@ -125,8 +124,8 @@ with_rest names rest = record {
   window = rest.assumed.window;
 }
 
--- The specification that a document encodes, given the items to which the rest of the document refers, or the first
--- broken rule.
+-- The specification that a document encodes, or the first broken rule. Its processors, applications, configurations
+-- and factors are given, and its other members are read.
 abbrev pub rest_in : Names → Data → Result Parts DocFault
 rest_in names d =
     chain (member_in (codes "rules") (read_choices names.procs names.confs names.factors) d) (λ (rules : List Choice).

@@ -1,4 +1,4 @@
--- Facts about the processors, applications, configurations and factors of a document.
+-- Facts about the parts of a document other than its processors, applications, configurations and factors.
 use Rattle.std.specs.Prelude.{◌≤◌, List, length}
 use Rattle.scram_types.specs.declared.specification.Proc.{Proc}
 use Rattle.scram_types.specs.declared.specification.AppSpec.{AppSpec}
@@ -17,7 +17,8 @@ pub record FitsAssumption (assumed : Assumption) : Type 0 where
   pub window_least : 1 ≤ assumed.window
   pub window_most : assumed.window ≤ 1000
 
--- The rest of a document fits its processors, applications, configurations and factors.
+-- Each part in `rest` is within its limits, and refers only to these processors, applications, configurations and
+-- factors.
 pub record FitsRest (procs : List Proc) (apps : List AppSpec) (confs : List Conf) (factors : List Factor) (rest : Rest) : Type 0 where
   pub few_rules : length rest.rules ≤ 64
   pub rules : AllAfter (λ _. FitsChoice procs confs factors) rest.rules

@@ -174,7 +174,7 @@ fn read_after_names(
     })
 }
 
-/// Returns the specification with the items of `vocabulary` and the rest of its document.
+/// Returns the specification with the items of `vocabulary` and the other parts `rest`.
 fn join(vocabulary: Vocabulary, rest: Rest) -> Spec
     requires fits { FitsRest vocabulary.procs vocabulary.apps vocabulary.confs vocabulary.factors rest }
     ensures value { result ≡ with_rest vocabulary rest }
@@ -199,7 +199,8 @@ fn join(vocabulary: Vocabulary, rest: Rest) -> Spec
     }
 }
 
-/// Reads the rest of a document, and returns the specification that it forms with the items of `vocabulary`.
+/// Reads the members other than the items of `vocabulary`, and returns the specification that they form with these
+/// items.
 pub(crate) fn read_rest(
     alloc: Global,
     vocabulary: Vocabulary,

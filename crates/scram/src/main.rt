@@ -18,7 +18,7 @@ use std::thread::Threads;
 const NO_MEMORY: u8 = 9;
 /// The status if a line that this file prints cannot be written.
 const UNWRITTEN_OUTPUT: u8 = 4;
-/// The status if the boxes that the program makes are not those of the kinds, which the program reports in a line.
+/// The status if the boxes that the program makes are not those of the kinds of applications.
 const UNFIT_RACKS: u8 = 1;
 
 fn main(rt: HostRuntime) -> ExitCode {
@@ -34,7 +34,8 @@ fn main(rt: HostRuntime) -> ExitCode {
     }
 }
 
-/// Prints the line that reports out of memory, and returns its status. Nothing has been read or printed before.
+/// Prints the line that reports out of memory. Returns `NO_MEMORY`, or `UNWRITTEN_OUTPUT` if the line cannot be
+/// written. Nothing has been read or printed before.
 fn refuse_memory(rt: &HostRuntime) -> ExitCode {
     match println!(rt; "refused: memory") {
         Ok(()) => ExitCode::from(NO_MEMORY),
@@ -42,7 +43,8 @@ fn refuse_memory(rt: &HostRuntime) -> ExitCode {
     }
 }
 
-/// Creates the boxes, answers the words, and returns the status.
+/// Creates the boxes, answers the words, and returns the status. Returns an error if there is no memory for the
+/// output buffer.
 fn answer<R: AllocGlobal + Files + Print + Threads + Wait + Sync>(
     rt: &HostRuntime,
     threads: &R,
@@ -57,7 +59,8 @@ fn answer<R: AllocGlobal + Files + Print + Threads + Wait + Sync>(
     Ok(status.code)
 }
 
-/// Prints the line that reports that the boxes are not those of the kinds, and returns its status.
+/// Prints the line that reports that the boxes are not those of the kinds of applications. Returns `UNFIT_RACKS`, or
+/// `UNWRITTEN_OUTPUT` if the line cannot be written.
 fn refuse_racks(rt: &HostRuntime) -> u8 {
     match println!(rt; "refused: racks") {
         Ok(()) => UNFIT_RACKS,

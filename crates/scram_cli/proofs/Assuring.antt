@@ -1,4 +1,4 @@
--- Each answer of the command with status 0 gives the assurance of its form.
+-- If the command answers with status 0, the assurance of its form holds.
 use Rattle.std.proofs.Common.{◌≡◌, ℕ, List}
 use Rattle.std.specs.Prelude.{Option, Some, None}
 use Rattle.form_base.specs.Assurance.{IsAssuring}

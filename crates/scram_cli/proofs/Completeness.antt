@@ -28,13 +28,13 @@ use Rattle.flight_forms.specs.Missions.{UnlessRefused, mission_refusal, refusal_
 use Rattle.flight_forms.specs.Texts.{flight_text}
 use Rattle.scram_cli.specs.Laws.{EndsAnswered, HasRoomFor, HoldsMission, MissionsAreAnswered}
 
--- If a value is read from bytes, there are at most as many bytes as the limit allows.
+-- If a value is read from bytes, the number of bytes is within the limit.
 short_by : {A E : Type 0} (few : Bool) (read : Result A E) (fault : E) (value : A) → cond few read (Err fault) ≡ Ok value → few ≡ true
 short_by true read fault value is = refl
 short_by false read fault value is = absurd (let e = is in cc)
 
--- The file was read with the bytes that the map has for it, and the answer to these bytes is given. The fault count
--- did not fall meanwhile.
+-- The status and the text are the answer after a file was read. The further reads agree with the map, and the count
+-- of faults did not fall before them.
 record RestAnswers (map : FileMap) (Answers : Answer) (before after : FilesState) (status : ℕ) (text : List ℕ) : Type 0 where
   rest : History
   between : FilesState
@@ -42,7 +42,7 @@ record RestAnswers (map : FileMap) (Answers : Answer) (before after : FilesState
   agrees : Agrees map rest
   answers : Answers between after rest status text
 
--- If the file exists, is not too long, and no fault count rose, the answer is the one to the file's bytes.
+-- If the file exists and is not too long, and no fault count rose, the answer is the answer to the file's bytes.
 
 bytes_answered : (limit : ℕ) (name : List ℕ) (A : List ℕ → Answer) (map : FileMap) (bytes : List ℕ) (before after : FilesState) (reads : History)
     (status : ℕ) (text : List ℕ) → file_at name map ≡ Some bytes → Agrees map reads → AnswersBytes limit name A before after reads status text
@@ -81,7 +81,8 @@ file_answered limit long name A map bytes start before after reads status text f
 file_answered limit long name A map bytes start before after reads status text file few quiet count agrees (inr is) =
     not_unread limit long name map bytes start before after reads status text file few quiet count agrees is
 
--- If a document encodes a value, the answer to the document is the answer to this value.
+-- If the bytes of a file encode a specification, the answer to the bytes is the answer to this specification. The
+-- same holds for a script.
 
 said_spec : (spec : Parts) (Then : Parts → Answer) (bytes : List ℕ) (before after : FilesState) (reads : History) (status : ℕ) (text : List ℕ) → spec_of bytes ≡ Ok spec
     → AnswersDocument SaysSpecification BreaksSpecification Then bytes before after reads status text → Then spec before after reads status text

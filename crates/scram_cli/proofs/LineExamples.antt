@@ -163,7 +163,7 @@ holds : (row : Row) → holds_line (record { rows = replicate 11 row; reports = 
 unfolding digits
 holds row = refl
 
--- If there are no rows, the start configuration is shown. An unfinished reconfiguration is not the longest one.
+-- If there are no rows, the line has the start configuration. An unfinished reconfiguration is not the longest one.
 flown : fly_line 18 alternators [] (reconfiguration (Some (conf_id 1)) 10 15 ∷ reconfiguration (Some (conf_id 0)) 50 57 ∷ reconfiguration None 60 99 ∷ [])
     ≡ codes "fly 18 frames 0 reconfigurations 3 longest 7 final full\n"
 unfolding digits reconfiguration

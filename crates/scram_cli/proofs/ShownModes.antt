@@ -168,7 +168,7 @@ task_told spec sound (phase.Halting c age) a = told_for spec sound c a _ (place_
 task_told spec sound (phase.Preparing c age) a = told_for spec sound c a _ (place_of spec c a) refl (preparing_shown _ age (time_short spec sound c a (λ (listed : ModeSpec). listed.prepare) (λ listed short. short.prepare)))
 task_told spec sound (phase.Initialising c age) a = told_for spec sound c a _ (place_of spec c a) refl (initialising_shown _ _ age (time_short spec sound c a (λ (listed : ModeSpec). listed.init) (λ listed short. short.init)))
 
--- Lemmas that each application can have the act that it has in a row.
+-- Lemmas that the act of an application in a row satisfies `IsActShown`.
 
 order_act : (spec : Parts) (a : ℕ) (app : AppSpec) (o : Order) (place : Place) → slice_get spec.apps a ≡ Some app → IsOrderShown o → IsPlace spec.procs spec.apps a place →
     IsActShown spec app (act_of_order o place.mode place.proc)

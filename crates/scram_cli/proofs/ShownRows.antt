@@ -1,4 +1,4 @@
--- The values in the rows of a flight lie in the ranges that the specification, the kinds and the aircraft give.
+-- The values in the rows of a flight are within the ranges of the specification, the kinds and the aircraft.
 use Rattle.std.proofs.Common.{◌≡◌, ◌∙◌, ℕ, zero, suc, ◌<◌, ◌≤◌, ◌-◌, Bool, true, false, cond, List, [], ◌∷◌, length, arith, refl, sym, subst}
 use Rattle.std.specs.Prelude.{◌&&◌, ℤ, pos, negsuc, ◌≤ℤ◌, int_le, Option, Some, None, replicate, slice_get, slice_index, slice_index_or}
 use Rattle.std.proofs.lemmas.Int.{ints}
@@ -52,7 +52,7 @@ use Rattle.trace_props.proofs.Ranging.{kind_known}
 use Rattle.trace_text.specs.Flights.{IsAreaShown, IsEnvShown, IsModeShown, IsRowShown, IsShown, IsWorldShown}
 use Rattle.scram_cli.proofs.ShownModes.{IsTold, Nothing, Told, act_idle, act_shown, decision_shown, task_told}
 
--- Lemmas that numbers from -1,000,000 to 1,000,000 can be shown.
+-- Lemmas that numbers from -1,000,000 to 1,000,000 can be in a trace.
 
 shown_between : (z : ℤ) → minus 1000000 ≤ℤ z → z ≤ℤ pos 1000000 → IsShown z
 shown_between (pos n) low high = omega (arith, ints, high)
@@ -61,9 +61,9 @@ shown_between (negsuc n) low high = omega (arith, ints, low)
 wider : (low high least most x : ℤ) → low ≤ℤ least → most ≤ℤ high → least ≤ℤ x → x ≤ℤ most → (low ≤ℤ x) × (x ≤ℤ high)
 wider low high least most x a b c d = (omega (arith, ints), omega (arith, ints))
 
--- Lemmas that the areas of applications can be shown.
+-- Lemmas that the areas of applications can be in a trace.
 
--- Whether the range of word `i` of a kind lies from -1,000,000 to 1,000,000.
+-- The range of word `i` of a kind lies within -1,000,000 to 1,000,000.
 abbrev is_small : ℕ → ℕ → Bool
 is_small kind i = int_le (minus 1000000) (sane kind i).0 && int_le (sane kind i).1 (pos 1000000)
 
@@ -126,7 +126,7 @@ area_told : (made old : List ℤ) (commits : ℕ → Bool) (proc : Option ProcId
 area_told made old commits None h k = zeros_shown
 area_told made old commits (Some proc) h k = area_by (commits proc.0) made old h k
 
--- The mode and the areas of a state can be shown.
+-- The mode and the areas of the state can be in a trace.
 pub record IsStateShown (spec : Parts) (state : State) : Type 0 where
   pub mode : IsModeShown spec state.mode
   pub areas : (a : ℕ) → a < 8 → IsAreaShown (area_at state.areas a)
@@ -140,7 +140,7 @@ area_past : (spec : Parts) (v : Env) (commits : ℕ → Bool) (state : State) (t
 area_past spec v commits state told a past (Nothing is) = rw is refl
 area_past spec v commits state told a past (Told o place is shown at) = absurd (let low = slice_get_within spec.apps a at.app at.there in omega (arith, low, past))
 
--- A lemma that the altitude, climb, heading and bank of the world can be shown.
+-- A lemma that the altitude, climb, heading and bank of the world can be in a trace.
 
 world_shown : (world : World) → IsFlyable world → IsWorldShown world
 world_shown world flies =
@@ -159,7 +159,7 @@ world_shown world flies =
       bank = shown_between world.bank bank.0 bank.1;
     }
 
--- Lemmas that the environment of a frame can be shown.
+-- Lemmas that the environment of a frame can be in a trace.
 
 rest_by : (script : ScriptParts) (f : ℕ) (few : ℕ) → ((x : ℕ) → few ≤ x → factor_at script x f ≡ 0) → (x : ℕ) → few ≤ x → slice_index (factors_at script f) x ≡ 0
 rest_by script f few h zero past = h 0 past
@@ -183,7 +183,7 @@ env_shown spec script f sound fits =
       rest = rest_by script f (length spec.factors) shows.rest;
     }
 
--- Lemmas that the states of a flight can be shown.
+-- Lemmas that the states of a flight can be in a trace.
 
 start_by : (spec : Parts) (a : ℕ) → IsSpec spec → (place : Option Place) → IsAreaShown (start_area_at spec a place)
 start_by spec a sound None = zeros_shown
@@ -226,7 +226,7 @@ state_shown spec script sound (suc f) few =
       areas = λ a low. areas_shown spec sound v (λ p. commits spec script p f) state (phase_at spec (mode_decided spec f v state) f) before a zeros low;
     }
 
--- Lemmas that the rows of a flight can be shown.
+-- Lemmas that the rows of a flight can be in a trace.
 
 idle_at : (value : ℕ → act_kinds.Act) (few : ℕ) → ((a : ℕ) → few ≤ a → value a ≡ act_names.Off) → (a : ℕ) → few ≤ a → slice_index_or (eight value) a act_names.Off ≡ act_names.Off
 idle_at value few h zero past = h 0 past

@@ -57,8 +57,8 @@ LookAnswers Summary specification trace = ViewAnswers summary_text specification
 LookAnswers Columns specification trace = ViewAnswers columns_text specification trace
 LookAnswers Picture specification trace = ViewAnswers picture_text specification trace
 
--- The answer to a form, or the refusal if the form is `None`, since the words have none. The files that a form needs
--- are read once each, in their order, and no others are read.
+-- The answer to a form. For `None`, it is the refusal of words that have no form. The files that a form needs are
+-- read once each, in their order, and no other file is read.
 abbrev pub FormAnswers : Option (Form (List ℕ)) → Answer
 FormAnswers None = WithoutFiles (Gives (BROKEN_USAGE, usage_line))
 FormAnswers (Some (Flight flight)) = FlightFormAnswers flight

@@ -1,4 +1,4 @@
--- The assurances that status 0 gives about the files that were read and the text that was written.
+-- The assurances of status 0: facts about the files that were read and the text that was written.
 use Rattle.std.specs.Prelude.{◌≡◌, ℕ, List, [], Option, Some, None}
 use Rattle.scram_io.specs.Outside.{History}
 use Rattle.spec_forms.specs.Answers.{AssuresBounds, AssuresCheck}
@@ -23,7 +23,7 @@ use Rattle.scram_cli.specs.declared.forms.SpecificationForm.{SpecificationForm}
 use Rattle.scram_cli.specs.declared.forms.SpecificationForm.TheVariants.{Check, Bounds, Explain, ExplainScript, Fill, Choices, Choose}
 use Rattle.scram_cli.specs.Pages.{page_text}
 
--- The assurance that status 0 gives for a form about flights.
+-- The assurance of status 0 for a form about flights.
 abbrev pub AssuresFlightForm : FlightForm (List ℕ) → History → List ℕ → Type 0
 AssuresFlightForm (Run specification script) = AssuresRun specification script
 AssuresFlightForm (Watch specification script) = AssuresWatch specification script
@@ -34,7 +34,7 @@ AssuresFlightForm (Flights specification scripts) = AssuresFlights specification
 AssuresFlightForm (Gen number) = AssuresGen number
 AssuresFlightForm (Fly number) = AssuresFly number
 
--- The assurance that status 0 gives for a question about a specification.
+-- The assurance of status 0 for a question about a specification.
 abbrev pub AssuresQuestion : SpecificationForm (List ℕ) → History → List ℕ → Type 0
 AssuresQuestion (Check specification) = AssuresCheck specification
 AssuresQuestion (Bounds specification) = AssuresBounds specification
@@ -44,14 +44,15 @@ AssuresQuestion (Fill specification) = AssuresFill specification
 AssuresQuestion (Choices specification) = AssuresChoices specification
 AssuresQuestion (Choose specification conf state) = AssuresChoose specification conf state
 
--- The assurance that status 0 gives for a look at a trace.
+-- The assurance of status 0 for a look at a trace.
 abbrev pub AssuresLook : Look → List ℕ → List ℕ → History → List ℕ → Type 0
 AssuresLook Props = AssuresProps
 AssuresLook Summary = AssuresView summary_text
 AssuresLook Columns = AssuresView columns_text
 AssuresLook Picture = AssuresView picture_text
 
--- The assurance that status 0 gives for a form. For `None`, the words have no form and never end with status 0.
+-- The assurance of status 0 for a form. For `None`, it is false, since words that have no form never end with status
+-- 0.
 abbrev pub AssuresForm : Option (Form (List ℕ)) → History → List ℕ → Type 0
 AssuresForm None reads text = ⊥
 AssuresForm (Some (Flight flight)) reads text = AssuresFlightForm flight reads text

@@ -23,8 +23,8 @@ abbrev pub PrintedMissionsAreRead : Type 0
 PrintedMissionsAreRead = (spec : Parts) (script : ScriptParts) → IsSpec spec → Fits spec script
     → trace_of spec (text_of spec (rows_of spec script) (reports_of spec script)) ≡ Ok (record { rows = rows_of spec script; reports = reports_of spec script })
 
--- Two files of a map hold a mission. The bytes of the first encode its specification, and the bytes of the second its
--- script.
+-- Two files of a map hold a mission. The bytes of the first file encode the mission's specification, and the bytes of
+-- the second file encode the mission's script.
 pub record HoldsMission (map : FileMap) (specification_name script_name : List ℕ) (mission : MissionParts) : Type 0 where
   pub specification : List ℕ
   pub specification_file : file_at specification_name map ≡ Some specification

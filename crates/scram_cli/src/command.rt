@@ -44,18 +44,20 @@ use trace_text::lines::Line;
 /// Answers the words after the program's name by their form. Words that have none of these forms are refused.
 ///
 /// - `run SPEC SCRIPT` flies a mission.
-/// - `watch SPEC SCRIPT` flies a mission while two readers read its summary.
+/// - `watch SPEC SCRIPT` flies a mission while two readers read the summary of the flight.
 /// - `pair SPEC SCRIPT UNIT FRAME STEP` flies a mission with the kernel on two units, of which unit `UNIT` may halt in
 ///   frame `FRAME` after `STEP` of its steps.
 /// - `replay SPEC SCRIPT SCHEDULE` flies a mission by a schedule.
 /// - `check SPEC` prints whether a specification is accepted.
-/// - `explain SPEC` and `explain SPEC SCRIPT` print why a specification or a script is refused, or the idle parts.
+/// - `explain SPEC` and `explain SPEC SCRIPT` print why a specification or a script is refused, or the idle parts of
+///   the specification.
 /// - `bounds SPEC` prints each bound that a specification must give.
 /// - `fill SPEC` prints a specification with bounds and a window that suffice.
 /// - `choices SPEC` prints what each rule chooses.
 /// - `choose SPEC CONF STATE..` prints the configuration that is chosen from `CONF` in a state.
 /// - `props SPEC TRACE` judges a trace by a specification, which need not be accepted.
-/// - `summary SPEC TRACE`, `columns SPEC TRACE` and `picture SPEC TRACE` print what a trace shows.
+/// - `summary SPEC TRACE`, `columns SPEC TRACE` and `picture SPEC TRACE` print a summary, a table and a picture of a
+///   trace.
 /// - `faults SPEC COUNT` prints each script with `COUNT` faults that keeps to the failure assumption.
 /// - `flights SPEC SCRIPTS` flies the script on each line of a file.
 /// - `gen N` prints the mission generated from a number, and `fly N` flies it.

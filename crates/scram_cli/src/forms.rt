@@ -45,13 +45,13 @@ pub enum Form<N> {
 /// A form about flights.
 #[derive(Debug, Drop)]
 pub enum FlightForm<N> {
-    /// Flies the mission of a specification and a script, and prints its trace.
+    /// Flies the mission of a specification and a script, and prints the trace of the flight.
     Run {
         specification: N,
         script: N,
     },
-    /// Flies the mission of a specification and a script while two readers read its summary, and prints its last
-    /// summary in one line.
+    /// Flies the mission of a specification and a script while two readers read the summary of the flight. Prints the
+    /// last summary in one line.
     Watch {
         specification: N,
         script: N,
@@ -73,7 +73,7 @@ pub enum FlightForm<N> {
         specification: N,
         count: FaultCount,
     },
-    /// Flies the script on each line of a file, and prints a line for each and one for the totals.
+    /// Flies the script on each line of a file. Prints a line for each script, and a line for the totals.
     Flights {
         specification: N,
         scripts: N,
@@ -113,8 +113,8 @@ pub enum SpecificationForm<N> {
     Fill {
         specification: N,
     },
-    /// Prints the configuration that each rule chooses, with the configurations from which and the number of
-    /// environments in which the rule chooses it.
+    /// Prints the configuration that each rule chooses, the configurations from which the rule chooses it, and the
+    /// number of environments in which the rule chooses it.
     Choices {
         specification: N,
     },

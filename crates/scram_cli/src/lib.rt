@@ -1,5 +1,5 @@
 //! The command. Its answer is a function of its words and of the bytes of the files that they name, with one
-//! exception: if the needs have several cycles, the answer may show any of them.
+//! exception: if the needs of the applications have several cycles, the answer may contain any of them.
 #![tactic(auto)]
 
 mod command;

@@ -13,8 +13,8 @@ use Rattle.scram_doc.specs.Lists.{AllAfter}
 same : {A : Type 0} (x y : A) → Some x ≡ Some y → x ≡ y
 same x y e = cc
 
--- If each element of a list satisfies a fact and an appended element satisfies it too, each element of the longer
--- list does.
+-- If each element of a list satisfies `Fact` with the elements before it, and `x` satisfies `Fact` with the whole
+-- list, then each element of the list extended by `x` satisfies `Fact` with the elements before it.
 pub after_push : {A : Type 0} → (Fact : List A → A → Type 0) → (xs : List A) → (x : A) → AllAfter Fact xs → Fact xs x → AllAfter Fact (xs ++ x ∷ [])
 after_push Fact [] x all new zero y e = subst (λ (z : _). Fact [] z) (same x y e) new
 after_push Fact [] x all new (suc i) y e = absurd (let none : None ≡ Some y = e in cc)
@@ -22,7 +22,8 @@ after_push Fact (a ∷ rest) x all new zero y e = all zero y e
 after_push {A} Fact (a ∷ rest) x all new (suc i) y e =
     after_push (λ (ys : List A) (z : A). Fact (a ∷ ys) z) rest x (λ j z f. all (suc j) z f) new i y e
 
--- After an element is read, the rest of the reading begins at the next index.
+-- If `whole` is the result of reading from index `i` on, and the value at `i` is read as `x`, then `whole` is also
+-- the result of reading from index `i + 1` on with `x` appended to `done`.
 pub element_read : {A : Type 0} → (read : List ℕ → List A → Data → Result A DocFault) → (at : List ℕ) (i : ℕ) (done : List A) (vs : List Value) (v : Value) (x : A) (whole : Result (List A) DocFault)
     → i < length vs → v ≡ get_or vs i v → read (item_path at i) done (view v) ≡ Ok x
     → elements_from read at i done (items_view (drop i vs)) ≡ whole
@@ -31,7 +32,8 @@ element_read read at i done vs v x whole below is value so_far =
     let more : suc i ≡ i + 1 = omega arith in
     sym (at_drop_more (λ (ws : List Value). elements_from read at i done (items_view ws)) vs i v below ∙ rw (← is, value, more) refl) ∙ so_far
 
--- After the step of an element, the rest of the steps begins at the next index.
+-- If `whole` is the result of the steps from index `i` on, and the step at `i` leads to state `next`, then `whole` is
+-- also the result of the steps from index `i + 1` on in state `next`.
 pub step_made : {S : Type 0} → (step : List ℕ → S → Data → Result S DocFault) → (at : List ℕ) (i : ℕ) (made : S) (vs : List Value) (v : Value) (next : S) (whole : Result S DocFault)
     → i < length vs → v ≡ get_or vs i v → step (item_path at i) made (view v) ≡ Ok next
     → folded_from step at i made (items_view (drop i vs)) ≡ whole

@@ -1,4 +1,4 @@
--- A set of names gives each name the number that a search through the items gives.
+-- The index of a name in a list of names is the index that a search through the named items finds.
 use Rattle.std.proofs.Common.{◌≡◌, ℕ, ◌+◌, Bool, true, false, cond, List, [], ◌∷◌, ◌++◌, map, refl, ap, sym, ◌∙◌}
 use Rattle.std.specs.Prelude.{Option, Some, None}
 use Rattle.std.specs.List.{list_any, position_from}
@@ -37,7 +37,7 @@ same_any : {A : Type 0} (test other : A → Bool) → ((y : A) → test y ≡ ot
 same_any test other same [] = refl
 same_any test other same (x ∷ xs) = rw (same x, same_any test other same xs) refl
 
--- If a name is not in the list, adding it appends it.
+-- If no item of the list has the name of `x`, inserting `x` as a key appends the name of `x` to the list of names.
 pub added : {A : Type 0} (name : A → List ℕ) (eq : A → A → Bool) (xs : List A) (x : A) (text : List ℕ)
     → ((y : A) → eq x y ≡ bytes_eq (name x) (name y)) → name x ≡ text → index_named itself (map name xs) text ≡ None
     → map name (insert_key eq xs x) ≡ map name xs ++ text ∷ []

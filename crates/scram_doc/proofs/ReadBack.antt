@@ -14,7 +14,7 @@ use Rattle.scram_doc.specs.Lists.{AllAfter, elements_at, elements_from}
 use Rattle.scram_doc.specs.Paths.{item_path}
 use Rattle.scram_doc.specs.Values.{items_within, whole_below}
 
--- If a step succeeds, the chain has the result of the rest at the value of the step.
+-- If the first step of a chain succeeds with the value `a`, the chain has the result of `rest` at `a`.
 pub chained : {A B E : Type 0} (r : Result A E) (rest : A → Result B E) (a : A) (b : Result B E) → r ≡ Ok a → rest a ≡ b → chain r rest ≡ b
 chained r rest a b e f = rw (e) f
 
@@ -25,8 +25,8 @@ seam : {A : Type 0} (xs : List A) (x : A) (ys : List A) → slice_get (xs ++ x �
 seam [] x ys = refl
 seam (y ∷ xs) x ys = seam xs x ys
 
--- If each element satisfies a fact with the elements before it, the element `x` satisfies it with the elements
--- `before`.
+-- If each element of the list `before ++ x ∷ after` satisfies a fact with the elements before it, `x` satisfies the
+-- fact with the elements `before`.
 pub fact_after : {A : Type 0} (Fact : List A → A → Type 0) (before : List A) (x : A) (after : List A) → AllAfter Fact (before ++ x ∷ after) → Fact before x
 fact_after {A} Fact before x after all =
     subst (λ (ys : List A). Fact ys x) (take-append_seam before (x ∷ after)) (all (length before) x (seam before x after))

@@ -50,7 +50,7 @@ escape_length (x ∷ xs) =
 pub escaped_length : (xs : List ℕ) → length (quoted xs) ≤ 6 * length xs + 2
 escaped_length xs = let inside = escape_length xs in omega (arith, inside, length-append (escape xs) (34 ∷ []))
 
--- The length of a text as it is written, including its quotes.
+-- The length of the JSON text of a string, including the two quotes.
 abbrev pub exact : List ℕ → ℕ
 exact text = length (quoted text)
 
@@ -72,7 +72,7 @@ abbrev mutual
   members_weight measure no_members = 1
   members_weight measure (member k d ms) = measure k + 2 + weight measure d + members_weight measure ms
 
--- The measure of each text is at least the length of the text as it is written.
+-- The measure of each string is at least the length of its JSON text.
 abbrev pub Covers : (List ℕ → ℕ) → Type 0
 Covers measure = (s : List ℕ) → length (quoted s) ≤ measure s
 

@@ -7,8 +7,8 @@ use Rattle.scram_doc.specs.declared.fault.DocFault.{DocFault}
 use Rattle.scram_doc.specs.declared.rule.TheConstants.{NO_JSON_TEXT}
 use Rattle.scram_doc.specs.Faults.{or_broken}
 
--- The value of a JSON text, or `None` if the bytes are not UTF-8 or not a JSON text that nests at most 127 levels
--- deep.
+-- The value of a JSON text that nests at most 127 levels deep. It is `None` if the bytes are not UTF-8 or not such a
+-- text.
 abbrev pub document : List ℕ → Option Data
 document bytes = if is_utf8 bytes then read bytes else None
 

@@ -4,11 +4,11 @@ use Rattle.scram_doc.specs.declared.fault.DocFault.{DocFault}
 use Rattle.scram_doc.specs.declared.fault.DocError.{DocError}
 use Rattle.scram_doc.specs.declared.fault.DocError.TheVariants.{Fault, NoMemory}
 
--- The error that the rule is broken at the path.
+-- The error for rule `rule`, which is broken at path `path`.
 abbrev pub broken : {A : Type 0} → ℕ → List ℕ → Result A DocFault
 broken rule path = Err (record { rule = rule; path = path })
 
--- The value, or the error that the rule is broken at the path if there is no value.
+-- The value, or the error for rule `rule`, broken at path `path`, if there is no value.
 abbrev pub or_broken : {A : Type 0} → ℕ → List ℕ → Option A → Result A DocFault
 or_broken rule path (Some a) = Ok a
 or_broken rule path None = broken rule path

@@ -82,7 +82,7 @@ impl Lengths {
     }
 }
 
-/// Returns the elements of the list `v` at path `at`, whose length has to be within `lengths`.
+/// Returns the elements of the list `v` at path `at`. The length of the list must be within `lengths`.
 ///
 /// # Errors
 ///

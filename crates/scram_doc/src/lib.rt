@@ -1,5 +1,5 @@
 //! A reader of JSON documents by path. Each call returns the value at a path, or the number of the broken rule and
-//! the path where the rule is broken, exactly as its definition gives it. Lists are read element by element, named
+//! the path where the rule is broken, exactly as its definition states. Lists are read element by element, named
 //! items are numbered in order, and lists are written as their canonical values.
 #![tactic(auto)]
 

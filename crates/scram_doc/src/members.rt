@@ -8,7 +8,7 @@ ghost use Rattle.scram_doc.specs.Members.{object_at, required_at, no_more_than};
 use crate::{DocFault, Path, rule};
 use serde_json::{Map, Value};
 
-/// Checks that the value is an object. Rule 2 is broken at its path if it is not.
+/// Checks that the value is an object. Returns a fault of rule 2 at its path if it is not.
 pub fn object(v: &Value, at: &Path) -> Result<(), DocFault>
     ensures { result ≡ object_at at.now (view v.now) }
 {
@@ -26,8 +26,8 @@ pub fn field<'a>(v: &'a Value, name: &str) -> Option<&'a Value>
     v.get(name)
 }
 
-/// Returns the value of member `name` of the value at path `at`. Rule 3 is broken at the member's path if there is no
-/// such member. The member's path has to fit the maximum length of a path.
+/// Returns the value of member `name` of the value at path `at`, or a fault of rule 3 at the member's path if there
+/// is no such member. The member's path must fit the maximum length of a path.
 pub fn required<'a>(v: &'a Value, name: &str, at: &Path) -> Result<&'a Value, DocFault>
     requires { length at.now + 1 + length name.now ≤ 64 }
     ensures { ok_map (λ d. view d.now) result ≡ required_at name.now at.now (view v.now) }
@@ -35,8 +35,8 @@ pub fn required<'a>(v: &'a Value, name: &str, at: &Path) -> Result<&'a Value, Do
     field(v, name).ok_or_else(|| DocFault::new(rule::MISSING_MEMBER, &at.member(name)))
 }
 
-/// Checks that an object has at most `count` members. Rule 4 is broken at its path if it has more. A member that the
-/// text repeats counts once. A value that is not an object has no members.
+/// Checks that an object has at most `count` members. Returns a fault of rule 4 at its path if it has more. A member
+/// that the text repeats counts once. A value that is not an object has no members.
 pub fn no_more_than(v: &Value, count: usize, at: &Path) -> Result<(), DocFault>
     ensures { result ≡ no_more_than count at.now (view v.now) }
 {

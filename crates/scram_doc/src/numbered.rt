@@ -55,7 +55,7 @@ impl Numbers {
         self.names.get_index_of(name)
     }
 
-    /// Appends a name that is not yet in the list. Returns an error if memory runs out.
+    /// Appends a name, which must not be in the list. Returns an error if memory runs out.
     fn with(self, alloc: Global, name: &str) -> Result<Numbers, AllocError>
         requires { index_named itself self name.now ≡ None }
         ensures { IfOk result (λ numbers. numbers ≡ self ++ name.now ∷ []) }
@@ -85,7 +85,7 @@ impl<T, N: Naming<T>> Model for Numbered<T, N> {
 }
 
 impl<T, N: Naming<T>> Numbered<T, N> {
-    /// Creates a list of these items, given the names of the items in order.
+    /// Creates a list of these items. `numbers` must be the list of the items' names, in order.
     pub fn of(items: Vec<T>, numbers: Numbers) -> Numbered<T, N>
         requires { numbers ≡ map N.spelling items.items }
         ensures { result ≡ items.items }
@@ -138,7 +138,7 @@ impl<T: Drop, N: Naming<T>> Numbered<T, N> {
         }
     }
 
-    /// Appends an item whose name no item of the list has. Returns an error if memory runs out.
+    /// Appends an item. No item of the list may have its name. Returns an error if memory runs out.
     fn with(self, alloc: Global, item: T) -> Result<Numbered<T, N>, AllocError>
         requires { index_named N.spelling self (N.spelling item) ≡ None }
         ensures { IfOk result (λ numbered. numbered ≡ self ++ item ∷ []) }
@@ -213,8 +213,8 @@ pub fn read_named_items<T: Drop, N: Naming<T>, E: NamedElements<T, N>>(
     Ok(done)
 }
 
-/// Returns the elements of the list `v` at path `at`, whose length has to be within `lengths`. Each element has a
-/// name.
+/// Returns the elements of the list `v` at path `at`. The length of the list must be within `lengths`. Each element
+/// has a name.
 ///
 /// # Errors
 ///

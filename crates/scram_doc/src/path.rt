@@ -38,7 +38,7 @@ impl Path {
         Path { text: self.text }
     }
 
-    /// Returns the path of member `name` of the object at this path. The result has to fit the maximum length of a
+    /// Returns the path of member `name` of the object at this path. The result must fit the maximum length of a
     /// path.
     pub fn member(&self, name: &str) -> Path
         requires { length self.now + 1 + length name.now ≤ 64 }
@@ -50,8 +50,8 @@ impl Path {
         Path { text }
     }
 
-    /// Returns the path of the element with index `index` of the list at this path. There has to be room for an index
-    /// of five digits.
+    /// Returns the path of the element with index `index` of the list at this path. The index must be below 100,000,
+    /// and this path must have at most 58 bytes.
     pub fn item(&self, index: usize) -> Path
         requires index { index < 100000 }
         requires room { length self.now + 6 ≤ 64 }

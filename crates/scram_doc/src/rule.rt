@@ -1,4 +1,4 @@
-//! The numbers of the rules that hold for every document. They never change, since faults show them.
+//! The numbers of the rules that hold for every document. They never change, since faults contain them.
 
 /// The bytes are not a JSON text.
 pub const NO_JSON_TEXT: u8 = 1;
@@ -9,7 +9,7 @@ pub const NO_OBJECT: u8 = 2;
 /// A member is missing.
 pub const MISSING_MEMBER: u8 = 3;
 
-/// The object has a member that is not in its table.
+/// The object has a member besides those that it must have.
 pub const FURTHER_MEMBER: u8 = 4;
 
 /// The value is not a list.

@@ -36,16 +36,16 @@ fn count_items(items: &[Value]) -> usize
     items.len()
 }
 
-/// Returns the text of a string. Rule 7 is broken at its path if the value is not a string.
+/// Returns the text of a string, or a fault of rule 7 at its path if the value is not a string.
 pub fn text<'a>(v: &'a Value, at: &Path) -> Result<&'a str, DocFault>
     ensures { ok_map (λ s. s.now) result ≡ text_at at.now (view v.now) }
 {
     v.as_str().ok_or_else(|| DocFault::new(rule::NO_TEXT, at))
 }
 
-/// Returns the whole number that the value encodes, from `least` to `most`. Rule 8 is broken at its path if the value
-/// is not such a number. A number with a point or an exponent, `-0` and a number beyond 64 bits are not whole
-/// numbers.
+/// Returns the whole number that the value encodes, from `least` to `most`. Returns a fault of rule 8 at its path if
+/// the value is not such a number. A number with a point or an exponent, `-0` and a number beyond 64 bits are not
+/// whole numbers.
 pub fn int_in(v: &Value, least: i64, most: i64, at: &Path) -> Result<i64, DocFault>
     ensures value { result ≡ int_at least most at.now (view v.now) }
     ensures least { IfOk result (λ n. least ≤ℤ n) }
@@ -63,8 +63,8 @@ fn is_within(number: i64, least: i64, most: i64) -> bool
     least <= number && number <= most
 }
 
-/// Returns the whole number that the value encodes, at least `least` and below `end`. Rule 8 is broken at its path if
-/// the value is not such a number.
+/// Returns the whole number that the value encodes, at least `least` and below `end`. Returns a fault of rule 8 at
+/// its path if the value is not such a number.
 pub fn whole_in(v: &Value, least: u32, end: u32, at: &Path) -> Result<u32, DocFault>
     ensures value { result ≡ whole_at least end at.now (view v.now) }
     ensures least { IfOk result (λ n. least ≤ n) }

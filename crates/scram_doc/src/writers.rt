@@ -17,12 +17,12 @@ pub trait Writes<T> {
     /// The value that is written for an item.
     ghost written: { Self → T → Data };
 
-    /// Returns the value that is written for an item.
+    /// Returns the value that is written for an item. Returns an error if memory runs out.
     fn value(&self, alloc: Global, item: &T) -> Result<Value, AllocError>
         ensures { IfOk result (λ v. view v ≡ written self.now item.now) };
 }
 
-/// Returns the values that are written for the items of a list, in order.
+/// Returns the values that are written for the items of a list, in order. Returns an error if memory runs out.
 pub fn write_list<T, W: Writes<T>>(
     alloc: Global,
     writer: &W,
@@ -38,7 +38,8 @@ pub fn write_list<T, W: Writes<T>>(
     Ok(values)
 }
 
-/// Writes the list of the items as a member with this name.
+/// Sets the member `name` of an object to the list of the values that are written for the items. Returns an error if
+/// memory runs out.
 pub fn put_list<T, W: Writes<T>>(
     members: &mut Map<String, Value>,
     alloc: Global,

@@ -6,7 +6,7 @@ none_agree : (told : Option FileMap) → IfSome told (λ map. Agrees map [])
 none_agree None = tt
 none_agree (Some map) = tt
 
--- If no file is read, the history grows by no read.
+-- If no file is read, the history grows by the empty list.
 pub grew_none : (files : FilesState) → Grew files files []
 grew_none files = record { history = sym (append-nil files.history); known_map = refl; agrees = none_agree files.known_map; count = omega arith }
 

@@ -15,7 +15,7 @@ prefix_after old mid new a b first second = record {
   took = took_more old mid new a second.front first second.took;
 }
 
--- A prefix of `a` is a prefix of each text that begins with `a`.
+-- If a sink takes a prefix of `a`, it takes a prefix of `a ++ b`.
 pub prefix_more : (old new : SinkState) (a b : List ℕ) → TookPrefix old new a → TookPrefix old new (a ++ b)
 prefix_more old new a b first = record {
   front = first.front;
@@ -41,8 +41,7 @@ surely_by (Some n) last before between now after a b first second = λ fits.
     let left : n - length a - length b ≡ n - length (a ++ b) = omega arith in
     (record { same = two.0.same ∙ one.0.same; below = one.0.below }, two.1 ∙ ap (λ (m : ℕ). Some m) left)
 
--- If the sink is sure to take the bytes of two puts in a row, the number of bytes that it is sure to take falls by
--- the number of both.
+-- If `TakesSurely` holds for the bytes `a` and then for the bytes `b`, it holds for `a ++ b`.
 pub surely_more : (old mid new : SinkState) (a b : List ℕ) → TakesSurely old mid a → TakesSurely mid new b → TakesSurely old new (a ++ b)
 surely_more old mid new a b first second = surely_by old.surely mid.surely old.faults mid.faults new.faults new.surely a b first second
 
@@ -58,8 +57,8 @@ surely_none_by : (room : Option ℕ) (count : ℕ) → IfSome room (λ _. count 
 surely_none_by None count below = tt
 surely_none_by (Some n) count below = λ fits. (record { same = refl; below = below }, let same : n ≡ n - 0 = omega arith in ap (λ (left : ℕ). Some left) same)
 
--- Without a put, no bytes are taken and no count rises, since the count of a sink with a known number is below the
--- maximum.
+-- Without a put, a sink takes the empty list, and no count rises. If the number of bytes that the sink is sure to
+-- take is known, its count of faults must be below the maximum.
 pub printed_none : (sink : SinkState) → IfSome sink.surely (λ _. sink.faults < greatest_count) → Printed sink sink []
 printed_none sink below = record {
   count = omega arith;
@@ -67,7 +66,7 @@ printed_none sink below = record {
   surely = surely_none_by sink.surely sink.faults below;
 }
 
--- If `a` is printed and then `b`, `a ++ b` is printed.
+-- If `a` is printed and then `b` is printed, `a ++ b` is printed.
 pub printed_more : (old mid new : SinkState) (a b : List ℕ) → Printed old mid a → Printed mid new b → Printed old new (a ++ b)
 printed_more old mid new a b first second = record {
   count = omega (arith, first.count, second.count);
@@ -84,7 +83,7 @@ cut_after old mid new a b first second = record {
   surely = surely_more old mid new a b first.surely second.surely;
 }
 
--- If bytes are cut off, each text that begins with them is cut off.
+-- If `a` is cut off, `a ++ b` is cut off.
 pub cut_more : (old new : SinkState) (a b : List ℕ) → CutOff old new a → CutOff old new (a ++ b)
 cut_more old new a b cut = record {
   count = cut.count;

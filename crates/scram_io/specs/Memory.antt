@@ -22,7 +22,8 @@ pub record FilesHeld : Type 0 where
 abbrev pub unread_files : FileMap → List ℕ → FilesHeld
 unread_files map failing = record { history = []; map = map; failing = failing; reads = 0; faults = 0 }
 
--- The state of files in memory, in the form that all kinds of files share.
+-- The state of files in memory, in the form that all kinds of files share. The files are steady if no read is to fail
+-- and the count of faults is below the maximum.
 abbrev pub files_state : FilesHeld → FilesState
 files_state held = record {
   history = held.history;
@@ -31,12 +32,13 @@ files_state held = record {
   faults = held.faults;
 }
 
--- The result of a read of at most `limit` bytes, given the bytes of the file, or `None` if there is no such file.
+-- The result of a read of at most `limit` bytes. The last argument is the bytes of the file, or `None` if there is no
+-- such file.
 abbrev pub within_limit : ℕ → Option (List ℕ) → Result (List ℕ) ReadFault
 within_limit limit None = Err Failed
 within_limit limit (Some bytes) = if nat_le (length bytes) limit then Ok bytes else Err TooLong
 
--- The result of the next read, of file `name` and at most `limit` bytes, if memory does not run out.
+-- The result of the next read if memory does not run out. The read is of file `name` and of at most `limit` bytes.
 abbrev pub read_of : FilesHeld → List ℕ → ℕ → Result (List ℕ) ReadFault
 read_of held name limit = if is_listed held.failing held.reads then Err Failed else within_limit limit (file_at name held.map)
 
@@ -44,7 +46,7 @@ read_of held name limit = if is_listed held.failing held.reads then Err Failed e
 abbrev pub read_fails : FilesHeld → List ℕ → Bool
 read_fails held name = is_listed held.failing held.reads || is_none (file_at name held.map)
 
--- The entry of the history for a read of a file with this name and these bytes, or no entry if there is no such file.
+-- The history of one read of file `name`: an entry with the name and the bytes, or no entry if the bytes are `None`.
 abbrev pub found_as : List ℕ → Option (List ℕ) → History
 found_as name None = []
 found_as name (Some bytes) = (name, bytes) ∷ []
@@ -79,7 +81,7 @@ empty_sink room failing = record { bytes = []; room = room; failing = failing; p
 abbrev pub put_takes : SinkHeld → List ℕ → Bool
 put_takes held bytes = not (is_listed held.failing held.puts) && nat_le (length held.bytes + length bytes) held.room
 
--- The sink after a put of these bytes.
+-- The sink after a put of these bytes. If the put does not take the bytes, the count of faults rises.
 abbrev pub after_put : SinkHeld → List ℕ → SinkHeld
 after_put held bytes =
     if put_takes held bytes then record held { bytes = held.bytes ++ bytes; puts = counted held.puts }

@@ -41,11 +41,12 @@ pub record FilesState : Type 0 where
   pub steady : Bool
   pub faults : ℕ
 
--- Each of the reads has the bytes that the map has for its name.
+-- The bytes of each read are the bytes that the map has for the name of the read.
 abbrev pub Agrees : FileMap → History → Type 0
 Agrees map reads = AllByRecursion (λ (read : List ℕ × List ℕ). file_at read.0 map ≡ Some read.1) reads
 
--- The history grew by exactly these reads, in order. If the map is known, each read has the bytes of the map.
+-- The history grew by exactly these reads, in order. If the map is known, each read has the bytes of the map. The map
+-- did not change, and the count of faults did not fall.
 pub record Grew (old new : FilesState) (reads : History) : Type 0 where
   pub history : new.history ≡ old.history ++ reads
   pub known_map : new.known_map ≡ old.known_map
@@ -66,7 +67,7 @@ abbrev pub StaysSteady : FilesState → FilesState → List ℕ → Type 0
 StaysSteady old new name = IsTrue old.steady → IfSome old.known_map (λ map. IsSome (file_at name map) → Unrisen old.faults new.faults × IsTrue new.steady)
 
 -- The state of a sink: the bytes sent, the bytes held back, the number of further bytes that the sink is sure to take
--- and send, if it is known, and the count of faults.
+-- and send (`None` if unknown), and the count of faults.
 pub record SinkState : Type 0 where
   pub sent : List ℕ
   pub held : List ℕ
@@ -88,18 +89,19 @@ pub record TookPrefix (old new : SinkState) (bytes : List ℕ) : Type 0 where
   pub parts : bytes ≡ front ++ rest
   pub took : Took old new front
 
--- If the number of bytes that the sink is sure to take is known and is at least the number of these bytes, the count
--- of faults did not rise and the number fell by their number.
+-- Let `room` be the number of bytes that the sink was sure to take. If `room` is known and is at least the length of
+-- `bytes`, the count of faults did not rise, and the sink is now sure to take `room` less that length.
 abbrev pub TakesSurely : SinkState → SinkState → List ℕ → Type 0
 TakesSurely old new bytes = IfSome old.surely (λ room. length bytes ≤ room → Unrisen old.faults new.faults × (new.surely ≡ Some (room - length bytes)))
 
--- The sink took all of the bytes.
+-- The sink took all of the bytes, the count of faults did not fall, and `TakesSurely` holds.
 pub record Printed (old new : SinkState) (bytes : List ℕ) : Type 0 where
   pub count : old.faults ≤ new.faults
   pub whole : Took old new bytes
   pub surely : TakesSurely old new bytes
 
--- The sink failed, and took a prefix of the bytes.
+-- The sink failed: it took a prefix of the bytes, and the count of faults rose or is at the maximum. `TakesSurely`
+-- holds.
 pub record CutOff (old new : SinkState) (bytes : List ℕ) : Type 0 where
   pub count : old.faults ≤ new.faults
   pub prefix : TookPrefix old new bytes
@@ -110,14 +112,14 @@ pub record CutOff (old new : SinkState) (bytes : List ℕ) : Type 0 where
 abbrev pub Prints : {A E : Type 0} → Result A E → SinkState → SinkState → List ℕ → Type 0
 Prints result old new bytes = MatchResult result (λ _. Printed old new bytes) (λ _. CutOff old new bytes)
 
--- The sink neither took nor lost bytes.
+-- The sink neither took nor lost bytes, the count of faults did not fall, and `TakesSurely` holds for the empty list.
 pub record Flushed (old new : SinkState) : Type 0 where
   pub same : taken new ≡ taken old
   pub count : old.faults ≤ new.faults
   pub surely : TakesSurely old new []
 
--- A flush neither takes nor loses bytes. No bytes are held back if the result is `Ok`, and the count of faults rose
--- if it is `Err`.
+-- A flush neither takes nor loses bytes. If the result is `Ok`, no bytes are held back. If the result is `Err`, the
+-- count of faults rose.
 pub record Flushes {A E : Type 0} (result : Result A E) (old new : SinkState) : Type 0 where
   pub kept : Flushed old new
   pub sent : OnOk result (new.held ≡ [])

@@ -19,7 +19,7 @@ pub enum ReadFault {
     /// The file has more bytes than the limit.
     #[error("the file is longer than the limit")]
     TooLong,
-    /// Memory ran out. It can occur wherever the read would otherwise return the bytes.
+    /// Memory ran out. This can occur wherever the read would otherwise return the bytes.
     #[error("out of memory")]
     NoMemory,
 }
@@ -45,7 +45,7 @@ impl From<AllocError> for ReadFault {
 
 /// Files that are read by name, each as a whole. Contracts see their `state`: the history of reads, the map from
 /// names to bytes if it is known beforehand, whether the files are steady, and the count of faults. The count never
-/// falls and stays at the maximum `u64`. Reads of steady files do not fail if the map has the name.
+/// falls, and does not rise past `u64::MAX`. Reads of steady files do not fail if the map has the name.
 pub trait Files {
     ghost state: { Self → FilesState };
 
@@ -56,7 +56,7 @@ pub trait Files {
     ///
     /// Returns `Failed` if the file could not be read, and `NoMemory` if memory runs out. Returns `TooLong` if the
     /// read did not fail, memory sufficed, and the file has more than `limit` bytes. Then more than `limit` bytes
-    /// were read, and files without a known map count it as a fault.
+    /// were read, and the count of faults rises if the map is not known.
     fn read(&mut self, alloc: Global, name: &str, limit: usize) -> Result<Vec<u8>, ReadFault>
         ensures grew { IfOk result (λ bytes. Grew (state self.old) (state self.new) ((name.now, bytes.items) ∷ [])) }
         ensures limited { IfOk result (λ bytes. length bytes.items ≤ limit) }

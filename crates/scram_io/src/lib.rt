@@ -1,6 +1,6 @@
 //! Input and output of SCRAM: files that are read and a sink that is written, each with a history and a count of
 //! faults. A file is read as a whole. A sink takes all the bytes that are put or, at a fault, a prefix of them. After
-//! a flush all bytes have been sent, and every fault is counted.
+//! a flush that succeeds, all bytes have been sent. Every fault is counted.
 #![tactic(auto)]
 
 pub mod files;

@@ -14,9 +14,9 @@ use std::marker::Model;
 
 /// Files in memory, for tests and for callers that have the bytes already.
 ///
-/// Contracts see the history, the map, the numbers of the reads that are to fail, the number of reads and the number of
-/// faults. Each call of `read` is a read, numbered from 0. Both counts stay at the maximum `u64`, which is above every
-/// number that can be listed.
+/// Contracts see the history, the map, the numbers of the reads that are to fail, the number of reads and the number
+/// of faults. Each call of `read` is a read, numbered from 0. Neither number rises past `u64::MAX`, which is above
+/// every number that can be listed.
 #[derive(Drop)]
 pub struct MemFiles {
     files: Vec<(String, Vec<u8>)>,

@@ -10,12 +10,12 @@ use scram_types::NoMemory;
 use std::alloc::Global;
 use std::marker::Model;
 
-/// A sink that keeps the bytes in memory. Its buffer is allocated when it is created. The bytes that it takes count
-/// as sent.
+/// A sink that keeps the bytes in memory. Its buffer is allocated when the sink is created. The bytes that the sink
+/// takes count as sent.
 ///
 /// Contracts see the bytes, the capacity, the numbers of the puts that are to fail, the number of puts and the number
-/// of faults. Each call of `put` is a put, numbered from 0. Both counts stay at the maximum `u64`, which is above every
-/// number that can be listed.
+/// of faults. Each call of `put` is a put, numbered from 0. Neither number rises past `u64::MAX`, which is above
+/// every number that can be listed.
 #[derive(Drop)]
 pub struct MemSink {
     bytes: Vec<u8>,
@@ -34,7 +34,8 @@ impl Model for MemSink {
 }
 
 impl MemSink {
-    /// Creates a sink with a capacity of `room` bytes. The puts whose numbers are in `failing` fail.
+    /// Creates a sink with a capacity of `room` bytes. The puts whose numbers are in `failing` fail. Returns an error
+    /// if memory runs out.
     pub fn new(alloc: Global, room: usize, failing: Vec<u32>) -> Result<MemSink, NoMemory>
         ensures { IfOk result (λ sink. sink ≡ empty_sink room failing.items) }
     {

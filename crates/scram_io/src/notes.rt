@@ -22,7 +22,7 @@ impl NotedReads {
         NotedReads {}
     }
 
-    /// Notes that the file with this name had these bytes, after the reads noted so far.
+    /// Appends a read to the note: the name of a file, and the bytes that were read from it.
     pub fn note(&mut self, _name: &[u8], _bytes: &[u8])
         ensures { self.new.reads ≡ self.old.reads ++ (_name.now, _bytes.now) ∷ [] }
     {}

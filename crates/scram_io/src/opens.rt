@@ -11,13 +11,13 @@ use std::fs::File;
 use std::io::Read;
 use std::{io, rt};
 
-/// An opener of streams by name. `bytes` gives the contents of the stream with a name, if they are known.
+/// An opener of streams by name. `bytes` is the contents of the stream with a name, or `None` if they are not known.
 pub(crate) trait Opens {
     type Stream: Read + Drop;
 
     ghost bytes: { Self → List ℕ → Option (List ℕ) };
 
-    /// Opens the stream with this name.
+    /// Opens the stream with this name. Returns an error if the stream cannot be opened.
     fn open(&self, name: &str) -> io::Result<Self::Stream>
         ensures { IfOk result (λ stream. IfSome (bytes self.now name.now) (λ all. Self.Stream.remaining stream ≡ Some all)) };
 }

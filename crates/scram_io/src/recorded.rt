@@ -27,7 +27,7 @@ impl NotedBytes {
         NotedBytes {}
     }
 
-    /// Notes these bytes after the bytes noted so far.
+    /// Appends bytes to the note.
     fn note(&mut self, _bytes: &[u8])
         ensures { self.new.bytes ≡ self.old.bytes ++ _bytes.now }
     {}

@@ -10,8 +10,8 @@ use thiserror::Error;
 pub struct SinkFault;
 
 /// A sink of bytes, which allocates nothing. Contracts see its `state`: the bytes sent, the bytes held back, the
-/// number of further bytes that the sink is sure to take and send, if it is known, and the count of faults. The count
-/// never falls and stays at the maximum `u64`.
+/// number of further bytes that the sink is sure to take and send (`None` if unknown), and the count of faults. The
+/// count never falls, and does not rise past `u64::MAX`.
 pub trait Sink {
     ghost state: { Self → SinkState };
 
@@ -19,7 +19,7 @@ pub trait Sink {
     fn put(&mut self, bytes: &[u8]) -> Result<(), SinkFault>
         ensures { Prints result (state self.old) (state self.new) bytes.now };
 
-    /// Sends all bytes taken. After an `Ok` no bytes are held back.
+    /// Sends all bytes taken. If the result is `Ok`, no bytes are held back.
     fn flush(&mut self) -> Result<(), SinkFault>
         ensures { Flushes result (state self.old) (state self.new) };
 

@@ -13,7 +13,7 @@ const PIECE: usize = 4096;
 
 /// Reads a stream to its end, or until more than `limit` bytes were read.
 ///
-/// It asks for at most `limit + 1` bytes in all and ends when a read gives no bytes.
+/// The function asks for at most `limit + 1` bytes in all. It ends when a read returns no bytes.
 ///
 /// # Errors
 ///
@@ -36,7 +36,7 @@ pub fn read_past<I: Read>(alloc: Global, input: &mut I, limit: usize) -> io::Res
     Ok(bytes)
 }
 
-/// Writes all the bytes to a stream, which may keep them back. Returns an error if a write fails or takes no bytes.
+/// Writes all the bytes to a stream, which may hold them back. Returns an error if a write fails or takes no bytes.
 pub fn write_whole<O: Write>(output: &mut O, bytes: &[u8]) -> Result<(), SinkFault>
     ensures whole { OnOk result (Appends (O.contents output.old) (O.contents output.new) bytes.now) }
     ensures prefix { OnErr result (AppendsPrefix (O.contents output.old) (O.contents output.new) bytes.now) }

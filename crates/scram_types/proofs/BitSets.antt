@@ -12,7 +12,7 @@ use Rattle.scram_types.proofs.Naturals.{below_or_at, differ_test, equal_test, sa
 pub twice : (n : ℕ) → 2 ^ suc n ≡ 2 ^ n + 2 ^ n
 twice n = pow-suc 2 n ∙ omega arith
 
--- The bit that stands for the result of a test.
+-- The bit for the result of a test: 1 for `true`, and 0 for `false`.
 abbrev pub bit_of : Bool → ℕ
 bit_of b = if b then 1 else 0
 
@@ -52,7 +52,7 @@ lowest : (b : Bool) → bit_at (bit_of b) 0 ≡ bit_of b
 lowest true = refl
 lowest false = refl
 
--- Each bit of `bits_below` is the result of the test.
+-- If `i` is below `n`, bit `i` of `bits_below test n` is the result of the test for `i`.
 pub bit_is : (test : ℕ → Bool) (n i : ℕ) → i < n → bit_at (bits_below test n) i ≡ bit_of (test i)
 bit_is test zero i h = absurd (omega arith)
 bit_is test (suc n) i h = elim (below_or_at i n h) [
@@ -69,7 +69,7 @@ set_bit false = refl
 pub has_bits : (test : ℕ → Bool) (n i : ℕ) → i < n → has_bit (bits_below test n) i ≡ test i
 has_bits test n i low = rw (bit_is test n i low) (set_bit (test i))
 
--- Two sets with the same bits are equal.
+-- If a set is below `2 ^ n` and its first `n` bits are the results of a test, the set equals `bits_below`.
 pub bits_are : (set : ℕ) (test : ℕ → Bool) (n : ℕ) → set < 2 ^ n → ((i : ℕ) → i < n → bit_at set i ≡ bit_of (test i)) → set ≡ bits_below test n
 bits_are set test n few is = same_from_bits_below n set (bits_below test n) few (bits_lt test n) (λ i low. is i low ∙ sym (bit_is test n i low))
 
@@ -119,7 +119,7 @@ all_ones (suc n) = let before = all_ones n in rw (twice n) (omega arith)
 pub bits_all : (n : ℕ) → 2 ^ n - 1 ≡ bits_below (λ i. true) n
 bits_all n = let all = all_ones n in omega arith
 
--- A member of a set to which `k` was added is a member of the original set or `k`.
+-- If the number `k` is added to a set, each member of the new set is `k` or a member of the original set.
 pub has_more : (set k n : ℕ) → has_bit (bit_or set (2 ^ k)) n ≡ true → (has_bit set n ≡ true) ⊎ (n ≡ k)
 has_more set k n is = elim (same_or_not n k) [
   | inl same ↦ inr same
@@ -157,7 +157,8 @@ last_more : (b t : Bool) (c : ℕ) → (b ≡ true → t ≡ false) → c + bit_
 last_more true t c f = rw (f refl) (omega arith)
 last_more false t c f = omega arith
 
--- If a test is extended by a number that did not pass it, the count of the numbers that pass rises by one.
+-- A test that `q` fails is extended so that `q` passes. Then the count of the numbers that pass rises by one. If `b`
+-- is `false`, the test is not extended and the count stays the same.
 pub count_more : (s : ℕ → Bool) (q n : ℕ) (b : Bool) → q < n → (b ≡ true → s q ≡ false) → count_below (λ p. (q == p && b) || s p) n ≡ count_below s n + bit_of b
 count_more s q zero b less apart = absurd (omega arith)
 count_more s q (suc n) b less apart = elim (below_or_at q n less) [

@@ -1,4 +1,5 @@
--- Lemmas on tests that are joined. The values of `b && true`, `b || true` and the like are in std's Math.Bool.
+-- Lemmas on conjunctions and disjunctions of tests. The lemmas on constants, as in `b && true`, are in std's
+-- Math.Bool.
 use Rattle.std.proofs.Common.{◌≡◌, Bool, true, false, refl, sym}
 use Rattle.std.specs.Prelude.{◌&&◌}
 pub use Rattle.std.proofs.lemmas.Bool.{and_from as and_true, and_left as left_false, and_right as right_false, or_left, or_right, or_cases, or_parts as or_false, false_from_ne_true as not_true, true_from_ne_false as not_false}

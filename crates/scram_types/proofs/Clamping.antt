@@ -6,7 +6,7 @@ use Rattle.scram_types.specs.declared.ranges.Range.{Range}
 use Rattle.scram_types.specs.Numbers.{minus, clamp, modulo}
 use Rattle.scram_types.specs.Ranges.{clamp_in, limit}
 
--- The number `x` is within the range.
+-- The number `x` is within the range `r`.
 pub record IsInRange (r : Range) (x : ℤ) : Type 0 where
   pub least : minus r.below ≤ℤ x
   pub greatest : x ≤ℤ pos r.above

@@ -1,4 +1,4 @@
--- Tests on integers, and the orders that they decide.
+-- The test `int_le` on integers decides the order of integers.
 use Rattle.std.proofs.Common.{int_le, ◌≡◌, Bool, true, false, refl, sym, subst}
 use Rattle.std.specs.Prelude.{ℤ, ◌≤ℤ◌}
 use lib.Signed.{le_z_yes}

@@ -55,7 +55,7 @@ any_below_found test (suc n) e = elim (or_cases (any_below test n) (test n) e) [
   | inr here ↦ (n, omega arith, here)
 ]
 
--- If no number from `low` on passes a test, `any_below` has the same value for `n` and for `low`.
+-- If no number from `low` to before `n` passes a test, `any_below` has the same value for `n` and for `low`.
 pub any_skip : (test : ℕ → Bool) (n low : ℕ) → low ≤ n → ((k : ℕ) → low ≤ k → k < n → test k ≡ false) → any_below test n ≡ any_below test low
 any_skip test zero low h none = let least : zero ≡ low = omega arith in ap (any_below test) least
 any_skip test (suc n) low h none = elim (at_or_below low n h) [
@@ -123,7 +123,7 @@ greatest_most value (suc n) k less = elim (below_or_at k n less) [
 max_or : (a b : ℕ) → (max a b ≡ a) ⊎ (max a b ≡ b)
 max_or a b = grind arith
 
--- The maximum is 0 or the value of some number below `n`.
+-- `greatest_below` is 0 or the value of some number below `n`.
 pub greatest_reached : (value : ℕ → ℕ) (n : ℕ) → (greatest_below value n ≡ 0) ⊎ ((k : ℕ) × (k < n) × (greatest_below value n ≡ value k))
 greatest_reached value zero = inl refl
 greatest_reached value (suc n) = elim (max_or (value n) (greatest_below value n)) [
@@ -164,7 +164,7 @@ told_by : {A : Type 0} (answer : ℕ → Option A) (n : ℕ) (x : A) (o : Option
 told_by answer n x (Some y) is told before = let found = before (is ∙ told) in (found.0, omega arith, found.2, found.3)
 told_by answer n x None is told before = (n, omega arith, is, told)
 
--- If there is a first value, some number below `n` has it, and no lower number has a value.
+-- If the first value is `x`, `answer` has the value `x` at some number below `n`, and `None` at each lower number.
 pub first_told : {A : Type 0} (answer : ℕ → Option A) (n : ℕ) (x : A) → first_below answer n ≡ Some x → (k : ℕ) × (k < n) × (first_below answer k ≡ None) × (answer k ≡ Some x)
 first_told answer zero x e = some_none x (sym e)
 first_told answer (suc n) x e = told_by answer n x (first_below answer n) refl e (first_told answer n x)

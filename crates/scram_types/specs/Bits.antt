@@ -1,8 +1,9 @@
--- Sets of numbers that are kept as bits, and the set and the count of the numbers below a limit that pass a test.
+-- Sets of numbers, kept as bits. The set of the numbers below a limit that pass a test, and the count of these
+-- numbers.
 use Rattle.std.specs.Prelude.{ℕ, zero, suc, ◌+◌, ◌^◌, Bool, ◌==◌, if◌then◌else◌}
 use Rattle.std.specs.Int.{bit_at}
 
--- The number `p` is in the set, which is kept as bits.
+-- The number `p` is in the set `set`: bit `p` of `set` is 1.
 abbrev pub has_bit : ℕ → ℕ → Bool
 has_bit set p = bit_at set p == 1
 

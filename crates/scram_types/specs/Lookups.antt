@@ -15,7 +15,7 @@ use Rattle.scram_types.specs.declared.specification.Conf.{Conf}
 use Rattle.scram_types.specs.declared.specification.Factor.{Factor}
 use Rattle.scram_types.specs.Specification.{Parts, mode_in, place_in}
 
--- The id of application number a.
+-- The id of application number `a`.
 abbrev pub app_id : ℕ → AppId
 app_id a = record { 0 = a }
 
@@ -31,13 +31,14 @@ conf_id c = record { 0 = c }
 abbrev pub factor_id : ℕ → FactorId
 factor_id x = record { 0 = x }
 
--- The number of the first item of a list with this name, or `None` if no item has it. The items are numbered from
--- `i`, and `name` gives the name of an item.
+-- The number of the first item whose name is `text`, or `None` if no item has this name. The items are numbered from
+-- `i`, and `name x` is the name of item `x`.
 abbrev pub number_from : {A : Type 0} → (A → List ℕ) → ℕ → List A → List ℕ → Option ℕ
 number_from name i [] text = None
 number_from name i (x ∷ xs) text = if bytes_eq (name x) text then Some i else number_from name (suc i) xs text
 
--- The index of the first item of a list with this name, or `None` if no item has it.
+-- The index of the first item whose name is `text`, or `None` if no item has this name. `name x` is the name of item
+-- `x`.
 abbrev pub number_named : {A : Type 0} → (A → List ℕ) → List A → List ℕ → Option ℕ
 number_named name xs text = number_from name 0 xs text
 
@@ -85,7 +86,8 @@ value_name factor value = option_map_or (λ (name : List ℕ). name) (slice_get 
 abbrev pub kind_of_app : Parts → ℕ → ℕ
 kind_of_app spec a = option_map_or (λ (app : AppSpec). app.kind.0) (slice_get spec.apps a) 0
 
--- The place of application `a` in configuration `c`, or `None` if `a` is off there.
+-- The place of application `a` in configuration `c`. It is `None` if `a` is off there, or if `a` or `c` does not
+-- exist.
 abbrev pub place_of : Parts → ConfId → ℕ → Option Place
 place_of spec c a = option_and_then (λ (conf : Conf). place_in conf a) (slice_get spec.confs c.0)
 
@@ -97,7 +99,8 @@ is_on spec c a = is_some (place_of spec c a)
 abbrev pub mode_of_app : Parts → ℕ → ℕ → Option ModeSpec
 mode_of_app spec a m = option_and_then (λ (app : AppSpec). mode_in app.modes m) (slice_get spec.apps a)
 
--- The costs of the mode in which application `a` is in configuration `c`, or `None` if `a` is off there.
+-- The costs of the mode of application `a` in configuration `c`. It is `None` if `a` has no place there or does not
+-- list the mode of its place.
 abbrev pub mode_of : Parts → ConfId → ℕ → Option ModeSpec
 mode_of spec c a = option_and_then (λ (place : Place). mode_of_app spec a place.mode.0) (place_of spec c a)
 
@@ -109,8 +112,8 @@ opening_env spec = record { up = 2 ^ length spec.procs - 1; factors = replicate 
 abbrev pub env_in : List Row → ℕ → Option Env
 env_in rows f = option_map (λ (row : Row). row.env) (slice_get rows f)
 
--- The environment of the row before row `f`, or the environment at the start of a flight if `f` is 0. It is `None` if
--- there is no such row.
+-- The environment of row `f - 1`, or the environment at the start of a flight if `f` is 0. It is `None` if there is
+-- no row `f - 1`.
 abbrev pub env_before : Parts → List Row → ℕ → Option Env
 env_before spec rows zero = Some (opening_env spec)
 env_before spec rows (suc f) = env_in rows f

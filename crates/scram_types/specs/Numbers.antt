@@ -1,4 +1,5 @@
--- Whole numbers: clamping, division that rounds toward zero, and a remainder that is not negative.
+-- Integers: clamping, division that rounds toward zero, a remainder that is not negative, the words of an area, and
+-- the range in which sums fit 64 bits.
 use Rattle.std.specs.Prelude.{ℕ, ℤ, pos, neg_ℤ, ◌≤ℤ◌, int_div, int_lt, List, slice_index_or, if◌then◌else◌}
 use Rattle.std.specs.Int.{int_rem_euclid}
 

@@ -12,7 +12,8 @@ abbrev pub any_below : (ℕ → Bool) → ℕ → Bool
 any_below test zero = false
 any_below test (suc n) = any_below test n || test n
 
--- The first value that `answer` has at the numbers below `n`, or `None` if it has no value at any.
+-- The value of `answer` at the least number below `n` at which it is not `None`, or `None` if there is no such
+-- number.
 abbrev pub first_below : {A : Type 0} → (ℕ → Option A) → ℕ → Option A
 first_below answer zero = None
 first_below answer (suc n) = option_or (first_below answer n) (answer n)

@@ -53,8 +53,8 @@ abbrev pub mode_in : List ModeSpec → ℕ → Option ModeSpec
 mode_in [] mode = None
 mode_in (listed ∷ modes) mode = if listed.mode.0 == mode then Some listed else mode_in modes mode
 
--- The first bound of the list, in frames, for the pair of configurations `from` and `to`, or `None` if the list has
--- none.
+-- The first bound of the list, in frames, on a reconfiguration from configuration `from` to configuration `to`, or
+-- `None` if the list has no such bound.
 abbrev pub bound_in : List Bound → ℕ → ℕ → Option ℕ
 bound_in [] from to = None
 bound_in (bound ∷ bounds) from to =
@@ -65,14 +65,16 @@ abbrev pub greater_of : Option ℕ → ℕ → ℕ
 greater_of (Some most) frames = if nat_lt most frames then frames else most
 greater_of None frames = frames
 
--- The maximum of `greatest` and the bounds of the list from configuration `from`, or `None` if there are none.
--- `greatest` is the greatest of the preceding bounds, or `None` if there are none.
+-- The maximum of `greatest` and the bounds of the list whose source is configuration `from`. It is `None` if
+-- `greatest` is `None` and the list has no such bound. `greatest` is the greatest of the preceding bounds, or `None`
+-- if there are none.
 abbrev pub greatest_bound_from : Option ℕ → List Bound → ℕ → Option ℕ
 greatest_bound_from greatest [] from = greatest
 greatest_bound_from greatest (bound ∷ bounds) from =
     greatest_bound_from (if bound.from.0 == from then Some (greater_of greatest bound.frames) else greatest) bounds from
 
--- The greatest bound of the list, in frames, from configuration `from`, or `None` if the list has none.
+-- The greatest bound of the list, in frames, whose source is configuration `from`, or `None` if the list has no such
+-- bound.
 abbrev pub greatest_bound_in : List Bound → ℕ → Option ℕ
 greatest_bound_in bounds from = greatest_bound_from None bounds from
 
@@ -135,8 +137,8 @@ pub record IsNeeded (apps : List AppSpec) (app : AppSpec) (needed : AppId) : Typ
   pub there : slice_get apps needed.0 ≡ Some lower
   pub falls : lower.rank < app.rank
 
--- The application is of a kind that is built, needs only applications of lower rank, and lists one to three valid
--- modes.
+-- The application has one of the six kinds and a rank below 8. It lists one to three valid modes. It needs at most
+-- eight applications, each of lower rank.
 pub record IsAppSpec (apps : List AppSpec) (app : AppSpec) : Type 0 where
   pub kind : app.kind.0 < 6
   pub rank : app.rank < 8
@@ -176,7 +178,8 @@ pub record IsWant (factors : List Factor) (want : Want) : Type 0 where
   pub there : slice_get factors want.factor.0 ≡ Some factor
   pub value : want.value < length factor.values
 
--- The rule of the choice table refers only to configurations, values and processors that exist.
+-- The rule of the choice table has at most six requirements, and refers only to configurations, values and processors
+-- that exist.
 pub record IsChoice (procs : List Proc) (confs : List Conf) (factors : List Factor) (rule : Choice) : Type 0 where
   pub from : IsInIfNamed confs rule.from
   pub few : length rule.wants ≤ 6
@@ -227,8 +230,8 @@ pub record IsOn (apps : List AppSpec) (a : ℕ) (modes : List Mode) : Type 0 whe
   pub listed : Each (λ (mode : Mode). IsSome (mode_in app.modes mode.0)) modes
   pub differ : (i j : ℕ) (m n : Mode) → slice_get modes i ≡ Some m → slice_get modes j ≡ Some n → m.0 ≡ n.0 → i ≡ j
 
--- The demand refers only to configurations, values, processors and applications that exist. It does not require a
--- processor to be both up and down, or an application to be both on and off.
+-- The demand has at most six requirements, and refers only to configurations, values, processors and applications
+-- that exist. It does not require a processor to be both up and down, or an application to be both on and off.
 pub record IsDemand (procs : List Proc) (apps : List AppSpec) (confs : List Conf) (factors : List Factor) (demand : Demand) : Type 0 where
   pub from : demand.from < 2 ^ length confs
   pub few : length demand.wants ≤ 6
@@ -242,7 +245,8 @@ pub record IsDemand (procs : List Proc) (apps : List AppSpec) (confs : List Conf
   pub off : demand.off < 2 ^ length apps
   pub one : (a : ℕ) → has_bit demand.off a ≡ true → modes_on demand a ≡ None
 
--- The specification satisfies the invariant of every specification.
+-- The invariant of every specification: each name is valid and differs from the other names of its class, each count
+-- and number is within its limits, and each reference is to something that the specification defines.
 pub record IsSpec (spec : Parts) : Type 0 where
   pub names : HasNames spec
   pub procs_count : HasLength 1 8 spec.procs

@@ -1,4 +1,4 @@
-//! The plain types of SCRAM. Every `Spec` keeps its invariant, so other crates need not check an index, a limit or a
+//! The plain types of SCRAM. Every `Spec` satisfies `IsSpec`, so other crates need not check an index, a limit or a
 //! name again.
 #![tactic(auto)]
 

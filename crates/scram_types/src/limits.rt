@@ -41,7 +41,7 @@ pub const MAX_INTERVAL_END: i64 = 1_000_000_000;
 pub const MAX_ALTITUDE: i64 = 40_000;
 /// The maximum heading of a goal, in tenths of a degree; the minimum is 0.
 pub const MAX_HEADING: i64 = 3_599;
-/// The number of kinds of application that are built. The kinds are the numbers below it.
+/// The number of kinds of applications. The kinds are numbered from 0 to 5.
 pub const KINDS: u8 = 6;
 /// The maximum number of frames of a script.
 pub const MAX_FRAMES: u32 = 20_000;

@@ -116,7 +116,8 @@ impl Spec {
         }
     }
 
-    /// Returns the place of application `app` in configuration `c`, or `None` if the application is off there.
+    /// Returns the place of application `app` in configuration `c`. Returns `None` if the application is off there,
+    /// or if the application or the configuration does not exist.
     pub fn place_of(&self, c: ConfId, app: AppId) -> Option<Place>
         ensures place { result ≡ place_of self.now c app.0 }
         ensures proc { IfSome result (λ place. place.proc.0 < 8) }
@@ -134,14 +135,16 @@ impl Spec {
         self.place_of(conf, app).is_some()
     }
 
-    /// Returns the costs of a mode of an application, or `None` if the application does not list the mode.
+    /// Returns the costs of a mode of an application, or `None` if the application does not list the mode or does not
+    /// exist.
     pub fn mode_of_app(&self, app: AppId, mode: Mode) -> Option<ModeSpec>
         ensures { result ≡ mode_of_app self.now app.0 mode.0 }
     {
         self.app(app)?.mode(mode)
     }
 
-    /// Returns the costs of an application's mode in a configuration, or `None` if the application is off there.
+    /// Returns the costs of an application's mode in a configuration, or `None` if the application has no place
+    /// there.
     pub fn mode_of(&self, conf: ConfId, app: AppId) -> Option<ModeSpec>
         ensures { result ≡ mode_of self.now conf app.0 }
     {
@@ -161,8 +164,8 @@ impl Spec {
 }
 
 impl Factor {
-    /// Returns the number of the value with this name, or `None` if there is no such value. The factor has at most
-    /// 255 values.
+    /// Returns the number of the value with this name, or `None` if there is no such value. The factor must have at
+    /// most 255 values.
     pub fn value_named(&self, text: &[u8]) -> Option<u8>
         requires { length self.now.values ≤ 255 }
         ensures { result ≡ value_named self.now text.now }
@@ -205,8 +208,8 @@ pub fn env_in(rows: &[Row], k: usize) -> Option<Env>
     }
 }
 
-/// Returns the environment of the row before row `k`, or the environment at the start of a flight if `k` is 0.
-/// Returns `None` if there is no such row.
+/// Returns the environment of row `k - 1`, or the environment at the start of a flight if `k` is 0. Returns `None` if
+/// there is no row `k - 1`.
 pub fn env_before(spec: &Spec, rows: &[Row], k: usize) -> Option<Env>
     ensures { result ≡ env_before spec.now rows.now k }
 {

@@ -39,7 +39,7 @@ impl Modes {
         }
     }
 
-    /// Appends a mode to the list, which has fewer than three modes.
+    /// Appends a mode to the list, which must have fewer than three modes.
     pub fn push(&mut self, mode: Mode)
         requires { length self.old < 3 }
         ensures { self.new ≡ self.old ++ mode ∷ [] }

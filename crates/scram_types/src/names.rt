@@ -1,4 +1,4 @@
-//! Names of processors, applications, configurations, factors and values.
+//! The names of processors, applications, configurations, factors, values and demands.
 
 ghost use Rattle.std.specs.Prelude.{◌≡◌, ◌≤◌, length, IsTrue};
 ghost use Rattle.std.specs.List.{list_all};

@@ -4,7 +4,7 @@
 ghost use Rattle.std.specs.Prelude.{◌-ℤ◌, ◌+ℤ◌, pos, ◌≡◌, ◌≤ℤ◌};
 ghost use Rattle.scram_types.specs.Numbers.{FitsSums, clamp, minus};
 
-/// Returns `x`, restricted to the range from `low` to `high`, inclusive.
+/// Returns `x`, restricted to the range from `low` to `high`, inclusive. `low` must be at most `high`.
 pub fn clamped(x: i64, low: i64, high: i64) -> i64
     requires { low ≤ℤ high }
     ensures value { result ≡ clamp x low high }
@@ -20,7 +20,7 @@ pub fn clamped(x: i64, low: i64, high: i64) -> i64
     }
 }
 
-/// Returns `x + y`. Both numbers are within 2^32 of 0.
+/// Returns `x + y`. Both numbers must be within 2^32 of 0.
 pub fn sum(x: i64, y: i64) -> i64
     requires x { FitsSums x }
     requires y { FitsSums y }
@@ -31,7 +31,7 @@ pub fn sum(x: i64, y: i64) -> i64
     x + y
 }
 
-/// Returns `target - x`. Both numbers are within 2^32 of 0.
+/// Returns `target - x`. Both numbers must be within 2^32 of 0.
 pub fn gap(x: i64, target: i64) -> i64
     requires x { FitsSums x }
     requires target { FitsSums target }

@@ -15,8 +15,7 @@ pub enum KMode {
         halting: Option<ConfId>,
         /// The configuration to which the reconfiguration leads.
         to: ConfId,
-        /// The frame in which the halting phase began. In frame `f` the age of the reconfiguration is `f - since`
-        /// frames.
+        /// The frame in which the age of the reconfiguration is 0. In frame `f` the age is `f - since` frames.
         since: u32,
     },
 }

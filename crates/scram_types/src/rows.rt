@@ -48,8 +48,8 @@ pub struct Row {
     pub world: World,
 }
 
-/// A reconfiguration, with the frames in which it began and ended. If the script ended before the reconfiguration
-/// did, it has no target and its end is the number of frames.
+/// A reconfiguration, with the frames in which it began and ended. If the script ended first, `to` is `None` and
+/// `end` is the number of frames.
 #[derive(Clone, Copy, Debug, PartialEq, Eq)]
 pub struct Report {
     pub from: ConfId,

@@ -78,7 +78,7 @@ pub struct Choice {
     pub to: ConfId,
 }
 
-/// The maximum length of a reconfiguration between two configurations, 1 to 1,000 frames.
+/// The maximum length of a reconfiguration from configuration `from` to configuration `to`: 1 to 1,000 frames.
 #[derive(Clone, Copy, Debug, PartialEq, Eq)]
 pub struct Bound {
     pub from: ConfId,
@@ -121,8 +121,8 @@ pub enum Policy {
 /// be a configuration of `to` in which each application of `on` is on and each application of `off` is off. An empty
 /// `from` or `to` means every configuration. The sets are kept as bits.
 ///
-/// For each application, `on` is `None` if the application need not be on. Otherwise it is the list of the modes that
-/// are allowed, and an empty list allows any mode.
+/// For each application, the entry of `on` is `None` if the application need not be on. Otherwise the entry is the
+/// list of the modes that are allowed, and an empty list allows any mode.
 #[derive(Drop)]
 pub struct Demand {
     pub name: Name,

@@ -1,4 +1,4 @@
--- Applications that are ranked have no cycle, and the applications of a cycle exist.
+-- Applications that are ranked have no cycle of needs, and the applications of a cycle exist.
 use Rattle.std.proofs.Common.{◌≡◌, ◌<◌, zero, suc, true, List, [], ◌∷◌, length, refl, subst}
 use Rattle.std.specs.Prelude.{Some, None, Result, Ok, Err, OnOk}
 use Rattle.std.proofs.lemmas.Option.{slice_get_within}

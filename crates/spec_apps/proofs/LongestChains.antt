@@ -25,7 +25,8 @@ and_false : (b : Bool) → b && false ≡ false
 and_false true = refl
 and_false false = refl
 
--- If each application has the rank that its needs determine, the list of ranks is the list of these values.
+-- If the rank of each application is the rank that its needs determine, the list of ranks is the list of these
+-- values.
 ranks_map : (whole : List ℕ) (apps : List AppSpec) (ranks : List ℕ) → length ranks ≡ length apps
     → ((a : ℕ) (app : AppSpec) → slice_get apps a ≡ Some app → slice_get ranks a ≡ Some (rank_after whole app.needs))
     → ranks ≡ map (λ (app : AppSpec). rank_after whole app.needs) apps
@@ -72,7 +73,8 @@ mapped_at f [] a app e = absurd (let none : None ≡ Some app = e in cc)
 mapped_at f (x ∷ apps) zero app e = let is : x ≡ app = cc in ap f is
 mapped_at f (x ∷ apps) (suc a) app e = mapped_at f apps a app e
 
--- If `a` needs `b`, the longest chain from `a` is at least one link longer than the longest chain from `b`.
+-- If `a` needs `b`, and the longest chain from `b` has at least `links` links, then the longest chain from `a` has at
+-- least `links + 1` links.
 one_more_link : (links : ℕ) (apps : List AppSpec) (a b : AppId) → Needs apps a b → links ≤ slice_index (longest_chains links apps) b.0 → suc links ≤ slice_index (longest_chains (suc links) apps) a.0
 one_more_link links apps a b is long =
     let here = mapped_at (λ (app : AppSpec). rank_after (longest_chains links apps) app.needs) apps a.0 is.app is.there in
@@ -119,7 +121,7 @@ all_small (r ∷ rs) small =
     let is : nat_lt r 8 ≡ true = grind (arith, nat_tests, low) in
     rw (is, all_small rs (All-tail (λ (rank : ℕ). rank < 8) r rs small)) refl
 
--- If ranks are those that needs determine, they are the lengths of the longest chains.
+-- If the needs determine the ranks, and each rank is below 8, the ranks are the lengths of the longest chains.
 pub ranks_are : (apps : List AppSpec) (ranks : List ℕ) → IsRanking apps ranks → All (λ (rank : ℕ). rank < 8) ranks → longest_chains 8 apps ≡ ranks
 ranks_are apps ranks is small = capped apps ranks is 8 ∙ uncapped ranks small
 

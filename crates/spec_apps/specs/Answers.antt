@@ -11,29 +11,30 @@ use Rattle.spec_apps.specs.declared.fault.SpecError.TheVariants.{Fault, NoMemory
 use Rattle.spec_members.specs.Names.{name_of_app}
 use Rattle.spec_apps.specs.Needs.{are_ranked}
 
--- A result agrees with that of the reading, apart from the cycle and the names that a fault contains, or it is
--- `NoMemory`.
+-- The result agrees with `reading`, apart from the cycle and the names that a fault contains, or it is `NoMemory`.
 abbrev pub AnswersSpec : {A : Type 0} → Result A DocFault → Result A SpecError → Type 0
 AnswersSpec reading (Ok a) = reading ≡ Ok a
 AnswersSpec reading (Err (Fault fault)) = reading ≡ Err (record { rule = fault.rule; path = fault.path })
 AnswersSpec reading (Err NoMemory) = ⊤
 
--- A cycle is a cycle of needs of these applications if they cannot be ranked, and is empty otherwise.
+-- If the first argument is `true`, so that the applications can be ranked, `cycle` is empty. Otherwise `cycle` is a
+-- cycle of their needs.
 abbrev pub CycleIf : Bool → List AppSpec → List AppId → Type 0
 CycleIf true apps cycle = cycle ≡ []
 CycleIf false apps cycle = IsCycle apps cycle
 
--- A cycle is a cycle of needs of these applications if they were read and cannot be ranked, and is empty otherwise.
+-- If the applications were not read or can be ranked, `cycle` is empty. Otherwise `cycle` is a cycle of their needs.
 abbrev pub CycleAmong : Result (List AppSpec) DocFault → List AppId → Type 0
 CycleAmong (Err fault) cycle = cycle ≡ []
 CycleAmong (Ok apps) cycle = CycleIf (are_ranked apps) apps cycle
 
--- Each name is the name of the application at the same index in a list of applications.
+-- Each application of `named` exists, and `names` contains their names, in order.
 abbrev pub AreNamed : List AppSpec → List AppId → List (List ℕ) → Type 0
 AreNamed apps named names =
     map (λ (a : AppId). option_map name_of_app (slice_get apps a.0)) named ≡ map (λ (name : List ℕ). Some name) names
 
--- The names are those of the listed applications if the applications were read, and are empty otherwise.
+-- If the applications were read, `names` contains the names of the applications `named`, in order. Otherwise `names`
+-- is empty.
 abbrev pub NamedAmong : Result (List AppSpec) DocFault → List AppId → List (List ℕ) → Type 0
 NamedAmong (Err fault) named names = names ≡ []
 NamedAmong (Ok apps) named names = AreNamed apps named names

@@ -16,7 +16,7 @@ use Rattle.scram_doc.specs.Lists.{elements_at, folded_from}
 use Rattle.spec_members.specs.Names.{read_new_name, name_of_app}
 use Rattle.spec_members.specs.Modes.{read_kind_mode}
 
--- The mode that the text at a path names, which the modes `done` must not contain, or the first broken rule.
+-- The mode that the text at a path names, or the first broken rule. The mode must not be among the modes `done`.
 abbrev pub read_new_mode : ℕ → List ModeSpec → List ℕ → Data → Result ℕ DocFault
 read_new_mode kind done at d =
     chain (read_kind_mode kind at d) (λ (mode : ℕ). if is_some (mode_in done mode) then broken MODE_TWICE at else Ok mode)
@@ -25,8 +25,8 @@ read_new_mode kind done at d =
 abbrev pub read_phase : List ℕ → Data → Result ℕ DocFault
 read_phase at d = whole_at 1 17 at d
 
--- The mode that the value at a path encodes, with its load and phases, or the first broken rule. It must not be among
--- the modes `done`.
+-- The mode that the value at a path encodes, with its load and phases, or the first broken rule. The mode must not be
+-- among the modes `done`.
 abbrev pub read_mode : ℕ → List ℕ → List ModeSpec → Data → Result ModeSpec DocFault
 read_mode kind at done d =
     chain (object_at at d) (λ (_ : ⊤).

@@ -9,7 +9,7 @@ use Rattle.spec_members.specs.Names.{name_of_app}
 use Rattle.dep_order.specs.Timetables.{is_named}
 use Rattle.spec_members.specs.Facts.{IsFresh}
 
--- A mode is not among the modes before it, and is a mode of the kind if the kind exists.
+-- The mode is not among the modes before it. If the kind exists, the mode is a valid mode of the kind.
 pub record IsNewMode (kind : ℕ) (done : List ModeSpec) (mode : ModeSpec) : Type 0 where
   pub new : mode_in done mode.mode.0 ≡ None
   pub is : kind < 6 → IsModeSpec kind mode

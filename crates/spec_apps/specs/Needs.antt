@@ -18,7 +18,8 @@ use Rattle.spec_members.specs.Members.{member_in}
 use Rattle.spec_members.specs.Names.{read_named, name_of_app}
 use Rattle.spec_apps.specs.Applications.{read_app}
 
--- The application that the text at a path names, which must not be among the needs `done`, or the first broken rule.
+-- The application that the text at a path names, or the first broken rule. The application must not be among the
+-- needs `done`.
 abbrev pub read_need : List AppSpec → List ℕ → List AppId → Data → Result AppId DocFault
 read_need apps at done d =
     chain (read_named name_of_app apps UNKNOWN_APPLICATION at d) (λ (a : ℕ).
@@ -30,21 +31,22 @@ read_needs apps at done d =
     chain (required_at (codes "needs") at d) (λ (needs : Data).
     elements_at (read_need apps) 0 8 (member_path at (codes "needs")) needs)
 
--- Applications, in order, with these needs.
+-- The applications, in order, with these needs. Applications past the end of `needs` are unchanged.
 abbrev pub with_needs : List AppSpec → List (List AppId) → List AppSpec
 with_needs [] needs = []
 with_needs (app ∷ apps) [] = app ∷ apps
 with_needs (app ∷ apps) (named ∷ needs) =
     record { name = app.name; kind = app.kind; needs = named; modes = app.modes; rank = app.rank } ∷ with_needs apps needs
 
--- Applications, in order, with these ranks.
+-- The applications, in order, with these ranks. Applications past the end of `ranks` are unchanged.
 abbrev pub with_ranks : List AppSpec → List ℕ → List AppSpec
 with_ranks [] ranks = []
 with_ranks (app ∷ apps) [] = app ∷ apps
 with_ranks (app ∷ apps) (rank ∷ ranks) =
     record { name = app.name; kind = app.kind; needs = app.needs; modes = app.modes; rank = rank } ∷ with_ranks apps ranks
 
--- For each application, the length of the longest chain of needs from it that has at most this number of links.
+-- For each application, the greatest length of a chain of needs from it, among the chains of at most this number of
+-- links.
 abbrev pub longest_chains : ℕ → List AppSpec → List ℕ
 longest_chains zero apps = map (λ (app : AppSpec). 0) apps
 longest_chains (suc links) apps = map (λ (app : AppSpec). rank_after (longest_chains links apps) app.needs) apps

@@ -7,7 +7,7 @@ use Rattle.scram_types.specs.Specification.{HasLength, Each, NamesDiffer, IsMode
 use Rattle.spec_members.specs.Names.{name_of_app}
 use Rattle.spec_members.specs.Kept.{IsWritableApp}
 
--- An application without a rank is valid, given the number of applications that its needs may name.
+-- The application is valid, apart from its rank. Its needs are among the first `count` applications.
 pub record IsUnranked (count : ℕ) (app : AppSpec) : Type 0 where
   pub kind : app.kind.0 < 6
   pub few_needs : length app.needs ≤ 8
@@ -17,8 +17,7 @@ pub record IsUnranked (count : ℕ) (app : AppSpec) : Type 0 where
   pub spelled : IsTrue (is_name app.name)
   pub writable : IsWritableApp app
 
--- Applications without ranks are valid: there are 1 to 8 of them, their names differ, and each is valid with its
--- needs.
+-- There are 1 to 8 applications, their names differ, and each application is valid, apart from its rank.
 pub record AreUnranked (apps : List AppSpec) : Type 0 where
   pub count : HasLength 1 8 apps
   pub differ : NamesDiffer name_of_app apps

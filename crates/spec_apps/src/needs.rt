@@ -38,7 +38,7 @@ fn is_needed(needs: &[AppId], app: AppId) -> bool
     needs.iter().any(|needed| needed.0 == app.0)
 }
 
-/// A reader of the needs of an application, which name these applications.
+/// A reader of the needs of an application. Each need is the name of an application of `apps`.
 #[derive(Clone, Copy)]
 struct Needs<'a> {
     apps: &'a Numbered<AppSpec, ByName>,
@@ -96,7 +96,7 @@ impl Elements<List<AppId>> for Needs<'_> {
     }
 }
 
-/// Sets the needs of each application, in the order of `apps`.
+/// Sets the needs of each application, in the order of `apps`. `needs` must not be longer than `apps`.
 fn set_needs(apps: &mut [AppSpec], needs: Vec<List<AppId>>)
     requires { length needs.items ≤ length apps.old }
     ensures { apps.new ≡ with_needs apps.old needs.items }
@@ -107,7 +107,7 @@ fn set_needs(apps: &mut [AppSpec], needs: Vec<List<AppId>>)
     }
 }
 
-/// Sets the rank of each application, in the order of `apps`.
+/// Sets the rank of each application, in the order of `apps`. `ranks` must not be longer than `apps`.
 fn set_ranks(apps: &mut [AppSpec], ranks: ArrayVec<u8, 8>)
     requires { length ranks.items ≤ length apps.old }
     ensures { apps.new ≡ with_ranks apps.old ranks.items }
@@ -140,7 +140,7 @@ fn name_of(apps: &[AppSpec], app: AppId) -> Name
     apps[usize::from(app.0)].name.copy()
 }
 
-/// Returns the names of the listed applications, in order.
+/// Returns the names of the listed applications, in order. There must be at most eight of them, and each must exist.
 fn names_of(apps: &[AppSpec], listed: &[AppId]) -> ArrayVec<Name, 8>
     requires there { Each (λ (app : AppId). app.0 < length apps.now) listed.now }
     requires few { length listed.now ≤ 8 }
@@ -192,7 +192,7 @@ fn finish_apps(
 /// # Errors
 ///
 /// Returns an error with the first broken rule and its path, and `NoMemory` if memory runs out. If the needs have a
-/// cycle, the error contains it.
+/// cycle, the error contains a cycle.
 pub fn read_apps(
     alloc: Global,
     members: &Members<'_>,

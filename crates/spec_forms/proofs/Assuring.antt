@@ -1,4 +1,4 @@
--- Each answer of `check` or `bounds` with status 0 gives the assurance of its form.
+-- If `check` answers with status 0, `AssuresCheck` holds. If `bounds` answers with status 0, `AssuresBounds` holds.
 use Rattle.std.proofs.Common.{◌≡◌, ℕ, List, [], refl}
 use Rattle.std.specs.Prelude.{Option, Some, None}
 use Rattle.scram_types.specs.Specification.{IsSpec, Parts}

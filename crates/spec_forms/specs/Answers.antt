@@ -14,7 +14,7 @@ use Rattle.spec_forms.specs.Bounds.{bounds_text}
 use Rattle.spec_forms.specs.Lines.{accepted_line}
 
 -- The answer to `check` about a specification. `shown` is the reason why the specification is not accepted, or `None`
--- if it is.
+-- if it is accepted.
 abbrev pub check_answer : Parts → Option Shown → ℕ × List ℕ
 check_answer spec (Some shown) = (NOT_ACCEPTED, shown_line spec shown)
 check_answer spec None = (ANSWERED, accepted_line spec)

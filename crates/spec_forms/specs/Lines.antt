@@ -7,8 +7,8 @@ use Rattle.choice_table.specs.Numbering.{states}
 use Rattle.coverage_check.specs.Timing.{least}
 use Rattle.trace_text.specs.Text.{bound_text}
 
--- The line of an accepted specification. It has the numbers of its configurations, of its environments in scope and of
--- its given bounds.
+-- The line of an accepted specification. It has the number of configurations of the specification, the number of
+-- environments in scope, and the number of given bounds.
 abbrev pub accepted_line : Parts → List ℕ
 accepted_line spec =
     codes "accepted: configurations " ++ decimal (length spec.confs) ++ codes " states " ++ decimal (states spec)

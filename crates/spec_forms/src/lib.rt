@@ -1,5 +1,5 @@
-//! The forms `check` and `bounds`, which answer a question about a specification. Their output depends only on the
-//! bytes of the file that their words name.
+//! The forms `check` and `bounds`, which answer a question about a specification. The output of a form depends only
+//! on the bytes of the file that its words name.
 #![tactic(auto)]
 
 mod acceptance;

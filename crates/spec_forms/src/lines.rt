@@ -9,8 +9,8 @@ use scram_types::{ConfId, Spec};
 use trace_text::lines::Line;
 use trace_text::report_lines::add_bound;
 
-/// Returns the line for an accepted specification. It has the numbers of its configurations, of its environments in
-/// scope and of its given bounds.
+/// Returns the line for an accepted specification. It has the number of configurations of the specification, the
+/// number of environments in scope, and the number of given bounds.
 pub fn make_accepted_line(spec: &Spec) -> Line
     ensures { result ≡ accepted_line spec.now }
 {

@@ -60,10 +60,10 @@ found_differ {A} name xs new i j x y there too same = elim (compare i j) [
   ]
 ]
 
--- If each name is new as it is read, the names differ.
+-- If no element of a list has the name of an element before it, the names of the list differ.
 pub new_differ : {A : Type 0} → (name : A → List ℕ) → (xs : List A) → AllAfter (λ (done : List A) (x : A). index_named name done (name x) ≡ None) xs → NamesDiffer name xs
 new_differ name xs new = found_differ name xs (λ i x e. sym (place_found name (take i xs) (name x)) ∙ new i x e)
 
--- A property of a result's value holds for the value in it.
+-- If a result is `Ok a`, and the property holds for the value of the result, the property holds for `a`.
 pub kept : {A E : Type 0} → (Kept : A → Type 0) (answer : Result A E) (a : A) → answer ≡ Ok a → IfOk answer Kept → Kept a
 kept {A} {E} Kept answer a is all = subst (λ (z : Result A E). IfOk z Kept) is all

@@ -1,4 +1,4 @@
--- If each member is present, it is read from the value that was found for it.
+-- A member that is present is read from the value that was found for it.
 use Rattle.std.proofs.Common.{◌≡◌, ℕ, List, []}
 use Rattle.std.specs.Prelude.{Result, Ok}
 use Rattle.serde_json.specs.Data.{Data}

@@ -10,12 +10,13 @@ use Rattle.scram_doc.specs.Lists.{elements_at}
 use Rattle.scram_doc.specs.Numbering.{itself}
 use Rattle.spec_members.specs.Names.{read_new_name, name_of_factor}
 
--- The value name at path `at`, which none of the names `done` may equal, or the first broken rule.
+-- The name of a factor's value that the text at path `at` encodes, or the first broken rule. No name of `done` may
+-- equal it.
 abbrev pub read_value_name : List ℕ → List (List ℕ) → Data → Result (List ℕ) DocFault
 read_value_name at done d = read_new_name itself done at d
 
--- The factor that the value at path `at` encodes, or the first broken rule. No factor of `done` may have its name. It
--- has 2 to 4 values.
+-- The factor that the value at path `at` encodes, or the first broken rule. No factor of `done` may have its name.
+-- The factor has 2 to 4 values.
 abbrev pub read_factor : List ℕ → List Factor → Data → Result Factor DocFault
 read_factor at done d =
     chain (object_at at d) (λ (_ : ⊤).

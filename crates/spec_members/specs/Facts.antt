@@ -8,7 +8,7 @@ use Rattle.scram_doc.specs.Lists.{AllAfter}
 use Rattle.spec_members.specs.Names.{name_of_proc, name_of_factor}
 use Rattle.scram_doc.specs.Numbering.{itself, index_named}
 
--- A text is a name that no item has yet.
+-- The text is a valid name, and no item of the list has this name.
 pub record IsFresh {A : Type 0} (name : A → List ℕ) (items : List A) (text : List ℕ) : Type 0 where
   pub new : index_named name items text ≡ None
   pub spelled : IsTrue (is_name text)

@@ -1,4 +1,4 @@
--- The values of the members of a document.
+-- The values that were found for the members of a document are the values of these members.
 use Rattle.std.specs.Prelude.{◌≡◌, [], codes, Ok, option_map}
 use Rattle.serde_json.specs.View.{view}
 use Rattle.scram_doc.specs.Members.{required_at}
@@ -8,7 +8,7 @@ use Rattle.spec_members.specs.declared.members.NamingMembers.{NamingMembers}
 use Rattle.spec_members.specs.declared.members.MembersAfterNames.{MembersAfterNames}
 use Rattle.spec_members.specs.Versions.{AreDemands, IsPolicy}
 
--- Each value is that of its member: the version and the members that contain names.
+-- `m` contains the values of the document's version and of its members that contain names.
 pub record AreNamingMembers (d : Data) (m : NamingMembers) : Type 0 where
   pub scram : required_at (codes "scram") [] d ≡ Ok (view m.scram.now)
   pub procs : required_at (codes "processors") [] d ≡ Ok (view m.procs.now)
@@ -16,7 +16,7 @@ pub record AreNamingMembers (d : Data) (m : NamingMembers) : Type 0 where
   pub confs : required_at (codes "configurations") [] d ≡ Ok (view m.confs.now)
   pub factors : required_at (codes "factors") [] d ≡ Ok (view m.factors.now)
 
--- Each value is that of its member: the members after those that contain names.
+-- `m` contains the values of the document's members after those that contain names.
 pub record AreMembersAfterNames (d : Data) (m : MembersAfterNames) : Type 0 where
   pub rules : required_at (codes "rules") [] d ≡ Ok (view m.rules.now)
   pub bounds : required_at (codes "bounds") [] d ≡ Ok (view m.bounds.now)
@@ -26,8 +26,8 @@ pub record AreMembersAfterNames (d : Data) (m : MembersAfterNames) : Type 0 wher
   pub preconditions : required_at (codes "preconditions") [] d ≡ Ok (view m.preconditions.now)
   pub assumption : required_at (codes "assumption") [] d ≡ Ok (view m.assumption.now)
 
--- Each value is that of its member. The policy and the demands are present if and only if the document's version has
--- them.
+-- `m` contains the values of the members of its document. The policy and the demands are present if and only if the
+-- document's version has them.
 pub record AreMembers (m : Members) : Type 0 where
   pub scram : required_at (codes "scram") [] (view m.document.now) ≡ Ok (view m.scram.now)
   pub procs : required_at (codes "processors") [] (view m.document.now) ≡ Ok (view m.procs.now)

@@ -9,7 +9,7 @@ use Rattle.scram_types.specs.declared.ids.AppId.{AppId}
 use Rattle.scram_types.specs.declared.specification.ModeSpec.{ModeSpec}
 use Rattle.dep_order.specs.Timetables.{is_named}
 
--- No element is among the elements before it.
+-- No element is among the elements before it, as `stands` tests.
 abbrev pub NoDuplicates : {A : Type 0} → (List A → A → Bool) → List A → Type 0
 NoDuplicates {A} stands xs = AllAfter (λ (done : List A) (x : A). stands done x ≡ false) xs
 
@@ -30,8 +30,8 @@ pub record IsWritableApp (app : AppSpec) : Type 0 where
   pub needs : NoDuplicates lists_need app.needs
   pub modes : NoDuplicates lists_mode app.modes
 
--- Applications that were read: there are 1 to 8, each is valid, their names differ, and their ranks are those that
--- their needs determine.
+-- There are 1 to 8 applications, and their names differ. Each application is valid, has a valid name, and lists no
+-- need and no mode twice. The ranks are those that the needs determine.
 pub record AreApps (apps : List AppSpec) : Type 0 where
   pub count : HasLength 1 8 apps
   pub differ : NamesDiffer name_of_app apps

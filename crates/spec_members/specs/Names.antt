@@ -38,11 +38,12 @@ name_of_demand demand = demand.name
 abbrev pub read_name : List ℕ → Data → Result (List ℕ) DocFault
 read_name at d = chain (text_at at d) (λ (text : List ℕ). or_broken NO_NAME at (name_of text))
 
--- The name that the text at a path encodes, which no item of a list may have, or the first broken rule.
+-- The name that the text at a path encodes, or the first broken rule. No item of the list may have this name.
 abbrev pub read_new_name : {A : Type 0} → (A → List ℕ) → List A → List ℕ → Data → Result (List ℕ) DocFault
 read_new_name name xs at d =
     chain (read_name at d) (λ (new : List ℕ). if is_some (number_named name xs new) then broken NAME_TWICE at else Ok new)
 
--- The index of the item of a list that the text at a path names, or the fault of `rule` if there is no such item.
+-- The index of the list's item that the text at a path names, or the first broken rule. `rule` is broken if no item
+-- has this name.
 abbrev pub read_named : {A : Type 0} → (A → List ℕ) → List A → ℕ → List ℕ → Data → Result ℕ DocFault
 read_named name xs rule at d = chain (text_at at d) (λ (text : List ℕ). or_broken rule at (number_named name xs text))

@@ -6,7 +6,7 @@ use Rattle.scram_doc.specs.declared.fault.DocFault.{DocFault}
 use Rattle.scram_doc.specs.Chain.{chain}
 use Rattle.scram_doc.specs.Members.{object_at, required_at, no_more_than}
 
--- There is a number, and it equals `number`.
+-- The version is present and equals `number`.
 abbrev pub is_version : ℕ → Option ℕ → Bool
 is_version number None = false
 is_version number (Some version) = version == number
@@ -19,11 +19,11 @@ is_version_in number scram = is_version number (option_and_then as_u64 (option_a
 abbrev pub has_version : ℕ → Data → Bool
 has_version number d = is_version_in number (get (codes "scram") d)
 
--- A document has a policy, since it is of version 2 or 3.
+-- The document is of version 2 or 3. These versions have a policy.
 abbrev pub has_policy : Data → Bool
 has_policy d = has_version 2 d || has_version 3 d
 
--- A document has demands, since it is of version 3.
+-- The document is of version 3. Only this version has demands.
 abbrev pub has_demands : Data → Bool
 has_demands d = has_version 3 d
 
@@ -47,12 +47,12 @@ members_after_names =
 abbrev pub members_count : Data → ℕ
 members_count d = if has_demands d then 14 else (if has_policy d then 13 else 12)
 
--- The policy of a document is present if the document is of version 2 or 3, and is `None` otherwise.
+-- The second argument is the policy of the document if its version is 2 or 3, and `None` otherwise.
 abbrev pub IsPolicy : Data → Option Data → Type 0
 IsPolicy d None = has_policy d ≡ false
 IsPolicy d (Some policy) = (has_policy d ≡ true) × (required_at (codes "policy") [] d ≡ Ok policy)
 
--- The demands of a document are present if the document is of version 3, and are `None` otherwise.
+-- The second argument is the demands of the document if its version is 3, and `None` otherwise.
 abbrev pub AreDemands : Data → Option Data → Type 0
 AreDemands d None = has_demands d ≡ false
 AreDemands d (Some demands) = (has_demands d ≡ true) × (required_at (codes "demands") [] d ≡ Ok demands)
@@ -74,8 +74,8 @@ policy_tested d = if has_policy d then chain (required_at (codes "policy") [] d)
 abbrev pub demands_tested : Data → Result ⊤ DocFault
 demands_tested d = if has_demands d then chain (required_at (codes "demands") [] d) (λ (_ : Data). Ok tt) else Ok tt
 
--- `Ok` if the document is an object with the members of version 1, the policy and the demands of its version, and no
--- others. Otherwise it is the first broken rule.
+-- `Ok` if the document is an object with the members that its version has, and no others. The first broken rule
+-- otherwise.
 abbrev pub members_tested : Data → Result ⊤ DocFault
 members_tested d =
     chain (object_at [] d) (λ (_ : ⊤).

@@ -10,8 +10,8 @@ ghost use Rattle.spec_members.specs.Versions.{AreDemands, IsPolicy, demands_test
 use scram_doc::{DocFault, Path, no_more_than, object, required};
 use serde_json::Value;
 
-/// The values of a document's members. `policy` is `None` for version 1, and `demands` is `None` for each version but
-/// 3.
+/// The values of a document's members. `policy` is `None` unless the version is 2 or 3, and `demands` is `None`
+/// unless the version is 3.
 #[derive(Clone, Copy)]
 pub struct Members<'a> {
     pub document: &'a Value,
@@ -38,7 +38,8 @@ fn is_version(scram: &Value, number: u64) -> bool
     scram.as_u64() == Some(number)
 }
 
-/// Returns the policy of a document, or `None` if the document's version has no policy.
+/// Returns the policy of a document, or `None` if the document's version has no policy. Returns an error if its
+/// version has a policy and the member is missing.
 fn find_policy<'a>(document: &'a Value, scram: &Value) -> Result<Option<&'a Value>, DocFault>
     requires scram { required_at (codes "scram") [] (view document.now) ≡ Ok (view scram.now) }
     ensures tested { ok_map (λ _. tt) result ≡ policy_tested (view document.now) }
@@ -51,7 +52,8 @@ fn find_policy<'a>(document: &'a Value, scram: &Value) -> Result<Option<&'a Valu
     }
 }
 
-/// Returns the demands of a document, or `None` if the document's version has no demands.
+/// Returns the demands of a document, or `None` if the document's version has no demands. Returns an error if its
+/// version has demands and the member is missing.
 fn find_demands<'a>(document: &'a Value, scram: &Value) -> Result<Option<&'a Value>, DocFault>
     requires scram { required_at (codes "scram") [] (view document.now) ≡ Ok (view scram.now) }
     ensures tested { ok_map (λ _. tt) result ≡ demands_tested (view document.now) }
@@ -108,7 +110,7 @@ fn find_naming(document: &Value) -> Result<NamingMembers<'_>, DocFault>
     })
 }
 
-/// The values of the members that come after the names in every version.
+/// The values of the members after those that contain names, except the policy and the demands.
 #[derive(Clone, Copy)]
 struct MembersAfterNames<'a> {
     rules: &'a Value,

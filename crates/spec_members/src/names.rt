@@ -12,7 +12,7 @@ use scram_doc::{DocFault, Naming, Numbered, Path, text};
 use scram_types::{AppSpec, Conf, Demand, Factor, Name, Proc};
 use serde_json::Value;
 
-/// The naming of the items of a specification. Each item has its name, and a name is its own name.
+/// The naming of items by their field `name`. The name of a `Name` is the `Name` itself.
 pub struct ByName;
 
 impl Naming<Proc> for ByName {
@@ -63,7 +63,7 @@ impl Naming<Name> for ByName {
     }
 }
 
-/// Reads a name from a text.
+/// Reads a name from a text. Returns an error if the value is not a text, or the text is not a valid name.
 #[tactic(auto, using(crate::proofs::Spelled::name_spelled))]
 fn read_name(v: &Value, at: &Path) -> Result<Name, DocFault>
     ensures value { result ≡ read_name at.now (view v.now) }

@@ -1,5 +1,5 @@
 //! The numbers of the rules of specification documents. They follow the numbers of the rules for all documents. A
-//! fault shows its number, so the numbers never change.
+//! fault contains the number of its rule, so the numbers never change.
 
 /// The version is not 1, 2 or 3.
 pub const UNKNOWN_VERSION: u8 = 9;

@@ -1,4 +1,5 @@
--- A list of entries for applications, with one further entry.
+-- If a fact holds for each entry of a list and for a further entry, it holds for each entry of the list with the
+-- further entry.
 use Rattle.std.proofs.Common.{◌≡◌, ℕ, zero, suc, List, [], ◌∷◌, set, subst}
 use Rattle.std.specs.Prelude.{Option, Some, None, slice_get}
 use Rattle.scram_types.specs.declared.ids.Mode.{Mode}

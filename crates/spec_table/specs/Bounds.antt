@@ -36,6 +36,6 @@ read_bound confs at done d =
     chain (whole_at 1 1001 (member_path at (codes "frames")) frames) (λ (frames : ℕ).
     Ok (record { from = from; to = to; frames = frames })))))))))
 
--- The 0 to 144 bounds that a value encodes, or the first document rule that it breaks.
+-- The 0 to 144 bounds that a value encodes, or the first document rule that the value breaks.
 abbrev pub read_bounds : List Conf → List ℕ → Data → Result (List Bound) DocFault
 read_bounds confs at d = elements_at (read_bound confs) 0 144 at d

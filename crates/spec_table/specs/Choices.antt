@@ -36,7 +36,7 @@ source_named confs at text =
 abbrev pub read_source : List Conf → List ℕ → Data → Result (Option ConfId) DocFault
 read_source confs at d = chain (text_at at d) (λ (text : List ℕ). source_named confs at text)
 
--- Whether one of the required values is a value of factor `f`.
+-- One of the required values is a value of factor `f`.
 abbrev pub wants_factor : List Want → ℕ → Bool
 wants_factor wants f = list_any (λ (want : Want). want.factor.0 == f) wants
 
@@ -47,8 +47,8 @@ read_new_factor factors done at d =
     chain (read_named name_of_factor factors UNKNOWN_FACTOR_OR_VALUE at d) (λ (f : ℕ).
     if wants_factor done f then broken TWICE_IN_LIST at else Ok f)
 
--- The index of the value of a factor that a text of the document names, or the first document rule that it breaks.
--- There is no such value if there is no factor.
+-- The index of the value that a text of the document names among the values of a factor, or the first document rule
+-- that the text breaks. If the factor is `None`, it has no value of any name.
 abbrev pub read_value_of : Option Factor → List ℕ → Data → Result ℕ DocFault
 read_value_of None at d = broken UNKNOWN_FACTOR_OR_VALUE at
 read_value_of (Some factor) at d = read_named itself factor.values UNKNOWN_FACTOR_OR_VALUE at d
@@ -81,6 +81,6 @@ read_choice procs confs factors at done d =
     chain (read_conf_id confs (member_path at (codes "to")) to) (λ (to : ConfId).
     Ok (record { from = from; wants = wants; up = up; to = to })))))))))))
 
--- The 0 to 64 rules of the choice table that a value encodes, or the first document rule that it breaks.
+-- The 0 to 64 rules of the choice table that a value encodes, or the first document rule that the value breaks.
 abbrev pub read_choices : List Proc → List Conf → List Factor → List ℕ → Data → Result (List Choice) DocFault
 read_choices procs confs factors at d = elements_at (read_choice procs confs factors) 0 64 at d

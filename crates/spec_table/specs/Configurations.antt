@@ -29,14 +29,15 @@ read_new_app apps xs at d =
     if is_some (given xs a) then broken TWICE_IN_LIST at else Ok a)
 
 -- The mode that a value names, or the first document rule that the value breaks. The mode must be one of the
--- application's kind, and the application must list it.
+-- application's kind, and the application must list it. If the application is `None`, it lists no mode.
 abbrev pub read_listed_mode : Option AppSpec → List ℕ → Data → Result ℕ DocFault
 read_listed_mode None at d = broken MODE_NOT_LISTED at
 read_listed_mode (Some app) at d =
     chain (read_kind_mode app.kind.0 at d) (λ (mode : ℕ).
     if is_some (mode_in app.modes mode) then Ok mode else broken MODE_NOT_LISTED at)
 
--- The places with the further place that a value encodes, or the first document rule that the value breaks.
+-- The list `places` with the place that a value encodes, or the first document rule that the value breaks. The
+-- application of the place must have no place in `places`.
 abbrev pub read_place : List Proc → List AppSpec → List ℕ → List (Option Place) → Data → Result (List (Option Place)) DocFault
 read_place procs apps at places d =
     chain (object_at at d) (λ (_ : ⊤).
@@ -49,8 +50,8 @@ read_place procs apps at places d =
     chain (read_named name_of_proc procs UNKNOWN_PROCESSOR (member_path at (codes "on")) on) (λ (proc : ℕ).
     Ok (set places a (Some (record { mode = record { 0 = mode }; proc = record { 0 = proc } })))))))))))
 
--- The places that a value encodes, 0 to 8 of them, or the first document rule that the value breaks. An application
--- without a given place is off.
+-- The 0 to 8 places that a value encodes, or the first document rule that the value breaks. An application without a
+-- place is off.
 abbrev pub read_place_list : List Proc → List AppSpec → List ℕ → Data → Result (List (Option Place)) DocFault
 read_place_list procs apps at d =
     chain (list_at 0 8 at d) (λ (ds : Items). folded_from (read_place procs apps) at 0 (replicate 8 None) ds)
@@ -67,6 +68,6 @@ read_conf procs apps at done d =
     chain (read_place_list procs apps (member_path at (codes "apps")) places) (λ (places : List (Option Place)).
     Ok (record { name = name; places = places })))))))
 
--- The 1 to 12 configurations that a value encodes, or the first document rule that it breaks.
+-- The 1 to 12 configurations that a value encodes, or the first document rule that the value breaks.
 abbrev pub read_confs : List Proc → List AppSpec → List ℕ → Data → Result (List Conf) DocFault
 read_confs procs apps at d = elements_at (read_conf procs apps) 1 12 at d

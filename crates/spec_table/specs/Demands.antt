@@ -24,19 +24,20 @@ use Rattle.spec_table.specs.Choices.{read_want}
 use Rattle.spec_table.specs.Configurations.{given, read_listed_mode, read_new_app}
 use Rattle.spec_table.specs.Sets.{read_apps_set, read_confs_set, read_procs_set}
 
--- The modes with the further mode that a value names, or the first document rule that the value breaks. The
--- application must list the mode, and the mode must not be among the others.
+-- The list `modes` extended by the mode that a value names, or the first document rule that the value breaks. The
+-- application must list the mode, and the mode must not be in `modes`.
 abbrev pub read_on_mode : Option AppSpec → List ℕ → List Mode → Data → Result (List Mode) DocFault
 read_on_mode found at modes d =
     chain (read_listed_mode found at d) (λ (mode : ℕ).
     if is_among modes mode then broken MODE_TWICE at else Ok (modes ++ record { 0 = mode } ∷ []))
 
--- The 0 to 3 modes of an application that a value names, or the first document rule that the value breaks.
+-- The 0 to 3 modes that a value names, or the first document rule that the value breaks. The application must list
+-- each mode.
 abbrev pub read_on_modes : Option AppSpec → List ℕ → Data → Result (List Mode) DocFault
 read_on_modes found at d = chain (list_at 0 3 at d) (λ (ds : Items). folded_from (read_on_mode found) at 0 [] ds)
 
--- The modes of the applications that must be on, with those of the further application that a value encodes, or the
--- first document rule that the value breaks.
+-- The list `on` with the modes of the application that a value encodes, or the first document rule that the value
+-- breaks. `on` contains the modes of each application that must be on.
 abbrev pub read_on_app : List AppSpec → List ℕ → List (Option (List Mode)) → Data → Result (List (Option (List Mode))) DocFault
 read_on_app apps at on d =
     chain (object_at at d) (λ (_ : ⊤).
@@ -47,8 +48,8 @@ read_on_app apps at on d =
     chain (read_on_modes (slice_get apps a) (member_path at (codes "modes")) modes) (λ (modes : List Mode).
     Ok (set on a (Some modes))))))))
 
--- The modes of the 0 to 8 applications that must be on, which a value encodes, or the first document rule that the
--- value breaks.
+-- The modes of each application that must be on, as a value encodes them, or the first document rule that the value
+-- breaks. There are 0 to 8 such applications.
 abbrev pub read_modes_on : List AppSpec → List ℕ → Data → Result (List (Option (List Mode))) DocFault
 read_modes_on apps at d = chain (list_at 0 8 at d) (λ (ds : Items). folded_from (read_on_app apps) at 0 (replicate 8 None) ds)
 
@@ -56,8 +57,8 @@ read_modes_on apps at d = chain (list_at 0 8 at d) (λ (ds : Items). folded_from
 abbrev pub on_set : List (Option (List Mode)) → ℕ
 on_set on = bits_below (λ a. is_some (given on a)) 8
 
--- The requirements of a demand on processors, applications and the chosen configuration, read from the members of its
--- object at path `at`, or the first document rule that the members break.
+-- The requirements of a demand on processors, applications and the chosen configuration, or the first document rule
+-- that they break. They are read from members of the demand's object at path `at`.
 abbrev pub read_requirements : List Proc → List AppSpec → List Conf → List ℕ → Data → Data → Data → Data → Data → Result Requirements DocFault
 read_requirements procs apps confs at up down to on off =
     chain (read_procs_set procs 0 (member_path at (codes "up")) up) (λ (up : ℕ).
@@ -87,6 +88,6 @@ read_demand procs apps confs factors at done d =
     chain (read_requirements procs apps confs at up down to on off) (λ (asked : Requirements).
     Ok (record { name = name; from = from; wants = wants; up = asked.up; down = asked.down; to = asked.to; on = asked.on; off = asked.off })))))))))))))))
 
--- The 0 to 64 demands that a value encodes, or the first document rule that it breaks.
+-- The 0 to 64 demands that a value encodes, or the first document rule that the value breaks.
 abbrev pub read_demands : List Proc → List AppSpec → List Conf → List Factor → List ℕ → Data → Result (List Demand) DocFault
 read_demands procs apps confs factors at d = elements_at (read_demand procs apps confs factors) 0 64 at d

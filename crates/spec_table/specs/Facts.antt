@@ -32,29 +32,29 @@ pub record ListsMode (found : Option AppSpec) (mode : ℕ) : Type 0 where
   pub there : found ≡ Some app
   pub listed : IsSome (mode_in app.modes mode)
 
--- A further application has its place.
+-- The list `more` is the list `places` with a valid place for one application.
 pub record IsPlacedAfter (procs : List Proc) (apps : List AppSpec) (places more : List (Option Place)) : Type 0 where
   pub app : ℕ
   pub place : Place
   pub is : IsPlace procs apps app place
   pub set : more ≡ set places app (Some place)
 
--- Each place is on a processor, in a mode that its application lists.
+-- Each place is on a processor that exists, and in a mode that its application lists.
 abbrev pub ArePlaces : List Proc → List AppSpec → List (Option Place) → Type 0
 ArePlaces procs apps places = (a : ℕ) (place : Place) → given places a ≡ Some place → IsPlace procs apps a place
 
--- The places of the configuration fit, and no configuration before it has its name.
+-- Each place of the configuration is valid, and no configuration before it has its name.
 pub record IsNewConf (procs : List Proc) (apps : List AppSpec) (done : List Conf) (conf : Conf) : Type 0 where
   pub name : IsFresh name_of_conf done conf.name
   pub width : length conf.places ≡ 8
   pub places : ArePlaces procs apps conf.places
 
--- The required value exists, and it is the first of its factor.
+-- The required value exists, and no required value before it is of the same factor.
 pub record IsNewWant (factors : List Factor) (done : List Want) (want : Want) : Type 0 where
   pub new : wants_factor done want.factor.0 ≡ false
   pub is : IsWant factors want
 
--- Each item that the rule refers to exists.
+-- Each item that the rule refers to exists. The rule has at most six required values, each of a different factor.
 pub record FitsChoice (procs : List Proc) (confs : List Conf) (factors : List Factor) (rule : Choice) : Type 0 where
   pub from : IsInIfNamed confs rule.from
   pub few : length rule.wants ≤ 6
@@ -62,7 +62,7 @@ pub record FitsChoice (procs : List Proc) (confs : List Conf) (factors : List Fa
   pub up : rule.up < 2 ^ length procs
   pub to : IsIn confs rule.to
 
--- The bound exists for two configurations, and it is the first of its pair of configurations.
+-- The bound is valid, and no bound before it is for the same pair of configurations.
 pub record IsNewBound (confs : List Conf) (done : List Bound) (bound : Bound) : Type 0 where
   pub new : bound_in done bound.from.0 bound.to.0 ≡ None
   pub is : IsBound confs bound
@@ -92,17 +92,17 @@ pub record FitsInterval (apps : List AppSpec) (interval : Interval) : Type 0 whe
   pub is_variable : IsVariable (slice_get apps interval.app.0) interval.variable
   pub ends_fit : FitsEnds interval.ends
 
--- Each item that the invariant refers to exists.
+-- Each item that the invariant refers to exists, and its interval is valid.
 pub record FitsInvariant (apps : List AppSpec) (confs : List Conf) (inv : Invariant) : Type 0 where
   pub from : IsInIfNamed confs inv.from
   pub interval : FitsInterval apps (record { app = inv.app; variable = inv.variable; ends = record { least = inv.least; greatest = inv.greatest } })
 
--- Each item that the precondition refers to exists.
+-- Each item that the precondition refers to exists, and its interval is valid.
 pub record FitsPrecondition (apps : List AppSpec) (confs : List Conf) (pre : Precondition) : Type 0 where
   pub conf : IsIn confs pre.conf
   pub interval : FitsInterval apps (record { app = pre.app; variable = pre.variable; ends = record { least = pre.least; greatest = pre.greatest } })
 
--- No number is in both of two sets.
+-- No number is in both sets.
 abbrev pub IsApart : ℕ → ℕ → Type 0
 IsApart set other = (n : ℕ) → has_bit set n ≡ true → has_bit other n ≡ false
 
@@ -111,7 +111,8 @@ pub record IsNewOn (found : Option AppSpec) (done : List Mode) (mode : Mode) : T
   pub listed : ListsMode found mode.0
   pub new : is_among done mode.0 ≡ false
 
--- A further mode is appended to the others.
+-- The list `more` is the list `modes` with one mode appended. The application lists this mode, and the mode is not in
+-- `modes`.
 pub record HasMoreModes (found : Option AppSpec) (modes more : List Mode) : Type 0 where
   pub mode : Mode
   pub new : IsNewOn found modes mode
@@ -124,19 +125,20 @@ pub record ListsModes (found : Option AppSpec) (modes : List Mode) : Type 0 wher
   pub few : length modes ≤ 3
   pub each : AllAfter (IsNewOn found) modes
 
--- Each application that must be on exists and lists the modes.
+-- Each application that must be on exists and lists the modes that are allowed for it.
 abbrev pub AreOn : List AppSpec → List (Option (List Mode)) → Type 0
 AreOn apps on = (a : ℕ) (modes : List Mode) → given on a ≡ Some modes → ListsModes (slice_get apps a) modes
 
--- A further application must be on.
+-- The list `on` has the modes of each application that must be on. `more` is `on` with the modes of one application,
+-- which lists them.
 pub record IsOnAfter (apps : List AppSpec) (on more : List (Option (List Mode))) : Type 0 where
   pub app : ℕ
   pub modes : List Mode
   pub lists : ListsModes (slice_get apps app) modes
   pub set : more ≡ set on app (Some modes)
 
--- Each item that the requirements refer to exists. No processor must be both up and down, and no application both on
--- and off.
+-- Each item that the requirements refer to exists. No processor is required to be both up and down, and no
+-- application is required to be both on and off.
 pub record FitsRequirements (procs : List Proc) (apps : List AppSpec) (confs : List Conf) (asked : Requirements) : Type 0 where
   pub up : asked.up < 2 ^ length procs
   pub down : asked.down < 2 ^ length procs

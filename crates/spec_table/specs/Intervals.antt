@@ -26,7 +26,8 @@ use Rattle.spec_table.specs.Choices.{read_conf_id, read_source}
 abbrev pub read_app_id : List AppSpec → List ℕ → Data → Result AppId DocFault
 read_app_id apps at d = ok_map (λ (a : ℕ). record { 0 = a }) (read_named name_of_app apps UNKNOWN_APPLICATION at d)
 
--- The variable of the application's kind that a value names, or the first document rule that the value breaks.
+-- The variable of the application's kind that a value names, or the first document rule that the value breaks. If the
+-- application is `None`, it has no variable.
 abbrev pub read_variable : Option AppSpec → List ℕ → Data → Result ℕ DocFault
 read_variable None at d = broken UNKNOWN_VARIABLE at
 read_variable (Some app) at d =
@@ -36,15 +37,16 @@ read_variable (Some app) at d =
 abbrev pub read_end : List ℕ → Data → Result ℤ DocFault
 read_end at d = int_at (minus 1000000000) (pos 1000000000) at d
 
--- The ends of the interval of an object at path `at`, read from its members, or the first document rule that the
--- members break.
+-- The ends of the interval that the members `least` and `greatest` of the object at path `at` encode, or the first
+-- document rule that these members break.
 abbrev pub read_ends : List ℕ → Data → Data → Result Ends DocFault
 read_ends at least greatest =
     chain (read_end (member_path at (codes "least")) least) (λ (low : ℤ).
     chain (read_end (member_path at (codes "greatest")) greatest) (λ (high : ℤ).
     if int_le low high then Ok (record { least = low; greatest = high }) else broken EMPTY_INTERVAL (member_path at (codes "greatest"))))
 
--- The interval of an object at path `at`, read from its members, or the first document rule that the members break.
+-- The interval that the members of the object at path `at` encode, or the first document rule that these members
+-- break.
 abbrev pub read_interval : List AppSpec → List ℕ → Data → Data → Data → Data → Result Interval DocFault
 read_interval apps at app variable least greatest =
     chain (read_app_id apps (member_path at (codes "app")) app) (λ (app : AppId).
@@ -67,7 +69,7 @@ read_invariant apps confs at done d =
     chain (read_interval apps at app variable least greatest) (λ (i : Interval).
     Ok (record { from = from; app = i.app; variable = i.variable; least = i.ends.least; greatest = i.ends.greatest }))))))))))
 
--- The 0 to 64 invariants that a value encodes, or the first document rule that it breaks.
+-- The 0 to 64 invariants that a value encodes, or the first document rule that the value breaks.
 abbrev pub read_invariants : List AppSpec → List Conf → List ℕ → Data → Result (List Invariant) DocFault
 read_invariants apps confs at d = elements_at (read_invariant apps confs) 0 64 at d
 
@@ -86,6 +88,6 @@ read_precondition apps confs at done d =
     chain (read_interval apps at app variable least greatest) (λ (i : Interval).
     Ok (record { conf = conf; app = i.app; variable = i.variable; least = i.ends.least; greatest = i.ends.greatest }))))))))))
 
--- The 0 to 64 preconditions that a value encodes, or the first document rule that it breaks.
+-- The 0 to 64 preconditions that a value encodes, or the first document rule that the value breaks.
 abbrev pub read_preconditions : List AppSpec → List Conf → List ℕ → Data → Result (List Precondition) DocFault
 read_preconditions apps confs at d = elements_at (read_precondition apps confs) 0 64 at d

@@ -1,4 +1,5 @@
--- The items to which the rest of a document refers, and facts about them.
+-- The processors, applications, configurations and factors of a document. The other parts of the document refer to
+-- them by name.
 use Rattle.std.specs.Prelude.{List, []}
 use Rattle.scram_types.specs.declared.specification.Proc.{Proc}
 use Rattle.scram_types.specs.declared.specification.AppSpec.{AppSpec}
@@ -10,14 +11,15 @@ use Rattle.spec_members.specs.Facts.{IsNewProc, IsNewFactor, FewValues}
 use Rattle.spec_table.specs.Facts.{IsNewConf}
 use Rattle.spec_members.specs.Kept.{AreApps}
 
--- The items to which the rest of a document refers.
+-- The processors, applications, configurations and factors of a document.
 pub record Names : Type 0 where
   pub procs : List Proc
   pub apps : List AppSpec
   pub confs : List Conf
   pub factors : List Factor
 
--- Processors, applications, configurations and factors as they are read.
+-- The numbers of processors, applications, configurations and factors are within their limits, and each item is valid
+-- and has a new name.
 pub record AreNames (procs : List Proc) (apps : List AppSpec) (confs : List Conf) (factors : List Factor) : Type 0 where
   pub procs_count : HasLength 1 8 procs
   pub procs_fit : AllAfter IsNewProc procs

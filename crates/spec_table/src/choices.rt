@@ -28,7 +28,8 @@ use spec_members::names::{ByName, read_named};
 use spec_members::rule;
 use std::alloc::Global;
 
-/// Reads a configuration from its name.
+/// Reads a configuration from its name. Returns an error if the value is not a text, or no configuration has this
+/// name.
 pub fn read_conf_id(
     confs: &Numbered<Conf, ByName>,
     v: &Value,
@@ -41,7 +42,8 @@ pub fn read_conf_id(
     Ok(ConfId(read_named(confs, rule::UNKNOWN_CONFIGURATION, v, at)?))
 }
 
-/// Reads a configuration from its name, or returns `None` if the value is `*`.
+/// Reads a configuration from its name, or returns `None` if the value is `*`. Returns an error if the value is not a
+/// text, or no configuration has this name.
 pub fn read_source(
     confs: &Numbered<Conf, ByName>,
     v: &Value,
@@ -180,7 +182,8 @@ impl Elements<Choice> for Choices<'_> {
     }
 }
 
-/// Reads the rules of a document's choice table, 0 to 64 of them.
+/// Reads the rules of a document's choice table, 0 to 64 of them. Returns an error with the first broken rule, or
+/// `NoMemory` if memory runs out.
 pub fn read_choices(
     alloc: Global,
     vocabulary: &Vocabulary,

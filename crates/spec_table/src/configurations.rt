@@ -60,7 +60,8 @@ pub(crate) fn find_app(apps: &Numbered<AppSpec, ByName>, app: AppId) -> Option<&
     apps.items().get(usize::from(app.0))
 }
 
-/// Reads a mode from its name. The mode is one of the application's kind, and the application lists it.
+/// Reads a mode from its name. Returns an error if the value does not name a mode of the application's kind, or the
+/// application does not list the mode.
 pub(crate) fn read_listed_mode(
     app: Option<&AppSpec>,
     v: &Value,
@@ -163,7 +164,8 @@ impl NamedElements<Conf, ByName> for Confs<'_> {
     }
 }
 
-/// Reads the configurations of a document, 1 to 12 of them.
+/// Reads the configurations of a document, 1 to 12 of them. Returns an error with the first broken rule, or
+/// `NoMemory` if memory runs out.
 pub fn read_confs(
     alloc: Global,
     procs: &Numbered<Proc, ByName>,

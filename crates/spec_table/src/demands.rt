@@ -1,4 +1,4 @@
-//! Demands: the applications that must run in an environment.
+//! Demands: requirements on the configuration that is chosen in an environment.
 
 ghost use Rattle.std.specs.Prelude.{◌≡◌, ◌≤◌, ◌<◌, None, [], codes, is_some, length, replicate, slice_get, IfOk};
 ghost use Rattle.std.specs.Option.{option_copied};
@@ -28,7 +28,7 @@ use std::alloc::Global;
 
 type On = [Option<Modes>; 8];
 
-/// Reads a mode from its name, and adds it to the modes.
+/// Reads a mode from its name, and appends it to `modes`, which must have fewer than three modes.
 fn read_on_mode(
     app: Option<&AppSpec>,
     modes: Modes,
@@ -90,7 +90,7 @@ fn read_new_app(
     }
 }
 
-/// Reads an application that must be on, and adds it to the others.
+/// Reads an application that must be on with its modes, and adds it to `on`.
 fn read_on_app(
     apps: &Numbered<AppSpec, ByName>,
     on: On,
@@ -253,7 +253,8 @@ impl NamedElements<Demand, ByName> for Demands<'_> {
     }
 }
 
-/// Reads the demands in a list, 0 to 64 of them.
+/// Reads the demands in a list, 0 to 64 of them. Returns an error with the first broken rule, or `NoMemory` if memory
+/// runs out.
 pub fn read_demands(
     alloc: Global,
     vocabulary: &Vocabulary,

@@ -63,7 +63,7 @@ struct Ends {
     greatest: i64,
 }
 
-/// Reads the ends of the interval of the object at this path from its members.
+/// Reads the ends of an interval from the members of the object at this path.
 fn read_ends(least: &Value, greatest: &Value, at: &Path) -> Result<Ends, DocFault>
     requires room { length at.now ≤ 40 }
     ensures value { result ≡ read_ends at.now (view least.now) (view greatest.now) }
@@ -79,7 +79,7 @@ fn read_ends(least: &Value, greatest: &Value, at: &Path) -> Result<Ends, DocFaul
     }
 }
 
-/// The common part of invariants and preconditions.
+/// The common part of an invariant and a precondition: an interval for a variable of an application.
 #[derive(Clone, Copy)]
 struct Interval {
     app: AppId,
@@ -96,7 +96,7 @@ struct IntervalMembers<'a> {
     greatest: &'a Value,
 }
 
-/// Reads the interval of the object at this path from its members.
+/// Reads an interval from the members of the object at this path.
 fn read_interval(
     apps: &Numbered<AppSpec, ByName>,
     members: &IntervalMembers<'_>,
@@ -206,7 +206,8 @@ impl Elements<Precondition> for Intervals<'_> {
     }
 }
 
-/// Reads the invariants of a document, 0 to 64 of them.
+/// Reads the invariants of a document, 0 to 64 of them. Returns an error with the first broken rule, or `NoMemory` if
+/// memory runs out.
 pub fn read_invariants(
     alloc: Global,
     vocabulary: &Vocabulary,
@@ -229,7 +230,8 @@ pub fn read_invariants(
     )
 }
 
-/// Reads the preconditions of a document, 0 to 64 of them.
+/// Reads the preconditions of a document, 0 to 64 of them. Returns an error with the first broken rule, or `NoMemory`
+/// if memory runs out.
 pub fn read_preconditions(
     alloc: Global,
     vocabulary: &Vocabulary,

@@ -67,7 +67,7 @@ fn read_all<T, N: Naming<T>>(
     Ok(set)
 }
 
-/// Returns a set of numbers below `count`, which is at most 8, as eight bits.
+/// Returns a set of numbers below `count` as eight bits. `count` must be at most 8.
 fn narrow(set: u16, count: usize) -> u8
     requires few { count ≤ 8 }
     requires below { set < 2 ^ count }
@@ -76,7 +76,7 @@ fn narrow(set: u16, count: usize) -> u8
     set as u8
 }
 
-/// Reads the set of the listed processors, 0 to 8 of them, none of which is barred.
+/// Reads a set of 0 to 8 processors from a list of their names. None of the processors may be in `barred`.
 pub(crate) fn read_procs_set(
     procs: &Numbered<Proc, ByName>,
     barred: u8,
@@ -98,7 +98,7 @@ pub(crate) fn read_procs_set(
     Ok(narrow(set, procs.items().len()))
 }
 
-/// Reads the set of the listed applications, 0 to 8 of them, none of which is barred.
+/// Reads a set of 0 to 8 applications from a list of their names. None of the applications may be in `barred`.
 pub(crate) fn read_apps_set(
     apps: &Numbered<AppSpec, ByName>,
     barred: u8,
@@ -120,7 +120,7 @@ pub(crate) fn read_apps_set(
     Ok(narrow(set, apps.items().len()))
 }
 
-/// Reads the set of the listed configurations, 0 to 12 of them.
+/// Reads a set of 0 to 12 configurations from a list of their names.
 pub(crate) fn read_confs_set(
     confs: &Numbered<Conf, ByName>,
     v: &Value,

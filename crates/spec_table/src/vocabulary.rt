@@ -1,4 +1,5 @@
-//! The items to which the rest of a document refers.
+//! The processors, applications, configurations and factors of a document. The other parts of the document refer to
+//! them by name.
 
 use scram_doc::Numbered;
 use scram_types::{AppSpec, Conf, Factor, Proc};

@@ -101,7 +101,7 @@ demand_no_float spec demand = rw (
 goal_no_float : (goal : Goal) → has_float (goal_data goal) ≡ false
 goal_no_float goal = rw (integer_no_float goal.altitude, integer_no_float goal.heading) refl
 
--- No list of a document has a float.
+-- No list of the specification's canonical value has a float.
 record ListsNoFloat (spec : Parts) : Type 0 where
   apps : items_have_float (items_of (map (app_data spec.apps) spec.apps)) ≡ false
   bounds : items_have_float (items_of (map (bound_data spec.confs) spec.bounds)) ≡ false
@@ -165,7 +165,7 @@ demand_low spec demand =
     let wants = low (want_data spec.factors) 1 (λ x. omega arith) demand.wants in
     omega (arith, down, from, off, on, to, up, wants)
 
--- Lemmas on the depth of the lists of a document.
+-- The depth of each list of the specification's canonical value is at most the bound for this list.
 record AreLow (spec : Parts) : Type 0 where
   apps : items_depth (items_of (map (app_data spec.apps) spec.apps)) ≤ 3
   bounds : items_depth (items_of (map (bound_data spec.confs) spec.bounds)) ≤ 1
@@ -188,7 +188,7 @@ are_low spec = record {
   rules = low (choice_data spec) 3 (choice_low spec) spec.rules;
 }
 
--- Lemmas on members whose values have a depth of at most `n`.
+-- The value of each member has a depth of at most `n`.
 record AreLowMembers (n : ℕ) (ms : Members) : Type 0 where
   low : members_depth ms ≤ n
 

@@ -110,7 +110,7 @@ source_short : (spec : Parts) → HasNames spec → (from : Option ConfId) → l
 source_short spec names None = omega arith
 source_short spec names (Some c) = item_short name_of_conf spec.confs c.0 names.confs
 
--- Lemmas on the names of a set, of which each is written in at most `long` bytes.
+-- Lemmas on the names in a set. Each name takes at most `long` bytes.
 names_short_by : (measure : List ℕ → ℕ) (long : ℕ) (b : Bool) (name : List ℕ) (rest : List Data) (most : ℕ) → measure name ≤ long → items_weight measure (items_of rest) ≤ most
     → items_weight measure (items_of (cond b (string name ∷ rest) rest)) ≤ most + (long + 1)
 names_short_by measure long true name rest most short few = omega (arith, short, few)
@@ -180,9 +180,10 @@ assumption_short spec is =
     let window = count_short spec.window (omega (arith, most)) in
     omega (arith, halts, changes, window)
 
--- The length of a demand's text is counted exactly as it is written, since its names need no escapes.
+-- Lemmas on the length of a demand's text. The names in the text need no escapes, so their lengths are counted
+-- exactly.
 
--- A measure that covers a text is at least the length with which the text is written.
+-- The weight of a value by the exact lengths of its texts is at most its weight by `widest`.
 mutual
   lighter : (d : Data) → weight exact d ≤ weight widest d
   lighter null = omega arith
@@ -281,7 +282,7 @@ demands_exact spec is =
     let sum = list_weight exact (demand_data spec) 4500 spec.demands (λ i x e. demand_exact spec is x (is.demands i x e) (is.names.demands i x e)) in
     omega (arith, few, sum)
 
--- Lemmas on the lengths of the lists of a document.
+-- The weight of each list of the specification's canonical value is at most the bound for this list.
 record HasShortLists (spec : Parts) : Type 0 where
   procs : items_weight widest (items_of (map proc_data spec.procs)) ≤ 2000
   apps : items_weight widest (items_of (map (app_data spec.apps) spec.apps)) ≤ 25000
@@ -321,7 +322,7 @@ lists_short spec is names =
       preconditions = omega (arith, few_preconditions, preconditions);
     }
 
--- Lemmas on the length of the members other than lists.
+-- The weights of the goal, the failure assumption and the start are at most 200 each.
 record HasShortRest (spec : Parts) : Type 0 where
   goal : weight widest (goal_data spec.goal) ≤ 200
   assumption : weight widest (assumption_data spec) ≤ 200

@@ -1,4 +1,4 @@
--- Lemmas that the members that are put one after another are those of the canonical value.
+-- Putting the members one after another results in the canonical value of the specification, and in that of a demand.
 use Rattle.std.proofs.Common.{◌≡◌, refl, List, [], ◌∷◌}
 use Rattle.std.specs.Prelude.{codes}
 use Rattle.serde_json.specs.Data.{object, no_members, put, string}

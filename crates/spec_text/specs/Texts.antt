@@ -38,23 +38,25 @@ name_of_item name xs n = option_map_or name (slice_get xs n) []
 abbrev pub name_or_nothing : Option (List ℕ) → List ℕ
 name_or_nothing name = option_map_or itself name []
 
--- The name of a kind.
+-- The name of a kind, or the empty name if there is no such kind.
 abbrev pub name_of_kind : ℕ → List ℕ
 name_of_kind kind = name_or_nothing (name_in kind_names kind)
 
--- The name of a mode of a kind.
+-- The name of a mode of a kind, or the empty name if there is no such mode.
 abbrev pub name_of_mode : ℕ → ℕ → List ℕ
 name_of_mode kind mode = name_or_nothing (name_in (mode_names kind) mode)
 
--- The name of a variable of a kind.
+-- The name of a variable of a kind, or the empty name if there is no such variable.
 abbrev pub name_of_kind_variable : ℕ → ℕ → List ℕ
 name_of_kind_variable kind variable = name_or_nothing (name_in (variable_names kind) variable)
 
--- The name of a mode of application `a`, by the table of its kind.
+-- The name of a mode of application `a`, by the table of its kind. It is empty if there is no such application or
+-- mode.
 abbrev pub name_of_app_mode : List AppSpec → ℕ → ℕ → List ℕ
 name_of_app_mode apps a mode = option_map_or (λ (app : AppSpec). name_of_mode app.kind.0 mode) (slice_get apps a) []
 
--- The name of a variable of application `a`, by the table of its kind.
+-- The name of a variable of application `a`, by the table of its kind. It is empty if there is no such application or
+-- variable.
 abbrev pub name_of_variable : List AppSpec → ℕ → ℕ → List ℕ
 name_of_variable apps a variable = option_map_or (λ (app : AppSpec). name_of_kind_variable app.kind.0 variable) (slice_get apps a) []
 
@@ -75,7 +77,7 @@ mode_data kind listed = object (
 abbrev pub need_data : List AppSpec → AppId → Data
 need_data apps need = string (name_of_item name_of_app apps need.0)
 
--- The canonical value of an application of a list. The list has the applications that it needs.
+-- The canonical value of application `app`. The list `apps` has the applications that `app` needs.
 abbrev pub app_data : List AppSpec → AppSpec → Data
 app_data apps app = object (
     member (codes "kind") (string (name_of_kind app.kind.0)) (
@@ -109,12 +111,12 @@ factor_data factor = object (
     member (codes "name") (string factor.name) (
     member (codes "values") (list_data (λ (name : List ℕ). string name) factor.values) no_members))
 
--- The name of the configuration to which a rule applies, or `*` if it applies to any.
+-- The name of a source configuration, or `*` if the source is any configuration.
 abbrev pub source_name : List Conf → Option ConfId → List ℕ
 source_name confs None = codes "*"
 source_name confs (Some c) = name_of_item name_of_conf confs c.0
 
--- The name of a value of factor `f`.
+-- The name of a value of factor `f`, or the empty name if there is no such factor or value.
 abbrev pub name_of_value : List Factor → ℕ → ℕ → List ℕ
 name_of_value factors f value = option_map_or (λ (factor : Factor). name_of_item itself factor.values value) (slice_get factors f) []
 
@@ -211,7 +213,7 @@ assumption_data spec = object (
 abbrev pub start_data : Parts → Data
 start_data spec = string (name_of_item name_of_conf spec.confs spec.start.0)
 
--- The canonical value of a specification in version 1, whose policy is to retarget.
+-- The canonical value, in version 1, of a specification whose policy is to retarget.
 abbrev pub retarget_data : Parts → Data
 retarget_data spec = object (
     member (codes "apps") (list_data (app_data spec.apps) spec.apps) (
@@ -227,7 +229,7 @@ retarget_data spec = object (
     member (codes "scram") (count_data 1) (
     member (codes "start") (start_data spec) no_members))))))))))))
 
--- The canonical value of a specification in version 2, whose policy is to settle.
+-- The canonical value, in version 2, of a specification whose policy is to settle.
 abbrev pub settle_data : Parts → Data
 settle_data spec = object (
     member (codes "apps") (list_data (app_data spec.apps) spec.apps) (
@@ -281,8 +283,8 @@ spec_data spec = data_by spec.demands spec.policy spec
 abbrev pub spec_text : Parts → List ℕ
 spec_text spec = compact_text (spec_data spec)
 
--- The members `processors`, `apps`, `configurations` and `factors`, to which the rest of a document refers, each put
--- at its place in byte order.
+-- The members `ms` with the members `processors`, `apps`, `configurations` and `factors`, each put at its place in
+-- byte order.
 abbrev pub with_named : Parts → Members → Members
 with_named spec ms =
     put (codes "factors") (list_data factor_data spec.factors) (
@@ -290,7 +292,7 @@ with_named spec ms =
     put (codes "apps") (list_data (app_data spec.apps) spec.apps) (
     put (codes "processors") (list_data proc_data spec.procs) ms)))
 
--- The members that hold the choice table, the bounds, the start and the goal.
+-- The members `ms` with the members `rules`, `bounds`, `start` and `goal`.
 abbrev pub with_table : Parts → Members → Members
 with_table spec ms =
     put (codes "goal") (goal_data spec.goal) (
@@ -298,27 +300,29 @@ with_table spec ms =
     put (codes "bounds") (list_data (bound_data spec.confs) spec.bounds) (
     put (codes "rules") (list_data (choice_data spec) spec.rules) ms)))
 
--- The members that hold the invariants, the preconditions and the failure assumption.
+-- The members `ms` with the members `invariants`, `preconditions` and `assumption`.
 abbrev pub with_limits : Parts → Members → Members
 with_limits spec ms =
     put (codes "assumption") (assumption_data spec) (
     put (codes "preconditions") (list_data (precondition_data spec) spec.preconditions) (
     put (codes "invariants") (list_data (invariant_data spec) spec.invariants) ms))
 
--- The members `demands`, `policy` and `scram` of a specification in version 3.
+-- The members `ms` with the members `demands`, `policy` and `scram` of a specification in version 3.
 abbrev pub with_demands : List Demand → Policy → Parts → Members → Members
 with_demands demands policy spec ms =
     put (codes "scram") (count_data 3) (
     put (codes "policy") (string (policy_name policy)) (
     put (codes "demands") (list_data (demand_data spec) demands) ms))
 
--- The member `scram`, which holds the version, and the members `policy` and `demands` if the version has them.
+-- The members `ms` with the member `scram`, which contains the version, and the members `policy` and `demands` if the
+-- version has them.
 abbrev pub with_version : List Demand → Policy → Parts → Members → Members
 with_version [] Retarget spec ms = put (codes "scram") (count_data 1) ms
 with_version [] Settle spec ms = put (codes "scram") (count_data 2) (put (codes "policy") (string (codes "settle")) ms)
 with_version (demand ∷ demands) policy spec ms = with_demands (demand ∷ demands) policy spec ms
 
--- The members of a demand that hold the environments and configurations to which the demand applies.
+-- The members `ms` with the members of a demand that contain the environments and configurations to which the demand
+-- applies.
 abbrev pub with_condition : Parts → Demand → Members → Members
 with_condition spec demand ms =
     put (codes "down") (set_data name_of_proc spec.procs demand.down) (
@@ -326,7 +330,7 @@ with_condition spec demand ms =
     put (codes "when") (list_data (want_data spec.factors) demand.wants) (
     put (codes "from") (set_data name_of_conf spec.confs demand.from) ms)))
 
--- The members of a demand that hold its requirements on the chosen configuration.
+-- The members `ms` with the members of a demand that contain its requirements on the chosen configuration.
 abbrev pub with_asked : Parts → Demand → Members → Members
 with_asked spec demand ms =
     put (codes "off") (set_data name_of_app spec.apps demand.off) (

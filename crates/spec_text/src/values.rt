@@ -6,7 +6,7 @@ ghost use Rattle.spec_text.specs.Texts.{name_of_app_mode, name_of_value, name_of
 use app_model::{mode_name, variable_name};
 use scram_types::{AppId, AppSpec, ConfId, Mode, Policy, Spec, Want};
 
-/// Returns the name of a configuration, or `*` if there is none.
+/// Returns the name of a source configuration, or `*` if `from` is `None`.
 pub fn source_name(spec: &Spec, from: Option<ConfId>) -> &str
     ensures { result.now ≡ source_name spec.now.confs from }
 {
@@ -16,7 +16,7 @@ pub fn source_name(spec: &Spec, from: Option<ConfId>) -> &str
     }
 }
 
-/// Returns the name of the required value, or an empty name if its factor has no such value.
+/// Returns the name of a required value, or an empty name if there is no such factor or value.
 pub fn name_of_value(spec: &Spec, want: Want) -> &str
     ensures { result.now ≡ name_of_value spec.now.factors want.factor.0 want.value }
 {
@@ -26,7 +26,7 @@ pub fn name_of_value(spec: &Spec, want: Want) -> &str
     }
 }
 
-/// Returns the name of a mode of an application's kind.
+/// Returns the name of a mode of an application's kind, or an empty name if there is no such application or mode.
 pub fn name_of_app_mode(apps: &[AppSpec], app: AppId, mode: Mode) -> &'static str
     ensures { result.now ≡ name_of_app_mode apps.now app.0 mode.0 }
 {
@@ -39,7 +39,8 @@ pub fn name_of_app_mode(apps: &[AppSpec], app: AppId, mode: Mode) -> &'static st
     }
 }
 
-/// Returns the name of a variable of an application's kind.
+/// Returns the name of a variable of an application's kind, or an empty name if there is no such application or
+/// variable.
 pub fn name_of_variable(apps: &[AppSpec], app: AppId, variable: u8) -> &'static str
     ensures { result.now ≡ name_of_variable apps.now app.0 variable }
 {

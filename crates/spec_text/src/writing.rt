@@ -245,7 +245,7 @@ impl Writes<Precondition> for Writer<'_> {
     }
 }
 
-/// A writer of the modes of an application, given its number.
+/// A writer of the modes of application `app`.
 #[derive(Clone, Copy)]
 struct OnWriter<'a> {
     spec: &'a Spec,
@@ -285,7 +285,7 @@ fn make_on(alloc: Global, spec: &Spec, on: &[Option<Modes>; 8]) -> Result<Vec<Va
     Ok(values)
 }
 
-/// Writes the members of a demand that hold the environments and configurations to which it applies.
+/// Writes the members of a demand that contain the environments and configurations to which the demand applies.
 fn put_condition(
     members: &mut Map<String, Value>,
     alloc: Global,
@@ -304,7 +304,7 @@ fn put_condition(
     Ok(())
 }
 
-/// Writes the members of a demand that hold its requirements on the chosen configuration.
+/// Writes the members of a demand that contain its requirements on the chosen configuration.
 fn put_asked(
     members: &mut Map<String, Value>,
     alloc: Global,
@@ -348,7 +348,7 @@ fn make_assumption(alloc: Global, spec: &Spec) -> Result<Value, AllocError>
     json!(in alloc; {"changes": spec.changes, "halts": spec.halts, "window": spec.window})
 }
 
-/// Writes the members to which the rest of the document refers: processors, applications, configurations and factors.
+/// Writes the members to which the other members refer by name: processors, applications, configurations and factors.
 fn put_named(members: &mut Map<String, Value>, alloc: Global, spec: &Spec) -> Result<(), AllocError>
     ensures { OnOk result (members_view members.new.entries ≡ with_named spec.now (members_view members.old.entries)) }
 {
@@ -468,13 +468,13 @@ fn make_spec(alloc: Global, spec: &Spec) -> Result<Value, AllocError>
 /// Returns the canonical text of a specification, which is compact JSON. With demands it is of version 3. Without
 /// demands it is of version 1 if the policy is to retarget, and of version 2 if it is to settle. The places of a
 /// configuration, the applications of a demand, and sets of processors, applications and configurations are in the
-/// order of their items. Every other list keeps its order.
+/// order of their items. Every other list keeps its order. Returns an error if memory runs out.
 pub fn write_text(alloc: Global, spec: &Spec) -> Result<Vec<u8>, NoMemory>
     ensures text { IfOk result (λ text. text.items ≡ spec_text spec.now) }
     ensures value { IfOk result (λ text. read text.items ≡ Some (spec_data spec.now)) }
     ensures utf8 { IfOk result (λ text. IsUtf8 text.items) }
 {
-    // Using a field of a specification shows that it keeps its invariant.
+    // A use of a field proves that the specification satisfies its invariant.
     let _ = &spec.procs;
     let Ok(value) = make_spec(alloc, spec) else {
         return Err(NoMemory);

@@ -247,7 +247,8 @@ const NAMES: [(&str, bool); 10] = [
     ("p-0", false),
 ];
 
-/// Returns whether the name that is made from a text shows the same text, or `None` if the text is not a valid name.
+/// Returns `Some(true)` if the name that is made from a text has the same spelling as the text, and `Some(false)` if
+/// it has another. Returns `None` if the text is not a valid name.
 fn is_kept(text: &str) -> Option<bool> {
     match name_of(text) {
         Some(name) => Some(name.as_str() == text),

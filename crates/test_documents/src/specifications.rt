@@ -51,7 +51,8 @@ const DEEP: [(usize, usize, u8); 5] = [
     (MAX_SPECIFICATION_BYTES, MAX_SPECIFICATION_BYTES, 1),
 ];
 
-/// Returns the rule that a text of `length` brackets breaks, of which the first `open` are opening brackets.
+/// Returns the rule that a text of `length` brackets breaks. The first `open` brackets are opening brackets, and the
+/// others are closing brackets.
 fn bracket_rule(alloc: Global, open: usize, length: usize) -> Result<u8, NoMemory> {
     let bytes = brackets(alloc, open, length)?;
     let (rule, _path) = refusal(alloc, &bytes)?;
@@ -70,7 +71,8 @@ fn deep_texts(rt: HostRuntime) -> Result<(), Fail> {
     Ok(())
 }
 
-/// Returns the rule and the path of the first fault of the example after the byte 255, which occurs in no UTF-8 text.
+/// Returns the rule and the path of the first fault of the byte 255 followed by the example. The byte 255 occurs in
+/// no UTF-8 text.
 fn refusal_after_byte(alloc: Global) -> Result<(u8, Path), NoMemory> {
     let mut bytes = Vec::from_slice(alloc, &[255])?;
     bytes.extend_from_slice(EXAMPLE.as_bytes())?;
@@ -127,7 +129,7 @@ fn changed(alloc: Global, text: &str, old: &str, new: &str) -> Result<String, No
 }
 
 /// Returns the canonical text of the example in another version of the format. `version` is the text of the member
-/// `scram`, and `policy` that of the policy and of the name of the next member.
+/// `scram`. `policy` is the text of the member `policy`, followed by the name of the next member.
 fn version(alloc: Global, version: &str, policy: &str) -> Result<String, NoMemory> {
     let text = changed(alloc, CANONICAL, r#""scram":1"#, version)?;
     changed(alloc, text.as_str(), r#""preconditions""#, policy)

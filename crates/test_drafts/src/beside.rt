@@ -60,7 +60,7 @@ fn fly(
     }
 }
 
-/// Halts a processor after the last frame, and restarts it if there is a spare rack. Prints both.
+/// Halts a processor after the last frame, and restarts it if there is a spare rack. Prints the halt and the restart.
 fn print_return(rt: &HostRuntime, live: Live, spare: Option<Rack>) -> io::Result<()>
     requires { live.proc.0 < 8 }
 {
@@ -135,7 +135,7 @@ fn snapshot(spec: &Spec, sys: &Sys, input: &Input, images: &[Image; 8]) -> Snaps
     }
 }
 
-/// Returns the start images. The image of each keeper has the areas that it keeps.
+/// Returns the start images. The image of each keeper has the areas that the keeper keeps.
 fn start_images(sys: &Sys) -> [Image; 8] {
     let mut images = [[0; 64]; 8];
     for a in 0..8 {

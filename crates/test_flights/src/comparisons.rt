@@ -25,8 +25,8 @@ struct Counts {
     again: u32,
 }
 
-/// A series of flights of one mission: a description of the processors that get a thread, these processors by index,
-/// or `None` for all, and the number of flights.
+/// A series of flights of one mission. `whom` describes the processors that get a thread. `asked` marks these
+/// processors by index, or is `None` for all processors. `times` is the number of flights.
 #[derive(Clone, Copy, Debug)]
 struct Trial<'a> {
     whom: &'a str,
@@ -207,7 +207,7 @@ fn print_wanted(rt: &HostRuntime, wanted: &Flown) -> io::Result<()> {
     )
 }
 
-/// Returns the set of all processors except for the one at an index.
+/// Returns the set of all processors except the processor at index `place`.
 fn all_but(place: usize) -> [bool; 8] {
     let mut asked = [true; 8];
     if place < 8 {

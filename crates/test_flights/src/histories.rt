@@ -17,7 +17,7 @@ use std::io::{self, ErrorKind};
 use std::sync::Wait;
 use std::thread::Threads;
 
-/// Flies a mission over a lock, and returns the result and the history, which is written as text.
+/// Flies a mission over a lock. Returns the result, and the text of the history.
 pub fn fly_and_write<R: AllocGlobal + Threads + Wait + Sync>(
     rt: &R,
     mission: &Mission,
@@ -30,7 +30,7 @@ pub fn fly_and_write<R: AllocGlobal + Threads + Wait + Sync>(
     }
 }
 
-/// Returns the result of a flight that is over, and its history, which is written as text.
+/// Returns the result of a flight that is over, and the text of its history.
 fn finish(alloc: Global, mission: &Mission, core: Core) -> io::Result<(Flown, Vec<u8>)>
     requires spec { core.spec ≡ mission.now.spec }
     requires over { IsOver (core_flight core) (core_places core) }

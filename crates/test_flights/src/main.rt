@@ -4,9 +4,9 @@
 //! names of files beside `rows.txt`.
 //!
 //! - `fly SPEC SCRIPT`: Flies the mission on one thread, and then on threads over words and over a lock: many times
-//!   with a thread for each processor, and once each with threads for none, for all but the first, and for all but
-//!   the last. The history of each flight over the lock is written, read, and flown again. Prints how often each
-//!   result was that of one thread.
+//!   with a thread for each processor, and once each with threads for no processor, for all but the first, and for
+//!   all but the last. The history of each flight over the lock is written, read, and flown again. Prints how often
+//!   each result was that of one thread.
 //! - `steps COUNT SPEC SCRIPT`: Does the same once for each step below `COUNT`, with a thread for each processor. The
 //!   step replaces `STEP` in the script. All results are compared with that of one thread and step 0.
 //! - `meet SPEC SCRIPT`: Flies the mission over words and over a lock with boxes that count their calls, and prints

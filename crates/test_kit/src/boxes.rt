@@ -11,8 +11,8 @@ use std::sync::atomic::Ordering;
 /// The maximum number of times that a box checks whether the awaited call has come.
 const TURNS: u32 = 50_000_000;
 
-/// A wrapper of a box that counts the calls and returns the results of the box. If it has a rack to wait for, each
-/// call first spins until a box of that rack has been called, or until the wait is given up.
+/// A wrapper of a box that counts the calls and returns the results of the box. If `awaited` is given, each call
+/// first spins until a box of the awaited rack has been called, or until the wait is given up.
 #[derive(Drop)]
 pub struct Counted<B: App> {
     app: B,

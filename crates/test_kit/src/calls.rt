@@ -8,9 +8,9 @@ use std::sync::atomic::{AtomicU64, Ordering};
 /// The numbers of calls of the boxes of a rack, by kind, and the number of calls that waited in vain.
 #[derive(Drop)]
 pub struct Calls {
-    /// The numbers of calls of the boxes: `kinds[k]` is that of the box of kind `k`.
+    /// The numbers of calls of the boxes: `kinds[k]` is the number of calls of the box of kind `k`.
     pub kinds: [AtomicU64; 5],
-    /// The number of calls that waited for a call of another rack that did not come.
+    /// The number of calls that waited in vain for a call of another rack.
     pub in_vain: AtomicU64,
 }
 
@@ -57,8 +57,8 @@ impl Calls {
     }
 }
 
-/// The counts for the first rack and the spare rack of the first processor, of the second, and of all others
-/// together. The counts live as long as the program, as do the boxes that are sent to threads.
+/// The counts for the first racks and the spare racks: of the first processor, of the second processor, and of all
+/// other processors together. The counts live as long as the program, as do the boxes that are sent to threads.
 #[derive(Drop)]
 pub struct Counters {
     first: &'static Calls,

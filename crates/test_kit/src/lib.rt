@@ -1,7 +1,7 @@
 //! Helpers of the test programs: rows and their lines, missions that are made from texts, flights on one thread,
 //! printing of images, and boxes that count their calls. If the boxes of two processors wait for calls of one
 //! another, a flight ends in time only if both processors have threads. No contract states the number of calls of a
-//! box; it can only be tested.
+//! box. Therefore, this number can only be tested.
 #![tactic(auto)]
 
 pub mod boxes;

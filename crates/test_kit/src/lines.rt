@@ -3,7 +3,8 @@
 use std::alloc::Global;
 use std::io::{self, ErrorKind};
 
-/// Returns the rest of the first line of a row that begins with `words`, or `None` if there is no such line.
+/// Returns the text after `words` in the first line of a row that begins with `words`, or `None` if there is no such
+/// line.
 pub fn line_after<'a>(row: &'a str, words: &str) -> Option<&'a str> {
     for line in row.split('\n') {
         if let Some(rest) = line.strip_prefix(words) {
@@ -13,12 +14,12 @@ pub fn line_after<'a>(row: &'a str, words: &str) -> Option<&'a str> {
     None
 }
 
-/// Returns the number in the rest of the first line of a row that begins with `words`, or `other` if there is no such
-/// line.
+/// Returns the number after `words` in the first line of a row that begins with `words`, or `other` if there is no
+/// such line.
 ///
 /// # Errors
 ///
-/// Returns an error if the rest of the line is not an unsigned number of 32 bits.
+/// Returns an error if the text after `words` is not an unsigned number of 32 bits.
 pub fn number_after(row: &str, words: &str, other: u32) -> io::Result<u32> {
     match line_after(row, words) {
         Some(digits) => number(digits),

@@ -38,8 +38,8 @@ fn canonical_text(alloc: Global, spec: &Spec) -> io::Result<String> {
     }
 }
 
-/// Returns the specification of a row. It is in the file that the line `on FILE` names. If there is no such line, it
-/// is `uav`.
+/// Returns the specification in the file that the line `on FILE` of a row names, or `uav` if the row has no such
+/// line.
 ///
 /// # Errors
 ///

@@ -12,7 +12,8 @@ use app_model::{
 };
 use scram_types::{KindId, Mode};
 
-// Returns the kind that the first name names, and the mode and the variable of kind `kind` that the other names name.
+// Returns the numbers of a kind, a mode and a variable with these names. The mode and the variable are those of kind
+// `kind`.
 fn numbers_of(kind: u8, names: (&str, &str, &str)) -> (Option<KindId>, Option<Mode>, Option<u8>) {
     (
         kind_named(names.0),

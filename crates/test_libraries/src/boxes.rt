@@ -14,8 +14,8 @@ const NONE: Area = [0; 8];
 // The altitude and the heading of a level flight, in feet and in tenths of a degree.
 const LEVEL: (i64, i64) = (5_000, 900);
 
-// Returns what a box sees in a level flight at altitude and heading `from` whose goal is `to`, without applications
-// of other kinds.
+// Returns what a box sees in a level flight without applications of other kinds. The altitude and the heading of the
+// flight are `from`, and those of the goal are `to`.
 fn seen_in(mode: u8, own: Area, from: (i64, i64), to: (i64, i64)) -> Seen {
     Seen {
         mode: Mode(mode),

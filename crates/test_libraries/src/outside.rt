@@ -172,7 +172,7 @@ impl Write for Trickle {
     }
 }
 
-// Returns the number of bytes that are read from a stream, of which at most one is past the limit.
+// Returns the number of bytes that are read from a stream, at most one more than the limit, or the kind of the error.
 fn length_past<I: Read>(alloc: Global, input: &mut I, limit: usize) -> Result<usize, ErrorKind> {
     match read_past(alloc, input, limit) {
         Ok(bytes) => Ok(bytes.len()),

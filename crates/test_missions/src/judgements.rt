@@ -46,7 +46,7 @@ pub fn print_judgement(
     }
 }
 
-/// Returns whether the number of rows is at most the maximum number of frames of a script.
+/// Returns `true` if the number of rows is at most the maximum number of frames of a script.
 fn are_few(rows: &[Row]) -> bool
     ensures { IsTrue result → length rows.now < 2 ^ 32 }
 {

@@ -15,7 +15,7 @@ use scram_types::ranges::{clamped_in, make_range};
 use scram_types::{Area, KindId, Order};
 
 /// A flight control that finds the positions that a surface can reach in one frame, and moves the surface to the
-/// position nearest to the command. The law of its kind states the step that the surface makes instead.
+/// position nearest to the command. The law of the kind is stated in another way: by the step that the surface makes.
 #[derive(Drop)]
 pub struct OwnFlightControl {}
 

@@ -6,7 +6,7 @@ use kernel_pair::UnitHalt;
 use std::io::{self, ErrorKind};
 use test_kit::{line_after, number, number_after};
 
-/// The halts of a row. There is one for each unit, frame and step, each less than its count here.
+/// The halts of a row: one for each unit below `units`, frame below `frames` and number of steps below `steps`.
 #[derive(Clone, Copy, Debug)]
 pub(crate) struct Halts {
     units: u32,
@@ -17,7 +17,8 @@ pub(crate) struct Halts {
 }
 
 impl Halts {
-    /// Returns the halts of a row, or `None` if the row does not give a positive number of units.
+    /// Returns the halts of a row, or `None` if the row gives no number of units or the number 0. Returns an error if
+    /// a text is not a number, or if the number of frames or steps is 0.
     pub(crate) fn of_row(row: &str) -> io::Result<Option<Halts>> {
         let units = number_after(row, "units ", 0)?;
         let frames = number_after(row, "frames ", 1)?;
@@ -41,7 +42,8 @@ impl Halts {
             .saturating_mul(self.steps)
     }
 
-    /// Returns the halt with this number. Consecutive numbers first vary the step, then the frame and then the unit.
+    /// Returns the halt with a number, counted from 0. From one number to the next, the step varies fastest, then the
+    /// frame, and then the unit.
     pub(crate) fn halt(&self, number: u32) -> UnitHalt {
         let frames = number / self.steps;
         UnitHalt {
@@ -52,7 +54,8 @@ impl Halts {
     }
 }
 
-/// Returns the halt in the line `halt ` of a row, given as unit, frame and step, or `None` if the row has no such line.
+/// Returns the halt in the line `halt UNIT FRAME STEP` of a row, or `None` if the row has no such line. Returns an
+/// error if a text in the line is not a number.
 pub(crate) fn halt_of_row(row: &str) -> io::Result<Option<UnitHalt>> {
     let Some(words) = line_after(row, "halt ") else {
         return Ok(None);

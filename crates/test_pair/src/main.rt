@@ -1,9 +1,17 @@
-//! A test of flights of the kernel on two units. In `rows.txt` blank lines separate the rows, and a row's script
-//! follows `= `. `units `, `frames ` and `steps ` give exclusive upper limits of a halt's unit, frame and number of
-//! steps. The script is flown to its end once for each such halt. A row without these lines is flown once, with the
-//! halt after `halt ` if there is one. Every result is compared with that of one thread. If a row has lines of `try `,
-//! its flight, with the halt after `halt `, makes their events one by one. Each event is printed with its result and
-//! with the next events of both units. The expected output follows from the rules, worked out by hand.
+//! A test of flights of the kernel on two units. The expected output is worked out by hand from the rules.
+//!
+//! The rows of `rows.txt` are separated by blank lines. The first line of a row is its title, and the other lines
+//! are:
+//!
+//! - `= SCRIPT`: The script of the row, for `uav`.
+//! - `units N`, `frames N`, `steps N`: The script is flown to its end with a halt of each unit, in each frame, after
+//!   each number of steps below these numbers. Without a line `units`, it is flown once. A missing number of frames
+//!   or steps is 1.
+//! - `halt UNIT FRAME STEP`: The halt of a row without a line `units`. Without this line, no unit halts.
+//! - `try EVENT`: Makes an event in a flight with the halt of the line `halt`. The events of all such lines are made
+//!   one by one. Each event is printed with its result and with the next events of both units.
+//!
+//! A row without lines `try` compares each result with that of one thread.
 #![tactic(auto)]
 
 mod halts;

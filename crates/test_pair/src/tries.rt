@@ -38,8 +38,8 @@ fn try_halt(
     }
 }
 
-// A function that requires nothing of a mutable core counts as one that may make its boxes, so these functions require
-// what each core has.
+// The verifier treats a function that requires nothing of a mutable core as one that may make the boxes of the core.
+// Therefore, these functions require a property that each core has.
 fn try_lines(rt: &HostRuntime, core: &mut PairCore, row: &str) -> io::Result<()>
     requires { IsSpec core.old.spec }
 {
@@ -68,8 +68,8 @@ fn try_words(rt: &HostRuntime, core: &mut PairCore, words: &str) -> io::Result<(
     }
 }
 
-/// Makes the next events of a unit until it has none, and returns their number. It makes at most 1,000, which no row
-/// reaches.
+/// Makes the next events of a unit until it has none, and returns the number of events. At most 1,000 events are
+/// made. No row reaches this number.
 fn go(core: &mut PairCore, unit: u32) -> u32
     requires { IsSpec core.old.spec }
 {
@@ -86,7 +86,8 @@ fn go(core: &mut PairCore, unit: u32) -> u32
     1_000
 }
 
-/// Returns the event that the words give by a name and one or two numbers.
+/// Returns the event that `words` spells as a name and one or two numbers. A missing second number is 0. Returns an
+/// error if there is no event of this name, or if a text is not a number.
 fn event_of(words: &str) -> io::Result<PairEvent> {
     let (name, rest) = words.split_once(' ').unwrap_or((words, ""));
     let (first, second) = rest.split_once(' ').unwrap_or((rest, "0"));

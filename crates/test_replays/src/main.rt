@@ -1,10 +1,20 @@
-//! A test of schedules that are read, written and flown again. In `rows.txt` blank lines separate the rows. A row has a
-//! title, a script for `uav` after `= `, and the pieces of its schedule, in order. `line ` precedes a line, and `rest `
-//! the text after the last line feed. `turns` is the whole round-robin schedule, and `turns FROM TO` its lines from
-//! `FROM`, counted from 0, up to but not including `TO`. If the schedule can be read, the program prints the number of
-//! its events and whether the text written for them is read back to them. It then flies the schedule. With `brief` the
-//! rows of the trace are left out, and `on ` names another specification. The expected output follows from the rules,
-//! worked out by hand. The traces are from the worked rows of the command and from `bench/flights`.
+//! A test of schedules that are read, written and flown again. The expected output is worked out by hand from the
+//! rules. The traces are from the worked rows of the command and from `bench/flights`.
+//!
+//! The rows of `rows.txt` are separated by blank lines. The first line of a row is its title, and the other lines are
+//! as follows. The schedule of the row consists of the pieces in its lines `line`, `rest` and `turns`, in order.
+//!
+//! - `= SCRIPT`: The script of the row.
+//! - `line TEXT`: A line of the schedule.
+//! - `rest TEXT`: The text after the last line feed of the schedule.
+//! - `turns`: The whole round-robin schedule.
+//! - `turns FROM TO`: The lines of the round-robin schedule from `FROM`, counted from 0, up to but not including
+//!   `TO`.
+//! - `brief`: Leaves out the rows of the trace.
+//! - `on FILE`: The file of the specification, instead of `uav`.
+//!
+//! If the schedule can be read, the program prints the number of its events, and whether the text that is written for
+//! the events is read back to the same events. It then flies the mission by the schedule.
 #![tactic(auto)]
 
 mod answers;

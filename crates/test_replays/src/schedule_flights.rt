@@ -57,7 +57,7 @@ fn answer_list(
     fly(rt, spec, script, list, row)
 }
 
-/// Returns whether the schedule that is written for a list of events is read back to the same list.
+/// Returns `true` if the schedule that is written for a list of events is read back to the same list.
 fn is_read_back(alloc: Global, spec: &Spec, list: &[Event]) -> io::Result<bool>
     requires { HasEvents spec.now list.now }
 {

@@ -6,7 +6,7 @@ use std::alloc::Global;
 use std::io::{self, ErrorKind};
 use test_kit::{number, split_word};
 
-/// Returns the bytes that a row's lines give for its schedule, in order.
+/// Returns the bytes of the schedule of a row: the pieces that its lines contain, in order.
 pub fn bytes_of(alloc: Global, spec: &Spec, script: &Script, row: &str) -> io::Result<Vec<u8>> {
     let text = text_in_turns(alloc, spec, script)?;
     match str::from_utf8(&text) {
@@ -33,7 +33,7 @@ fn join_lines(alloc: Global, row: &str, turns: &str) -> io::Result<Vec<u8>> {
     Ok(bytes)
 }
 
-/// Appends the bytes that a line of a row gives for the schedule. Other lines give none.
+/// Appends the piece of the schedule that a line of a row contains. A line without a piece appends nothing.
 fn add_line(bytes: &mut Vec<u8>, line: &str, turns: &str) -> io::Result<()> {
     if line == "turns" {
         return add_text(bytes, turns);

@@ -69,8 +69,8 @@ module _ (m : Flight) (at : Places) (words : Word → ℕ) (backwards : Bool) wh
     by_side (yes d) = late place d (omega (arith, low, is))
     by_side (no d) = early place (omega arith) (omega (arith, d))
 
-  -- If the places from `begin` to before a place have no next event, and the place has none, no place from `begin` up
-  -- to it has one.
+  -- If neither place `at'` nor a place from `begin` to before `at'` has a next event, no place from `begin` to before
+  -- `at' + 1` has one.
   pub none_more : (begin at' : ℕ) → ((place : ℕ) → begin ≤ place → place < at' → next_in_order m at words backwards place ≡ None) → next_in_order m at words backwards at' ≡ None
       → (place : ℕ) → begin ≤ place → place < at' + 1 → next_in_order m at words backwards place ≡ None
   none_more begin at' before none place low high = by_side (dec_le at' place) where

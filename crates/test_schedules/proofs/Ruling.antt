@@ -39,7 +39,7 @@ chosen_more m chooser s [] last t place e is next =
     (place, at_s, (ap (λ (c : Chooser). chooser_after c place) is.0, ap (λ (u : Machine). happened m u e) is.1))
 chosen_more m chooser s (x ∷ es) last t place e is next = (is.0, is.1, chosen_more m (chooser_after chooser is.0) (happened m s x) es last t place e is.2 next)
 
--- If two assignments of words agree on the words that are stored, they give the same choice.
+-- If two assignments of words agree on the words that are stored, the rule makes the same choice for both.
 module _ (m : Flight) (at : Places) (v w : Word → ℕ) (same : (x : Word) → IsStored m x → v x ≡ w x) where
   order_same : (backwards : Bool) (place : ℕ) → next_in_order m at v backwards place ≡ next_in_order m at w backwards place
   order_same backwards place =
@@ -85,7 +85,7 @@ ruled_by m rule chooser later events events2 at at2 words words2 e ruled is afte
 flown_same : (core core2 : CoreParts) → core2.spec ≡ core.spec → core2.script ≡ core.script → core_flight core ≡ core_flight core2
 flown_same core core2 spec script = ap (λ (spec : Parts). flight_of spec core.script) (sym spec) ∙ ap (λ (script : ScriptParts). flight_of core2.spec script) (sym script)
 
--- If the rule chooses the next event of a core, the history of the next core is chosen by the rule.
+-- If the rule chooses an event of a core, the history of the core after the event is chosen by the rule.
 pub ruled_on : (core core2 : CoreParts) (rule : Rule) (chooser later : Chooser) (e : Event) → IsRuledTo (core_flight core) rule chooser core.history (core_places core) (core_words core)
     → core2.spec ≡ core.spec → core2.script ≡ core.script
     → Some e ≡ option_map (λ found. found.1) (chosen (core_flight core) (core_places core) (core_words core) chooser)

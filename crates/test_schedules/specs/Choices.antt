@@ -25,7 +25,7 @@ next_in_order m at words backwards place =
     if nat_eq place m.procs then next_kernel m at words
     else next_of m at words (if backwards then m.procs - 1 - place else place)
 
--- The place with the next event of its actor, or else `rest`, the result for the places after it.
+-- The place and its event, or `rest` if the event is `None`. `rest` is the result for the places after `place`.
 abbrev pub found_at : ℕ → Option Event → Option (ℕ × Event) → Option (ℕ × Event)
 found_at place None rest = rest
 found_at place (Some event) rest = Some (place, event)
@@ -42,12 +42,12 @@ either_found None other = other
 either_found (Some found) other = Some found
 
 -- The first place whose actor has a next event, with the event, or `None` if there is none. The places from `begin`
--- up to that of the kernel come first, and then the places before `begin`.
+-- up to the kernel's place come first, and then the places before `begin`.
 abbrev pub first_from : (ℕ → Option Event) → ℕ → ℕ → Option (ℕ × Event)
 first_from next procs begin = either_found (first_in next begin (procs + 1 - begin)) (first_in next 0 begin)
 
--- The place after the given place of the last event's actor. It is the first place if that actor is the kernel, or if
--- there has been no event.
+-- The place that follows the given place of the last event's actor. It is the first place if that actor is the
+-- kernel, or if there has been no event.
 abbrev pub place_in_turn : ℕ → Option ℕ → ℕ
 place_in_turn procs None = 0
 place_in_turn procs (Some place) = if nat_lt place procs then suc place else 0

@@ -14,8 +14,8 @@ use scram_types::ProcId;
 /// A rule that chooses the actor of the next event. Actors without a next event are skipped.
 #[derive(Clone, Copy, Debug)]
 pub enum Rule {
-    /// The actor after that of the last event, in the order of the processors and then the kernel. After the kernel,
-    /// the first processor follows.
+    /// The first actor that has a next event, from the actor after that of the last event on. The order has the
+    /// processors and then the kernel, and begins again after the kernel.
     InTurns,
     /// The first processor that has a next event, or the kernel if none has one.
     LeastFirst,
@@ -23,7 +23,8 @@ pub enum Rule {
     GreatestFirst,
     /// The kernel, or the first processor that has a next event if the kernel has none.
     KernelFirst,
-    /// The actor whose place is a random number from a generator with this seed.
+    /// The first actor that has a next event, from a random place on. The random numbers are from a generator with
+    /// this seed.
     Seeded(u64),
 }
 
@@ -101,8 +102,8 @@ fn seed_of(rule: Rule) -> u64
     }
 }
 
-// Returns the place after the given place of the last event's actor. It is the first place if that actor is the
-// kernel, or if there has been no event.
+// Returns the place that follows the place `last` of the last event's actor. It is the first place if that actor is
+// the kernel, or if there has been no event.
 fn place_in_turn(procs: usize, last: Option<usize>) -> usize
     requires { procs ≤ 8 }
     ensures place { result ≡ place_in_turn procs last }
@@ -145,7 +146,7 @@ fn next_in_order(core: &Core, procs: usize, backwards: bool, place: usize) -> Op
 }
 
 // Returns the first place whose actor has a next event, with the event, or `None` if there is none. The places from
-// `begin` on come first, and then the places before it.
+// `begin` on come first, and then the places before `begin`.
 fn first_from(core: &Core, procs: usize, backwards: bool, begin: usize) -> Option<(usize, Event)>
     requires procs { procs ≡ length core.now.spec.procs }
     requires few { procs ≤ 8 }

@@ -12,9 +12,9 @@ use std::rt::HostRuntime;
 use test_kit::{fly_frames, is_same, line_after, number_after};
 use trace_props::props;
 
-/// The results of the flights of a row: the number of flights, of those whose result differs from that of one thread,
-/// of those that are not judged `Ok`, and of those whose result differs from that of the first flight. The last two
-/// fields are of the first flight: its number of events and its result.
+/// The results of the flights of a row. `flights` is the number of flights. `other` counts the flights whose result
+/// differs from that of one thread, `broken` those that are not judged `Ok`, and `unlike` those whose result differs
+/// from that of the first flight. `events` and `first` are the number of events and the result of the first flight.
 #[derive(Drop)]
 struct Compared {
     flights: u32,

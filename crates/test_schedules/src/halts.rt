@@ -24,8 +24,8 @@ pub(crate) struct Halts {
 }
 
 impl Halts {
-    /// Returns the halts of a row. A number that the row does not give is 1. Returns an error if a text is not a
-    /// number, or if the number of frames or steps is 0.
+    /// Returns the halts of a row, which gives the numbers of processors, frames and steps. A number that is missing
+    /// is 1. Returns an error if a text is not a number, or if the number of frames or steps is 0.
     pub(crate) fn of_row(row: &str) -> io::Result<Halts> {
         let procs = number_after(row, "processors ", 1)?;
         let frames = number_after(row, "frames ", 1)?;
@@ -47,8 +47,8 @@ impl Halts {
             .saturating_mul(self.steps)
     }
 
-    /// Returns the halt of a number below the number of halts. From number to number the step varies fastest, then
-    /// the frame, and then the processor.
+    /// Returns the halt with a number, counted from 0. From one number to the next, the step varies fastest, then the
+    /// frame, and then the processor.
     pub(crate) fn halt(&self, number: u32) -> Halt {
         let frames = number / self.steps;
         Halt {

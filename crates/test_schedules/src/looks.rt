@@ -92,7 +92,8 @@ fn print_answer(
     }
 }
 
-/// Prints the image of the first processor that the second processor has read, or that it has not looked yet.
+/// Prints the image of the first processor as the second processor has read it, or prints that the second processor
+/// has not looked yet.
 fn print_seen(rt: &HostRuntime, spec: &Spec, core: &Core) -> io::Result<()> {
     let Some(Event::Store(p, _)) = core.next_of(ProcId(1)) else {
         return println!(rt; "has not looked");

@@ -4,7 +4,7 @@
 //! are:
 //!
 //! - `= SCRIPT`: The script of the row. It is flown with each halt of the row: the numbers of the halt replace
-//!   `PROC`, `FRAME` and `STEP`, and the frame two after that of the halt replaces `RESTART`.
+//!   `PROC`, `FRAME` and `STEP`, and the frame of the halt plus 2 replaces `RESTART`.
 //! - `processors N`, `frames N`, `steps N`: The row has a halt for each processor, frame and step below these
 //!   numbers. A missing number is 1.
 //! - `by RULE ..`: Flies the script with each halt to its end by each rule. Each result is judged, and compared with

@@ -1,5 +1,5 @@
 //! Flights of a core by a rule, with live processors whose racks have no boxes. With any rule, a flight to the end
-//! gives a core of the specification and the script that is over.
+//! returns a core whose flight of the specification and the script is over.
 
 ghost use Rattle.std.specs.Prelude.{◌≡◌, ◌<◌, ◌≤◌, ◌⊎◌, ◌++◌, [], ◌∷◌, IfOk, length};
 ghost use Rattle.event_core.specs.Cores.{HappensIn, IsNextIn, IsWordIn, core_places, core_words, core_flight};
@@ -115,7 +115,7 @@ fn fly_events<'a>(
     core
 }
 
-// Makes an event that is next for its actor. If it is a store, the actor gives the word.
+// Makes an event, which must be the next event of its actor. If the event is a store, its word is that of the actor.
 fn make(core: &mut Core, spec: &Spec, flyers: &mut Flyers, event: Event)
     requires spec { core.old.spec ≡ spec.now }
     requires next { IsNextIn core.old event }
@@ -131,7 +131,7 @@ fn make(core: &mut Core, spec: &Spec, flyers: &mut Flyers, event: Event)
     step(core, event, word);
 }
 
-// Makes an event that is next for its actor, with the given word.
+// Makes an event with the given word. The event must be the next event of its actor.
 fn step(core: &mut Core, event: Event, word: u64)
     requires next { IsNextIn core.old event }
     requires word { IsWordIn core.old event word }

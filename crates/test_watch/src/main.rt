@@ -1,8 +1,15 @@
-//! A test of the telemetry of flights. A row of `rows.txt` has a title and lines. `note COUNT` publishes the first
-//! `COUNT` rows of a mission of `uav`, whose script follows `= `. It prints the summaries that two readers see, one
-//! noted before the rows are published and one noted after. `fly NUMBER` flies the mission generated from `NUMBER`
-//! while two readers read, and compares each summary that they see with that of the flight on one thread. The number of
-//! different summaries that they see depends on the machine, so it is printed to standard error.
+//! A test of the telemetry of flights.
+//!
+//! The rows of `rows.txt` are separated by blank lines. The first line of a row has one of these forms:
+//!
+//! - `note COUNT`: Publishes the first `COUNT` rows of a mission of `uav`, whose script is in the line `= SCRIPT`.
+//!   Prints the summaries that two readers see: one is noted before the rows are published, and the other one after
+//!   them.
+//! - `fly NUMBER`: Flies the mission generated from `NUMBER` while two readers read. Compares each summary that they
+//!   see with that of the flight on one thread.
+//!
+//! The number of different summaries that the readers see depends on the machine. Therefore, it is printed to
+//! standard error.
 #![tactic(auto)]
 
 mod notes;

@@ -43,7 +43,7 @@ fn note_rows(rt: &HostRuntime, count: u32, mission: &Mission, rows: &[Row]) -> i
     print_summaries(rt, before, tap.read(&mut reader))
 }
 
-/// Prints the summary that the first reader read, if there is a reader, and the summary that a note holds.
+/// Prints the summary that the first reader read, if there is a reader, and the summary `note`.
 fn print_summaries(rt: &HostRuntime, before: Option<Summary>, note: Summary) -> io::Result<()> {
     if let Some(before) = before {
         print_summary(rt, "before", &before)?;
@@ -51,7 +51,7 @@ fn print_summaries(rt: &HostRuntime, before: Option<Summary>, note: Summary) -> 
     print_summary(rt, "note", &note)
 }
 
-/// Hands the first `count` rows to a watch that has taken none. If there are fewer rows, hands all of them.
+/// Hands the first `count` rows, or all rows if there are fewer, to a watch. The watch must have taken no row before.
 fn hand_rows<W: Watch>(rows: &[Row], count: u32, watch: &mut W)
     requires rows { rows.now ≡ rows_of (W.watched watch.old).spec (W.watched watch.old).script }
     requires taken { W.taken watch.old ≡ 0 }

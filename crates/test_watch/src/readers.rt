@@ -23,8 +23,9 @@ use word_deck::WordFlight;
 /// for long.
 const MAX_READS: u32 = 10_000_000;
 
-/// The result of a reader. It says whether each summary was that of the flight on one thread and none was older than
-/// the preceding one. It also has the number of different summaries, and the number of frames of the last one.
+/// The result of a reader. `right` is `true` if each summary was that of the flight on one thread, and no summary was
+/// older than the preceding one. `different` is the number of different summaries, and `frames` is the number of
+/// frames of the last summary.
 #[derive(Clone, Copy, Debug)]
 struct Seen {
     right: bool,
@@ -151,7 +152,7 @@ fn read_flight<'a, R: AllocGlobal + Threads + Wait + Sync>(
     }
 }
 
-/// Prints whether a flight is that on one thread, and the results of its readers.
+/// Prints whether a flight equals that on one thread, and the results of the readers of the flight.
 fn print_watched(rt: &HostRuntime, watched: &Watched, flown: &Flown) -> io::Result<()> {
     println!(rt; "as on one thread: {}", is_same(&watched.flown, flown))?;
     print_seen(rt, "one", watched.one)?;
@@ -228,7 +229,7 @@ fn read_beside<'a, W: Watch, R: Threads + Wait + Sync>(
     )
 }
 
-/// Reads until the summary of all frames is seen, or gives up after [`MAX_READS`] reads.
+/// Reads until the summary of all frames is read, or gives up after [`MAX_READS`] reads.
 fn read_on(tap: &Tap, mut reader: Reader, summaries: &[Summary]) -> Seen
     requires { IsReaderOf tap.now reader }
 {
@@ -261,7 +262,7 @@ impl Seen {
     }
 }
 
-/// Returns whether a summary equals the entry of a list at the index of the summary's number of frames.
+/// Returns `true` if a summary equals the entry of a list at the index of the summary's number of frames.
 fn is_listed(summary: &Summary, summaries: &[Summary]) -> bool {
     match summaries.get(summary.frames as usize) {
         Some(listed) => *listed == *summary,

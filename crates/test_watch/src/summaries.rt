@@ -13,7 +13,7 @@ use telemetry_tap::Summary;
 ///
 /// # Errors
 ///
-/// Out of memory.
+/// Returns an error if memory runs out.
 pub fn list_summaries(alloc: Global, mission: &Mission, flown: &Flown) -> io::Result<Vec<Summary>> {
     let mut summaries = Vec::new(alloc);
     summaries.push(Summary {

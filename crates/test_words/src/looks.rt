@@ -1,4 +1,4 @@
-//! The images that a processor reads at the begin of its frame.
+//! The images that a processor reads at the beginning of a frame.
 
 ghost use Rattle.std.specs.Prelude.{◌≡◌, ◌<◌, length};
 ghost use Rattle.word_table.specs.Actors.{steps_of};

@@ -9,8 +9,8 @@
 //! - `turns WHO ..`: Then, makes these turns once, and prints the result of each.
 //! - `order WHO ..`: Then, makes these turns again and again until all actors have finished, and compares the rows
 //!   with those of one thread.
-//! - `look`: At the end, the second processor starts its next frame and looks at the first one, and what it finds is
-//!   printed. Without this line, the table is closed and the marks are printed.
+//! - `look`: At the end, the second processor starts its next frame and reads the image of the first processor. The
+//!   areas in the image are printed. Without this line, the table is closed and the marks are printed.
 //! - `steps N`: Does all of this for each step below `N`. The step replaces `STEP` in the script.
 //! - `on FILE`: The file of the specification, instead of `uav`.
 #![tactic(auto)]

@@ -49,7 +49,7 @@ pub fn repeat_turns(
 }
 
 /// Makes rounds of turns of the named actors until each turn of a round returns `Finished`, and returns the number of
-/// rounds.
+/// rounds. Returns an error if this takes more than `ROUNDS` rounds.
 pub fn fly_rounds(
     mission: &Mission,
     words: &WordTable,

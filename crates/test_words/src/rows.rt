@@ -92,7 +92,7 @@ fn fly_actors(
     fly_asked(rt, mission, words, actors, row)
 }
 
-// Makes the turns of the line `rounds N WHO ..`, if the row has it.
+// Makes the turns of the line `rounds N WHO ..`, if the row has this line.
 fn repeat_asked(
     mission: &Mission,
     words: &WordTable,
@@ -108,7 +108,7 @@ fn repeat_asked(
     }
 }
 
-// Makes the turns of the line `turns WHO ..` and prints their results, if the row has it.
+// Makes the turns of the line `turns WHO ..` and prints their results, if the row has this line.
 fn print_asked(
     rt: &HostRuntime,
     mission: &Mission,
@@ -126,7 +126,7 @@ fn print_asked(
 }
 
 // Makes the turns of the line `order WHO ..` to the end of the flight and compares the rows with those of one thread,
-// if the row has it.
+// if the row has this line.
 fn fly_asked(
     rt: &HostRuntime,
     mission: &Mission,

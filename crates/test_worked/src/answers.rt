@@ -50,7 +50,7 @@ pub fn answer_counted<R: AllocGlobal + Threads + Wait + Sync>(
     call(threads, words, outside, racks, spares)
 }
 
-/// Returns the sink of a row, with the room and the failing calls that the row gives.
+/// Returns the sink of a row. Its room and the puts that fail are those that the row names.
 pub fn make_sink(rt: &HostRuntime, row: &str) -> io::Result<MemSink> {
     let failing = numbers(rt.alloc(), row, "! put ")?;
     let rooms = numbers(rt.alloc(), row, "! room ")?;
@@ -106,7 +106,7 @@ pub fn print_answer(rt: &HostRuntime, bytes: &[u8], frames: &str) -> io::Result<
     Ok(())
 }
 
-/// Returns whether a line is to be printed. `before` says whether the preceding line is.
+/// Returns `true` if a line is to be printed. `before` is `true` if the preceding line is printed.
 fn is_line_wanted(line: &str, frames: &str, before: bool) -> bool {
     match line.split_once(' ') {
         Some(("frame", rest)) => is_frame_wanted(rest, frames),

@@ -1,10 +1,16 @@
-//! The files of a row. The first is a file of the data folder, changed as each line `~ PIECE => OTHER PIECE` says. The
-//! second has the lines after `= `, and is missing if no line begins with `=`. The third has the lines after `- `, and
-//! is missing if no line begins with `-`. `! read N` and `! put N` name a call that fails, counted from 0, and `! room
-//! N` the number of bytes for which the sink has room. If a put is named, the number of lines that were written is
-//! printed. `! first N` and `! second N` extend a file to `N` bytes, with spaces at its end. `! plain N` gives
-//! processor `N` the autopilot that does not remember its last call. `! counted` gives each processor boxes that count
-//! their calls, and the counts are printed. The boxes of the first two processors wait for one another.
+//! The files of a row, and the lines of the row that determine the files, the sink and the boxes:
+//!
+//! - The first file is in the data folder. Each line `~ PIECE => OTHER` replaces the first occurrence of `PIECE` in
+//!   the file by `OTHER`.
+//! - The second file has the lines of the row that begin with `= `. It is missing if no line begins with `=`.
+//! - The third file has the lines of the row that begin with `- `. It is missing if no line begins with `-`.
+//! - `! read N` and `! put N`: A read or a put that fails, counted from 0. If a put fails, the number of lines that
+//!   were written is printed.
+//! - `! room N`: The number of bytes for which the sink has room.
+//! - `! first N` and `! second N`: Extend the first or the second file to `N` bytes, with spaces at its end.
+//! - `! plain N`: Gives processor `N` the autopilot that does not remember its last call.
+//! - `! counted`: Gives each processor boxes that count their calls, and prints the counts. The boxes of the first
+//!   two processors wait for one another.
 
 use scram_io::MemFiles;
 use std::alloc::Global;
@@ -44,12 +50,12 @@ pub fn make_files(rt: &HostRuntime, words: &[String], row: &str) -> io::Result<M
     Ok(MemFiles::new(entries, numbers(rt.alloc(), row, "! read ")?))
 }
 
-/// Returns whether a row asks for boxes that count their calls.
+/// Returns `true` if a row asks for boxes that count their calls.
 pub fn is_counted(row: &str) -> bool {
     row.split('\n').any(|line| line == "! counted")
 }
 
-/// Returns whether a row names a put that fails.
+/// Returns `true` if a row names a put that fails.
 pub fn is_put_failing(row: &str) -> bool {
     row.split('\n').any(|line| line.starts_with("! put "))
 }
@@ -65,8 +71,8 @@ pub fn numbers(alloc: Global, row: &str, words: &str) -> io::Result<Vec<u32>> {
     Ok(numbers)
 }
 
-/// Returns the text, with spaces appended up to the number of bytes in the row's line that begins with `words`, if
-/// there is one.
+/// Returns the text, padded with spaces to the number of bytes in the line of the row that begins with `words`.
+/// Returns the text itself if there is no such line.
 fn pad(alloc: Global, text: String, row: &str, words: &str) -> io::Result<String> {
     match numbers(alloc, row, words)?.first() {
         Some(length) => {
@@ -78,8 +84,8 @@ fn pad(alloc: Global, text: String, row: &str, words: &str) -> io::Result<String
     }
 }
 
-/// Returns the file of the lines of a row that begin with a mark, each without the mark and the space after it. A line
-/// that is only the mark adds no line to the file, but makes the file exist.
+/// Returns the text of the lines of a row that begin with a mark, each without the mark and the space after it.
+/// Returns `None` if there is no such line. A line that is only the mark adds no text.
 fn listed_file(alloc: Global, row: &str, mark: &str) -> io::Result<Option<String>> {
     let mut file = None;
     for line in row.split('\n') {

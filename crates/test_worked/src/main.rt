@@ -1,9 +1,13 @@
-//! A test of worked rows. The title of each row in `rows.txt` is given to the command as its words, with the row's
-//! files, of which some pieces are changed. The program prints the answer of the command. Of a flight's frames, it
-//! prints only those named after `: `. The expected output follows from the rules, worked out by hand, with four
-//! exceptions. The lines of `fly` were computed by another program. The missions of `gen` are printed by
-//! `bench/generate`, and the flights and bounds of `vtol` by `bench/flights`. The other traces that are judged were
-//! printed by this command.
+//! A test of worked rows. The rows of `rows.txt` are separated by blank lines. The title of a row has the words of
+//! the command, and its other lines determine the files that the words name. The program prints the answer of the
+//! command. Of a flight's frames, it prints only those whose numbers follow `: `.
+//!
+//! The expected output is worked out by hand from the rules, with four exceptions:
+//!
+//! - The lines of `fly` were computed by another program.
+//! - The missions of `gen` are printed by `bench/generate`.
+//! - The flights and bounds of `vtol` are printed by `bench/flights`.
+//! - The other traces that are judged were printed by this command.
 #![tactic(auto)]
 
 mod answers;
