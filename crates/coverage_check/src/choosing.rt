@@ -61,8 +61,8 @@ fn refuse_requirement_of(
     }
 }
 
-/// Returns the first environment in scope in which a requirement is not met, taken from a cover, or `None` if the
-/// requirement is met.
+/// Returns the first environment in scope in which the configuration of `cover` does not meet `requirement`, or `None`
+/// if it meets the requirement in each environment in scope.
 pub fn unmet_of_cover(cover: &Cover, requirement: Requirement) -> Option<Env>
     ensures { result ≡ unmet_of_cover cover.now requirement }
 {

@@ -53,7 +53,8 @@ upto_before spec script e (suc f) before = elim (at_or_below e f before) [
   | inr last ↦ rw last (omega arith)
 ]
 
--- Lemmas on the tests of all frames of a script.
+-- Lemmas on the search for the first frame that leaves the failure assumption. The script is within the assumption if
+-- and only if there is no such frame.
 
 outside_none : (o : Option Outside) → is_some o ≡ false → o ≡ None
 outside_none None e = refl

@@ -18,8 +18,8 @@ pub struct Task {
     pub proc: Option<ProcId>,
 }
 
-/// Returns the task of an application in a frame of the kernel's mode. In a stable mode, the applications of the
-/// configuration run. In a moving mode, a configuration halts first, if any, and each application runs until its halt
+/// Returns the task of an application in a frame, given the kernel's mode in that frame. In a stable mode, the
+/// applications of the configuration run. In a moving mode, a configuration halts first, if any, and each application runs until its halt
 /// offset. Then the target prepares, and then it initialises, each application from its init offset on. At last the
 /// target runs. An application that has nothing to do in a phase holds.
 pub fn order_of(spec: &Spec, mode: &KMode, frame: u32, app: AppId) -> Task
@@ -29,7 +29,8 @@ pub fn order_of(spec: &Spec, mode: &KMode, frame: u32, app: AppId) -> Task
     task_in(spec, &stage_at(spec, mode, frame), app)
 }
 
-/// Returns the task of each application in a frame of the kernel's mode. The phase is determined only once.
+/// Returns the task of each application in a frame, given the kernel's mode in that frame. Determines the phase once
+/// for all applications.
 pub fn tasks_of(spec: &Spec, mode: &KMode, frame: u32) -> [Task; 8]
     ensures { result ≡ eight (task_of spec.now mode.now frame) }
 {

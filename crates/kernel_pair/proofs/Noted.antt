@@ -62,7 +62,8 @@ module _ (m : Flight) (halt : Option UnitHalt) (s : Pair) where
       with_same m s v (released (s.unit v)) (none_noted m.procs (suc (s.unit v).frame) some ∙ sym (all_noted m.procs (s.unit v).step (s.unit v).frame (omega (arith, at)))) u
   noted_same some (Stop v) next i u = with_same m s v (halted_unit (halt_frame halt) (s.unit v)) refl u
 
-  -- A unit whose next event is a note is in a frame of the flight and has not noted every processor.
+  -- What holds of a unit whose next event is a note: the unit is in a frame of the flight, and it has not yet noted
+  -- all processors in that frame.
   pub record Noting (u : ℕ) : Type 0 where
     pub low : (s.unit u).step < m.procs
     pub below : (s.unit u).frame < m.frames

@@ -23,8 +23,8 @@ use Rattle.mission_gen.specs.Changes.{changes_by, changes_of, frames_of, generat
 use Rattle.mission_gen.specs.Turns.{Turn, turn, turns_in, turns_to}
 use Rattle.mission_gen.proofs.Fitting.{HasCounts}
 
--- The environment may change in two frames of a block. In block 5 the environment may change only in the frame after
--- the halt.
+-- The events of a mission: the frames in which its environment may change. Each block has two. The second event of
+-- block 5 is the frame after the halt, and the halt comes in the frame of the first.
 
 abbrev first_event : ℕ → ℕ → ℕ
 first_event n k = first_frame k (random n k)

@@ -9,7 +9,7 @@ use Rattle.frame_model.specs.declared.systems.Sys.{Sys}
 use Rattle.frame_model.specs.Frames.{state_of, sys_of}
 use Rattle.frame_model.specs.States.{State, has_arrived, mode_decided}
 
--- The kernel image of the next frame of a system in an environment.
+-- The kernel image of the frame that a system is about to fly, given the environment of that frame.
 abbrev pub image_given : Parts → Sys → Env → KernelImage
 image_given spec sys v = record {
   frame = sys.frame;

@@ -8,7 +8,7 @@ use bank_words::KernelImage;
 use frame_model::{Sys, decide, has_arrived, phase_at};
 use scram_types::{Env, ProcId, Row, Spec};
 
-/// Returns the kernel image of the next frame of a system in an environment.
+/// Returns the kernel image of the frame that a system is about to fly, given the environment of that frame.
 pub(crate) fn image_given(spec: &Spec, sys: &Sys, env: Env) -> KernelImage
     ensures { result ≡ image_given spec.now sys.now env }
 {

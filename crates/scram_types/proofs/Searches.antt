@@ -164,7 +164,8 @@ told_by : {A : Type 0} (answer : ℕ → Option A) (n : ℕ) (x : A) (o : Option
 told_by answer n x (Some y) is told before = let found = before (is ∙ told) in (found.0, omega arith, found.2, found.3)
 told_by answer n x None is told before = (n, omega arith, is, told)
 
--- If the first value is `x`, `answer` has the value `x` at some number below `n`, and `None` at each lower number.
+-- If `x` is the first value of `answer` below `n`, `answer` has the value `x` at some number `k` below `n`, and is
+-- `None` at each number below `k`.
 pub first_told : {A : Type 0} (answer : ℕ → Option A) (n : ℕ) (x : A) → first_below answer n ≡ Some x → (k : ℕ) × (k < n) × (first_below answer k ≡ None) × (answer k ≡ Some x)
 first_told answer zero x e = some_none x (sym e)
 first_told answer (suc n) x e = told_by answer n x (first_below answer n) refl e (first_told answer n x)

@@ -7,7 +7,7 @@ use Rattle.std.specs.Char.{is_ascii_lowercase, is_ascii_digit}
 abbrev pub is_name_byte : ℕ → Bool
 is_name_byte b = is_ascii_lowercase b || is_ascii_digit b || b == 95
 
--- The text is a name: 1 to 16 bytes that begin with a lower-case letter.
+-- Whether the text is a name: a lower-case letter, followed by at most 15 bytes that each satisfy `is_name_byte`.
 abbrev pub is_name : List ℕ → Bool
 is_name [] = false
 is_name (first ∷ rest) = is_ascii_lowercase first && list_all is_name_byte rest && nat_le (length (first ∷ rest)) 16

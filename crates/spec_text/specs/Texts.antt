@@ -120,7 +120,7 @@ source_name confs (Some c) = name_of_item name_of_conf confs c.0
 abbrev pub name_of_value : List Factor → ℕ → ℕ → List ℕ
 name_of_value factors f value = option_map_or (λ (factor : Factor). name_of_item itself factor.values value) (slice_get factors f) []
 
--- The canonical value of a factor's value that a rule requires.
+-- The canonical value of a rule's requirement that a factor has a certain value.
 abbrev pub want_data : List Factor → Want → Data
 want_data factors want = object (
     member (codes "factor") (string (name_of_item name_of_factor factors want.factor.0)) (

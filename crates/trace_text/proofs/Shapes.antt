@@ -1,4 +1,5 @@
--- The text of a line is the words of the line, separated by single spaces, and a line feed.
+-- Lemmas that the text of each line of a trace is the words of the line, separated by single spaces and followed by a
+-- line feed.
 use Rattle.std.proofs.Common.{ℕ, ℤ, ◌≡◌, ◌∙◌, List, [], ◌∷◌, ◌++◌, append_assoc, append-nil, refl, sym, ap, map}
 use Rattle.std.specs.Prelude.{codes}
 use Rattle.std.specs.Fmt.{signed_decimal}

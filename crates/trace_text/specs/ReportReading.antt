@@ -39,8 +39,8 @@ report_end words from to end given =
     Ok (record { from = from; to = to; begin = begin; end = end })
     else Err WRONG_COUNT)))
 
--- The result of reading the words of a reconfiguration that ended. The words have the target, the end, and the bound
--- from the source to the target.
+-- The result of reading the words of a reconfiguration that ended. The words must name a source and a target, and
+-- spell the end. The bound must be that of the specification from the source to the target.
 abbrev pub finished_report : Parts → List (List ℕ) → Result Report ℕ
 finished_report spec words =
     or_rule UNKNOWN_NAME (conf_named spec (word_at words 1)) (λ (from : ConfId).

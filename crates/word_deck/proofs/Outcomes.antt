@@ -1,4 +1,5 @@
--- The result of a flight is the one-thread trace, and the seats in the result are at their last places.
+-- Lemmas on the trace that a flight returns, and on the seats of the kernel and the processors before and after a
+-- flight.
 use Rattle.std.proofs.Common.{◌≡◌, ◌∙◌, ◌<◌, ◌≤◌, ap, arith, sym, subst, List, length}
 use Rattle.std.specs.Prelude.{Some}
 use Rattle.std.proofs.lemmas.Option.{slice_get_within}

@@ -64,11 +64,11 @@ impl<'a> KernelCrew<'a> {
         self.kernel.rows()
     }
 
-    /// Tries to make the next steps of the kernel. Notes, in order, the processors that are done with the kernel's
-    /// frame or have halted. Once all are noted, ends the frame. If there is a next frame, publishes and releases
-    /// that frame. Returns `NotYet` only if the end word that the call loads does not allow the next note. Returns
-    /// `Finished` if and only if the kernel has then made its last note, or no frame is flown. This method does not
-    /// block.
+    /// Tries to make the next steps of the kernel. Notes the processors of the kernel's frame in order, up to the
+    /// first one that is neither done with the frame nor halted. Once all are noted, ends the frame, and publishes and
+    /// releases the next frame if there is one. Returns `Finished` if and only if the kernel has then made its last
+    /// note, or no frame is flown. Otherwise returns `NotYet` if this call noted no processor, and `Worked` if it
+    /// noted some. This method does not block.
     #[tactic(auto, using(crate::proofs::Noting::below, crate::proofs::Noting::all))]
     pub fn turn(&mut self, words: &WordTable) -> Turn
         requires mission { mission_in words.now ≡ self.old.mission.now }

@@ -57,8 +57,8 @@ pub struct Landed<'a> {
 impl<'a> WordFlight<'a> {
     /// Creates a flight of a mission. All memory of the flight is allocated here. The only error is that memory runs
     /// out.
-    // No clause depends on the precondition, which each `Boxes` meets. A function that returns boxes without any
-    // precondition counts as one that may make them.
+    // No clause uses this precondition, and every `Boxes` satisfies it. Without it, Rattle reports this function, whose
+    // result contains boxes, under `hides`, as one that may create boxes.
     #[tactic(auto, using(crate::proofs::Outcomes::at_table))]
     pub fn open(
         alloc: Global,
