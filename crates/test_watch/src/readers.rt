@@ -128,7 +128,7 @@ fn read_flight<'a, R: AllocGlobal + Threads + Wait + Sync>(
     summaries: &[Summary],
     flight: WordFlight<'a>,
 ) -> io::Result<Watched>
-    requires { flight.mission ≡ mission.entry }
+    requires { flight.mission.now ≡ mission.now }
 {
     match Tap::open(threads.alloc(), mission, 2) {
         Ok((tap, writer, mut readers)) => {
