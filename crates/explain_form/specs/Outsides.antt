@@ -22,8 +22,8 @@ is_change_told spec script last f = is_in_window spec last f && is_change_frame 
 abbrev pub frame_text : ℕ → List ℕ
 frame_text f = codes " " ++ decimal f
 
--- The number of frame `f`, preceded by a space, or the empty text if `f` is not a change frame of the window that
--- ends with frame `last`.
+-- The number of frame `f`, preceded by a space, if `f` is a change frame at or after the start of the window that ends
+-- with frame `last`, and the empty text otherwise.
 abbrev pub change_frame_text : Parts → ScriptParts → ℕ → ℕ → List ℕ
 change_frame_text spec script last f = if is_change_told spec script last f then frame_text f else []
 

@@ -1,5 +1,5 @@
--- A drawn row, computed. After frame 4, processor 0 has committed that frame, in bank 1, and processor 1 has
--- committed frame 2 last.
+-- Worked examples of `has_committed`, `area_from` and `keeper_on`. After frame 4, processor 0 has committed that frame,
+-- in bank 1, and processor 1 has committed frame 2 last.
 use Rattle.std.proofs.Common.{◌≡◌, ℕ, refl, true, false, List, [], ◌∷◌}
 use Rattle.std.specs.Prelude.{ℤ, pos, Some, None}
 use Rattle.scram_types.specs.Lookups.{proc_id}

@@ -1,4 +1,5 @@
--- Lemmas on the marks and images that the kernel has noted, and on its place between turns.
+-- Lemmas on the marks and images that the kernel notes, on the number of frames in which it has noted all processors,
+-- and on the kernel's words that it publishes.
 use Rattle.std.proofs.Common.{◌≡◌, ◌≢◌, ◌∙◌, ◌⊎◌, ℕ, suc, ◌+◌, ◌<◌, ℤ, ap, sym, refl, inl, inr, arith, true, false, List, [], length}
 use Rattle.std.specs.Prelude.{nat_lt, slice_index_or, slice_set}
 use Rattle.std.proofs.lemmas.Bool.Decides.{nat_tests}
