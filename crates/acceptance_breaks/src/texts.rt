@@ -5,7 +5,7 @@ ghost use Rattle.choice_table.specs.Environments.{IsEnv};
 ghost use Rattle.scram_types.specs.Specification.{Each, IsSpec};
 ghost use Rattle.acceptance_breaks.specs.declared.texts.TheConstants.{MAX_BREAK_LINES};
 ghost use Rattle.acceptance_breaks.specs.Lines.{break_line, demand_line, lacking_line, start_line, unmet_line};
-ghost use Rattle.condition_breaks.specs.Shown.{HasEnvOf};
+ghost use Rattle.condition_breaks.specs.Shown.{AnyEnvIsOf};
 ghost use Rattle.acceptance_breaks.specs.Texts.{breaks_text, lines_text, more_text, shown_breaks_text};
 
 use crate::choice_lines::{make_end, make_situation_piece, make_unmet_piece};
@@ -43,7 +43,7 @@ pub fn make_breaks(alloc: Global, spec: &Spec, condition: u8) -> Result<Vec<u8>,
 
 fn make_text(alloc: Global, spec: &Spec, found: &[Break]) -> Result<Vec<u8>, NoMemory>
     requires known { IsSpec spec.now }
-    requires shown { Each (HasEnvOf spec.now) found.now }
+    requires shown { Each (AnyEnvIsOf spec.now) found.now }
     ensures { IfOk result (λ text. text.items ≡ shown_breaks_text spec.now found.now) }
 {
     let mut text = Vec::new(alloc);
@@ -61,7 +61,7 @@ fn first_of(found: &[Break]) -> &[Break]
 
 fn add_lines(text: &mut Vec<u8>, spec: &Spec, found: &[Break]) -> Result<(), NoMemory>
     requires known { IsSpec spec.now }
-    requires shown { Each (HasEnvOf spec.now) found.now }
+    requires shown { Each (AnyEnvIsOf spec.now) found.now }
     ensures { OnOk result (text.new.items ≡ text.old.items ++ lines_text spec.now found.now) }
 {
     for broken in found {
@@ -72,7 +72,7 @@ fn add_lines(text: &mut Vec<u8>, spec: &Spec, found: &[Break]) -> Result<(), NoM
 
 fn add_line(text: &mut Vec<u8>, spec: &Spec, broken: &Break) -> Result<(), NoMemory>
     requires known { IsSpec spec.now }
-    requires shown { HasEnvOf spec.now broken.now }
+    requires shown { AnyEnvIsOf spec.now broken.now }
     ensures { OnOk result (text.new.items ≡ text.old.items ++ break_line spec.now broken.now) }
 {
     match broken {

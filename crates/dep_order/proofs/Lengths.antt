@@ -12,7 +12,7 @@ use Rattle.scram_types.proofs.Searches.{greatest_same}
 use Rattle.dep_order.specs.declared.timetables.Phase.{Phase}
 use Rattle.dep_order.specs.declared.timetables.Times.{Times}
 use Rattle.dep_order.specs.Chains.{Chart}
-use Rattle.dep_order.specs.Timetables.{Holds, goes_before, offset_where_on, phase_length, timed_chart, where_on}
+use Rattle.dep_order.specs.Timetables.{IsTableOf, goes_before, offset_where_on, phase_length, timed_chart, where_on}
 use Rattle.dep_order.proofs.Charts.{Agree}
 use Rattle.dep_order.proofs.Modes.{IsTimed, timed}
 
@@ -33,7 +33,7 @@ off_zero false n h = not_above n h
 
 -- Lemmas on a phase of a configuration, given lists of its times and offsets.
 module _ (spec : Parts) (known : IsSpec spec) (c : ConfId) (times offsets : List ℕ) (time : ℕ → ℕ)
-    (tests : (a : ℕ) → IsTimed (is_on spec c a) (time a)) (listed : Holds time 8 times) where
+    (tests : (a : ℕ) → IsTimed (is_on spec c a) (time a)) (listed : IsTableOf time 8 times) where
   on_test : (a : ℕ) → a < 8 → is_on spec c a ≡ nat_lt 0 (slice_index times a)
   on_test a less = (tests a).test ∙ ap (nat_lt 0) (sym (listed a less))
 
@@ -51,12 +51,12 @@ module _ (spec : Parts) (known : IsSpec spec) (c : ConfId) (times offsets : List
         time = λ b less. listed b (omega arith) ∙ sym (time b);
       }
 
-  pub kept_is : (value : ℕ → ℕ) → Holds value (length spec.apps) offsets → eight (offset_where_on times offsets) ≡ eight (λ a. where_on spec c a (value a))
+  pub kept_is : (value : ℕ → ℕ) → IsTableOf value (length spec.apps) offsets → eight (offset_where_on times offsets) ≡ eight (λ a. where_on spec c a (value a))
   kept_is value holds = eight_same (offset_where_on times offsets) (λ a. where_on spec c a (value a)) (λ a less.
       ap (λ b. if b then slice_index offsets a else 0) (sym (on_test a less))
       ∙ if_same (is_on spec c a) (slice_index offsets a) (value a) (λ on. holds a ((timed spec known c a).inside on)))
 
-  pub length_is : (value : ℕ → ℕ) → Holds value (length spec.apps) offsets
+  pub length_is : (value : ℕ → ℕ) → IsTableOf value (length spec.apps) offsets
       → phase_length times offsets (length spec.apps) ≡ greatest_below (λ a. where_on spec c a (value a + time a)) (length spec.apps)
   length_is value holds =
       let few = known.apps_count.few in

@@ -105,8 +105,8 @@ abbrev pub offset_where_on : List ℕ → List ℕ → ℕ → ℕ
 offset_where_on times offsets a = if nat_lt 0 (slice_index times a) then slice_index offsets a else 0
 
 -- A list holds a function's values for all arguments below `n`.
-abbrev pub Holds : (ℕ → ℕ) → ℕ → List ℕ → Type 0
-Holds value n xs = (a : ℕ) → a < n → slice_index xs a ≡ value a
+abbrev pub IsTableOf : (ℕ → ℕ) → ℕ → List ℕ → Type 0
+IsTableOf value n xs = (a : ℕ) → a < n → slice_index xs a ≡ value a
 
 -- The first `n` numbers of a list are at most `most`.
 abbrev pub AtMost : ℕ → ℕ → List ℕ → Type 0

@@ -5,7 +5,7 @@ ghost use Rattle.scram_types.specs.Specification.{IsSpec};
 ghost use Rattle.scram_types.specs.Searches.{greatest_below};
 ghost use Rattle.scram_types.specs.Eights.{eight};
 ghost use Rattle.dep_order.specs.Chains.{offset, time_added};
-ghost use Rattle.dep_order.specs.Timetables.{AtMost, Holds, goes_before, is_named, needs, offset_where_on, phase_length, phase_time, timed_chart, timetable};
+ghost use Rattle.dep_order.specs.Timetables.{AtMost, IsTableOf, goes_before, is_named, needs, offset_where_on, phase_length, phase_time, timed_chart, timetable};
 
 use scram_types::{AppId, ConfId, Spec};
 
@@ -55,7 +55,7 @@ pub fn timetable(spec: &Spec, c: ConfId) -> Times
 // chains of one more application.
 fn offsets_in(spec: &Spec, phase: Phase, times: &[u8; 8]) -> [u16; 8]
     requires { AtMost 16 (length spec.now.apps) times.now }
-    ensures offsets { Holds (offset (timed_chart spec.now phase times.now)) (length spec.now.apps) result }
+    ensures offsets { IsTableOf (offset (timed_chart spec.now phase times.now)) (length spec.now.apps) result }
     ensures most { AtMost 128 (length spec.now.apps) result }
 {
     let mut offsets = [0; 8];
@@ -68,7 +68,7 @@ fn offsets_in(spec: &Spec, phase: Phase, times: &[u8; 8]) -> [u16; 8]
 fn offsets_after(spec: &Spec, phase: Phase, times: &[u8; 8], before: &[u16; 8]) -> [u16; 8]
     requires times { AtMost 16 (length spec.now.apps) times.now }
     requires before { AtMost 112 (length spec.now.apps) before.now }
-    ensures { Holds
+    ensures { IsTableOf
         (λ a. greatest_below (time_added (timed_chart spec.now phase times.now) (slice_index before.now) a) (length spec.now.apps))
         (length spec.now.apps) result }
 {
@@ -149,7 +149,7 @@ fn keep_where_on(times: &[u8; 8], offsets: &[u16; 8]) -> [u16; 8]
 
 // Returns the number of frames that each application takes for the phase, or 0 if it is off.
 fn times_in(spec: &Spec, c: ConfId, phase: Phase) -> [u8; 8]
-    ensures { Holds (phase_time spec.now c phase) 8 result }
+    ensures { IsTableOf (phase_time spec.now c phase) 8 result }
 {
     let mut times = [0; 8];
     for a in 0..8u8 {

@@ -6,6 +6,7 @@ use Rattle.bank_words.specs.declared.events.Event.{Event}
 use Rattle.bank_words.specs.declared.events.Event.TheVariants.{Start, Look, Store, Flip, Done, Halt, KNote, KStore, Release}
 use Rattle.fault_script.specs.Fits.{Fits}
 use Rattle.scram_kernel.specs.Kernels.{KernelParts, kernel_after}
+use Rattle.fail_stop.specs.Ends.{IsOver}
 use Rattle.fail_stop.specs.Events.{Happens, IsNext, Places, Word, next_of_actor}
 use Rattle.fail_stop.specs.Flights.{Flight}
 use Rattle.fail_stop.specs.Listed.{stored_in, word_index_count}
@@ -41,6 +42,10 @@ core_places core = machine_places core.places
 -- The value of each word in a core.
 abbrev pub core_words : CoreParts → Word → ℕ
 core_words core = stored_in core.stored
+
+-- The flight of a core is over: no event remains.
+abbrev pub IsOverIn : CoreParts → Type 0
+IsOverIn core = IsOver (core_flight core) (core_places core)
 
 -- The event is the next event of its actor in the core.
 abbrev pub IsNextIn : CoreParts → Event → Type 0

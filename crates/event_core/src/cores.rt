@@ -150,7 +150,7 @@ impl<'a> Core<'a> {
 
     /// States that some actor has a next event if the flight is not over. The call has no effect.
     pub fn goes_on(&self)
-        ensures { IsOver (core_flight self.now) (core_places self.now) ⊎ ((event : Event) × IsNextIn self.now event) }
+        ensures { IsOverIn self.now ⊎ ((event : Event) × IsNextIn self.now event) }
     {
         let _places = &self.places;
         machine_goes_on();
@@ -168,7 +168,7 @@ impl<'a> Core<'a> {
     /// Returns `true` if no further event can come. In that case the flight has no frame, or each processor has flown
     /// all frames or has halted for good and the kernel has made its last note.
     pub fn over(&self) -> bool
-        ensures { IsTrue result ↔ IsOver (core_flight self.now) (core_places self.now) }
+        ensures { IsTrue result ↔ IsOverIn self.now }
     {
         let spec = self.spec;
         let script = self.script;
@@ -179,7 +179,7 @@ impl<'a> Core<'a> {
 
     /// Returns the rows and reports of a flight that is over. They are the one-thread trace, whatever the schedule was.
     pub fn finish(self) -> Flown
-        requires { IsOver (core_flight self) (core_places self) }
+        requires { IsOverIn self }
         ensures rows { result.rows ≡ rows_of self.entry.spec self.entry.script }
         ensures reports { result.reports ≡ reports_of self.entry.spec self.entry.script }
     {
@@ -244,8 +244,8 @@ impl<'a> Core<'a> {
 pub fn finish_both<'a>(one: Core<'a>, other: Core<'a>) -> (Flown, Flown)
     requires spec { other.spec ≡ one.spec }
     requires script { other.script ≡ one.script }
-    requires one_over { IsOver (core_flight one) (core_places one) }
-    requires other_over { IsOver (core_flight other) (core_places other) }
+    requires one_over { IsOverIn one }
+    requires other_over { IsOverIn other }
     ensures equal_rows { result.1.rows ≡ result.0.rows }
     ensures equal_reports { result.1.reports ≡ result.0.reports }
     ensures rows { result.0.rows ≡ rows_of one.entry.spec one.entry.script }
@@ -258,7 +258,7 @@ ghost use Rattle.std.specs.Prelude.{◌≡◌, ◌==◌, ◌*◌, ◌+◌, ◌<�
 ghost use Rattle.scram_types.specs.Specification.{IsSpec};
 ghost use Rattle.fail_stop.specs.Ends.{IsOver};
 ghost use Rattle.frame_model.specs.Flights.{reports_of, rows_of};
-ghost use Rattle.event_core.specs.Cores.{core_places, ends_frame, core_flight};
+ghost use Rattle.event_core.specs.Cores.{core_places, ends_frame, core_flight, IsOverIn};
 ghost use Rattle.event_core.specs.Places.{kept_opening};
 ghost use Rattle.event_core.specs.declared.cores.Illegal.{Illegal};
 

@@ -50,9 +50,9 @@ pub begun : (m : Flight) (p f : ℕ) (x : Processor) → Flies m → IsProcessor
 begun m p f x y o e = begun_at m p f x.place x y o.place o.mark o.bank e
 
 -- Lemmas on the place after frame `f`: its mark, end word and banks are those before the next frame.
-standing_past : (m : Flight) (p f : ℕ) (o : Option ℕ) → Flies m → m.up p f ≡ true → f < m.frames → m.halt p f ≡ o → IsStanding m p (after_frame f o)
-standing_past m p f None y u l e = record { fresh = refl; within = l; up = y.stays p f u e; done = end_up m p f u ∙ ap (λ (o : Option ℕ). end_word_after f o) e }
-standing_past m p f (Some s) y u l e = record { step = s; up = u; halts = e }
+expected_past : (m : Flight) (p f : ℕ) (o : Option ℕ) → Flies m → m.up p f ≡ true → f < m.frames → m.halt p f ≡ o → IsStanding m p (after_frame f o)
+expected_past m p f None y u l e = record { fresh = refl; within = l; up = y.stays p f u e; done = end_up m p f u ∙ ap (λ (o : Option ℕ). end_word_after f o) e }
+expected_past m p f (Some s) y u l e = record { step = s; up = u; halts = e }
 
 pub past_after : (f : ℕ) (o : Option ℕ) → frames_past (after_frame f o) ≡ suc f
 past_after f None = refl
@@ -86,7 +86,7 @@ bank_made m p f mark b i old u e o = rw (side_of m p f mark e, stores_up m p f u
 
 pub made_is : (m : Flight) (p f : ℕ) (x : Processor) → Flies m → f < m.frames → Begun m p f x → IsProcessor m p (frame_made m p f x)
 made_is m p f x y l b = record {
-  place = standing_past m p f (m.halt p f) y b.up l refl;
+  place = expected_past m p f (m.halt p f) y b.up l refl;
   mark = mark_made m p f x.mark (reaches_mark m.width (m.halt p f)) (commits_so m p f (reaches_mark m.width (m.halt p f)) b.up refl) b.mark ∙ sym (mark_past m p f (m.halt p f));
   end = sym (end_up m p f b.up) ∙ sym (end_past m p f (m.halt p f));
   bank = λ c i lc li. bank_made m p f x.mark c i (x.bank c i) b.up b.mark (b.bank c i lc li) ∙ sym (bank_suc m p f c i) ∙ sym (bank_past m p f c i (m.halt p f));

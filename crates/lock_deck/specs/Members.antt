@@ -1,5 +1,6 @@
 -- Processors with their last drafts.
-use Rattle.std.specs.Prelude.{◌<◌, length, IfSome}
+use Rattle.std.specs.Prelude.{◌<◌, length, IfSome, All, List}
+use Rattle.crossbeam_utils.specs.declared.cache_padded.CachePadded.{CachePadded}
 use Rattle.coverage_check.specs.Missions.{MissionParts}
 use Rattle.fail_stop.specs.Flyers.{unit_proc}
 use Rattle.lock_deck.specs.declared.members.Member.{Member}
@@ -10,3 +11,7 @@ use Rattle.lock_deck.specs.SharedCores.{IsDraftOf}
 pub record MemberFits {X : Type 0} {Y : X → Type 0} (mission : MissionParts) (member : Member X Y) : Type 0 where
   pub known : unit_proc member.flyer.unit < length mission.spec.procs
   pub drafted : IfSome member.drafted (IsDraftOf mission (unit_proc member.flyer.unit))
+
+-- Each of the processors, which are padded to lines of the cache, fits the mission.
+abbrev pub AreMembersOf : {X : Type 0} {Y : X → Type 0} → MissionParts → List (CachePadded (Member X Y)) → Type 0
+AreMembersOf {X = X} {Y = Y} mission members = All (λ (member : CachePadded (Member X Y)). MemberFits mission member.value) members

@@ -2,10 +2,9 @@
 
 ghost use Rattle.std.specs.Prelude.{◌≡◌, ◌≤◌, ◌<◌, ◌+◌, [], All, IfOk, IfSome, OnOk, Some, length, vec_capacity, vec_len};
 ghost use Rattle.coverage_check.specs.Missions.{MissionParts, mission_of};
-ghost use Rattle.event_core.specs.Cores.{core_places, core_flight};
-ghost use Rattle.fail_stop.specs.Ends.{IsOver};
+ghost use Rattle.event_core.specs.Cores.{IsOverIn};
 ghost use Rattle.frame_model.specs.Flights.{reports_of, rows_of};
-ghost use Rattle.lock_deck.specs.Members.{MemberFits};
+ghost use Rattle.lock_deck.specs.Members.{AreMembersOf, MemberFits};
 ghost use Rattle.trace_props.specs.Properties.{HoldsAll};
 
 use crate::members::Member;
@@ -50,7 +49,7 @@ impl<'a> LockFlight<'a> {
     ) -> Result<LockFlight<'a>, NoMemory>
         requires { vec_len boxes.racks ≡ 8 }
         ensures mission { IfOk result (λ flight. flight.mission.now ≡ mission.now) }
-        ensures fits { IfOk result (λ flight. All (λ member. MemberFits flight.mission.now member.value) flight.members.items) }
+        ensures fits { IfOk result (λ flight. AreMembersOf flight.mission.now flight.members.items) }
     {
         mission.holds();
         let core = Core::open(alloc, mission.spec(), mission.script())?;
@@ -68,10 +67,10 @@ impl<'a> LockFlight<'a> {
     /// and the kernel runs on the caller's thread. The caller flies, round-robin, the processors whose threads cannot
     /// be started. This method may block.
     pub fn run<R: Threads + Wait + Sync>(self, rt: &R) -> Core<'a>
-        requires fits { All (λ member. MemberFits self.mission.now member.value) self.members.items }
+        requires fits { AreMembersOf self.mission.now self.members.items }
         ensures spec { result.spec ≡ self.entry.mission.now.spec }
         ensures script { result.script ≡ self.entry.mission.now.script }
-        ensures over { IsOver (core_flight result) (core_places result) }
+        ensures over { IsOverIn result }
         ensures assured { let m = self.entry.mission.now in HoldsAll m.spec (rows_of m.spec m.script) (reports_of m.spec m.script) }
     {
         self.run_on(rt, [true; 8])
@@ -80,10 +79,10 @@ impl<'a> LockFlight<'a> {
     /// Flies the mission as `run` does, but asks for a thread for processor `p` only if `asked[p]` is `true`. The
     /// caller flies the other processors round-robin.
     pub fn run_on<R: Threads + Wait + Sync>(self, rt: &R, asked: [bool; 8]) -> Core<'a>
-        requires fits { All (λ member. MemberFits self.mission.now member.value) self.members.items }
+        requires fits { AreMembersOf self.mission.now self.members.items }
         ensures spec { result.spec ≡ self.entry.mission.now.spec }
         ensures script { result.script ≡ self.entry.mission.now.script }
-        ensures over { IsOver (core_flight result) (core_places result) }
+        ensures over { IsOverIn result }
         ensures assured { let m = self.entry.mission.now in HoldsAll m.spec (rows_of m.spec m.script) (reports_of m.spec m.script) }
     {
         self.mission.holds();
@@ -114,7 +113,7 @@ fn make_members(
     boxes: Boxes,
 ) -> Result<Vec<CachePadded<Member>>, NoMemory>
     requires { vec_len boxes.racks ≡ 8 }
-    ensures fits { IfOk result (λ members. All (λ member. MemberFits mission.now member.value) members.items) }
+    ensures fits { IfOk result (λ members. AreMembersOf mission.now members.items) }
 {
     let Boxes {
         mut racks,
@@ -136,9 +135,9 @@ fn add_next(
     members: &mut Vec<CachePadded<Member>>,
 ) -> Result<(), NoMemory>
     requires few { vec_len racks.old ≤ 8 }
-    requires members { All (λ member. MemberFits mission.now member.value) members.old.items }
+    requires members { AreMembersOf mission.now members.old.items }
     ensures few { vec_len racks.new ≤ 8 }
-    ensures members { OnOk result (All (λ member. MemberFits mission.now member.value) members.new.items) }
+    ensures members { OnOk result (AreMembersOf mission.now members.new.items) }
 {
     match next_member(mission, racks, spares) {
         Some(member) => add_member(members, member),
@@ -174,8 +173,8 @@ fn take_rack(racks: &mut Vec<Rack>) -> Option<Rack>
 
 // Adds a processor to the processors that wait for a thread. The only error is that memory runs out.
 fn add_member(members: &mut Vec<CachePadded<Member>>, member: Member) -> Result<(), NoMemory>
-    ensures { OnOk result ((mission : MissionParts) → MemberFits mission member → All (λ member. MemberFits mission member.value) members.old.items
-        → All (λ member. MemberFits mission member.value) members.new.items) }
+    ensures { OnOk result ((mission : MissionParts) → MemberFits mission member → AreMembersOf mission members.old.items
+        → AreMembersOf mission members.new.items) }
 {
     members.push(CachePadded::new(member))?;
     Ok(())
@@ -189,10 +188,10 @@ fn fly<'a, J: FlightOf + Send + Sync, R: Threads + Wait + Sync>(
 ) -> Core<'a>
     requires own { J.mission ≡ Some mission.now }
     requires core { mission_of core.spec core.script ≡ mission.now }
-    requires fits { All (λ member. MemberFits mission.now member.value) roster.members.items }
+    requires fits { AreMembersOf mission.now roster.members.items }
     requires kept { (roster.kept.items ≡ []) × (vec_len roster.members ≤ vec_capacity roster.kept) }
     ensures core { mission_of result.spec result.script ≡ mission.now }
-    ensures over { IsOver (core_flight result) (core_places result) }
+    ensures over { IsOverIn result }
 {
     let shared: Mutex<SharedCore<'a, J>> = Mutex::new(SharedCore::new(core));
     let moved = Condvar::new();
@@ -204,7 +203,7 @@ fn fly<'a, J: FlightOf + Send + Sync, R: Threads + Wait + Sync>(
 fn finish<'a, R: Wait>(rt: &R, core: Core<'a>) -> Core<'a>
     ensures spec { result.spec ≡ core.entry.spec }
     ensures script { result.script ≡ core.entry.script }
-    ensures over { IsOver (core_flight result) (core_places result) }
+    ensures over { IsOverIn result }
 {
     let mut core = core;
     for _ in rt.forever() {
@@ -224,7 +223,7 @@ fn fly_shared<'a, J: FlightOf + Send + Sync, R: Threads + Wait + Sync>(
     roster: Roster,
 )
     requires own { J.mission ≡ Some mission.now }
-    requires fits { All (λ member. MemberFits mission.now member.value) roster.members.items }
+    requires fits { AreMembersOf mission.now roster.members.items }
     requires kept { (roster.kept.items ≡ []) × (vec_len roster.members ≤ vec_capacity roster.kept) }
 {
     let flags = flown_by_caller(roster.asked);
@@ -234,7 +233,7 @@ fn fly_shared<'a, J: FlightOf + Send + Sync, R: Threads + Wait + Sync>(
         rt,
         |scope|
             requires own { J.mission ≡ Some mission.now }
-            requires fits { All (λ member. MemberFits mission.now member.value) roster.members.items }
+            requires fits { AreMembersOf mission.now roster.members.items }
             requires kept { (roster.kept.items ≡ []) × (vec_len roster.members ≤ vec_capacity roster.kept) }
         {
             let flight = SharedFlight {
@@ -266,7 +265,7 @@ fn start_all<'s, 'a, E, J: FlightOf + Send + Sync, R: Threads + Wait + Sync>(
     roster: Roster,
 ) -> Vec<Member>
     requires own { J.mission ≡ Some flight.mission.now }
-    requires fits { All (λ member. MemberFits flight.mission.now member.value) roster.members.items }
+    requires fits { AreMembersOf flight.mission.now roster.members.items }
     requires kept { (roster.kept.items ≡ []) × (vec_len roster.members ≤ vec_capacity roster.kept) }
     ensures { All (MemberFits flight.entry.mission.now) result.items }
 {
@@ -326,9 +325,9 @@ fn start<'s, E, M: Send + Drop + 's, F: FnOnce(M) + Send + Drop + 's>(
 
 // Removes and returns the last processor, or returns `None` if there is none.
 fn take_member(members: &mut Vec<CachePadded<Member>>) -> Option<Member>
-    ensures fits { (mission : MissionParts) → All (λ member. MemberFits mission member.value) members.old.items → IfSome result (MemberFits mission) }
-    ensures rest { (mission : MissionParts) → All (λ member. MemberFits mission member.value) members.old.items
-        → All (λ member. MemberFits mission member.value) members.new.items }
+    ensures fits { (mission : MissionParts) → AreMembersOf mission members.old.items → IfSome result (MemberFits mission) }
+    ensures rest { (mission : MissionParts) → AreMembersOf mission members.old.items
+        → AreMembersOf mission members.new.items }
     ensures fewer { IfSome result (λ member. vec_len members.new + 1 ≡ vec_len members.old) }
 {
     match members.pop() {

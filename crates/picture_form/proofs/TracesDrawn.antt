@@ -16,7 +16,7 @@ use Rattle.trace_text.specs.AppReading.{app_read, done}
 use Rattle.trace_text.specs.Pieces.{is_filled, pieces_of}
 use Rattle.trace_text.specs.ReportReading.{end_read, report_read}
 use Rattle.trace_text.specs.RowReading.{row_read}
-use Rattle.trace_text.specs.TraceReading.{ReadingState, after_app, after_line, at_end, before_first, begins, closing, fault_at, go_on, is_plain, standing_line, trace_from, with_app, with_done, with_end, with_report, with_row}
+use Rattle.trace_text.specs.TraceReading.{ReadingState, after_app, after_line, at_end, before_first, begins, closing, fault_at, go_on, is_plain, expected_line, trace_from, with_app, with_done, with_end, with_report, with_row}
 use Rattle.trace_text.specs.declared.app_reading.Done.{Done}
 use Rattle.trace_text.specs.declared.app_reading.Phase.{Phase}
 use Rattle.trace_text.specs.declared.progress.Expected.{Expected}
@@ -42,19 +42,19 @@ record Drawn (spec : Parts) (s : ReadingState) : Type 0 where
   rows : Each (IsRowDrawn spec) s.rows
   reports : Each IsReportDrawn s.reports
   few : length s.rows ≤ MAX_FRAMES
-  begun : OpenDrawn spec s.rows s.standing
+  begun : OpenDrawn spec s.rows s.expected
 
 row_step : (spec : Parts) (s t : ReadingState) (line : List ℕ) → IsSpec spec → Drawn spec s → (read : Result Row ℕ) → row_read spec (length s.rows) line ≡ read → with_row s read ≡ Ok t → Drawn spec t
 row_step spec s t line sound drawn (Err rule) is h = absurd (let e = h in cc)
 row_step spec s t line sound drawn (Ok row) is h =
     let read = line_read spec (length s.rows) line row sound is in
-    let same : record { rows = s.rows; reports = s.reports; standing = Apps 0 row } ≡ t = let e = h in cc in
-    let made : Drawn spec (record { rows = s.rows; reports = s.reports; standing = Apps 0 row })
+    let same : record { rows = s.rows; reports = s.reports; expected = Apps 0 row } ≡ t = let e = h in cc in
+    let made : Drawn spec (record { rows = s.rows; reports = s.reports; expected = Apps 0 row })
     = record { rows = drawn.rows; reports = drawn.reports; few = drawn.few; begun = (read.drawn, read.due) } in
     rw (← same) made
 
 after_drawn : (more : Bool) (spec : Parts) (s : ReadingState) (a : ℕ) (row : Row) → Drawn spec s → IsRowDrawn spec row → length s.rows < MAX_FRAMES
-    → Drawn spec (cond more (record { rows = s.rows; reports = s.reports; standing = Apps (a + 1) row }) (record { rows = s.rows ++ row ∷ []; reports = s.reports; standing = Rows }))
+    → Drawn spec (cond more (record { rows = s.rows; reports = s.reports; expected = Apps (a + 1) row }) (record { rows = s.rows ++ row ∷ []; reports = s.reports; expected = Rows }))
 after_drawn true spec s a row drawn new below = record { rows = drawn.rows; reports = drawn.reports; few = drawn.few; begun = (new, below) }
 after_drawn false spec s a row drawn new below =
     let one : length (s.rows ++ row ∷ []) ≡ length s.rows + 1 = length-append s.rows (row ∷ []) in
@@ -70,16 +70,16 @@ app_step spec s t line a row drawn begun below (Ok told) is h =
 report_step : (spec : Parts) (s t : ReadingState) (line : List ℕ) → Drawn spec s → (read : Result Report ℕ) → report_read spec (length s.rows) line ≡ read → with_report s read ≡ Ok t → Drawn spec t
 report_step spec s t line drawn (Err rule) is h = absurd (let e = h in cc)
 report_step spec s t line drawn (Ok report) is h =
-    let same : record { rows = s.rows; reports = s.reports ++ report ∷ []; standing = Reports } ≡ t = let e = h in cc in
-    let made : Drawn spec (record { rows = s.rows; reports = s.reports ++ report ∷ []; standing = Reports })
+    let same : record { rows = s.rows; reports = s.reports ++ report ∷ []; expected = Reports } ≡ t = let e = h in cc in
+    let made : Drawn spec (record { rows = s.rows; reports = s.reports ++ report ∷ []; expected = Reports })
     = record { rows = drawn.rows; reports = each_end IsReportDrawn s.reports report drawn.reports (report_drawn spec (length s.rows) line report drawn.few is); few = drawn.few; begun = tt } in
     rw (← same) made
 
 end_step : (spec : Parts) (s t : ReadingState) → Drawn spec s → (read : Result ⊤ ℕ) → with_end s read ≡ Ok t → Drawn spec t
 end_step spec s t drawn (Err rule) h = absurd (let e = h in cc)
 end_step spec s t drawn (Ok done) h =
-    let same : record { rows = s.rows; reports = s.reports; standing = Over } ≡ t = let e = h in cc in
-    let made : Drawn spec (record { rows = s.rows; reports = s.reports; standing = Over }) = record { rows = drawn.rows; reports = drawn.reports; few = drawn.few; begun = tt } in
+    let same : record { rows = s.rows; reports = s.reports; expected = Over } ≡ t = let e = h in cc in
+    let made : Drawn spec (record { rows = s.rows; reports = s.reports; expected = Over }) = record { rows = drawn.rows; reports = drawn.reports; few = drawn.few; begun = tt } in
     rw (← same) made
 
 closing_by : (report end : Bool) (spec : Parts) (s t : ReadingState) (line : List ℕ) → Drawn spec s
@@ -101,23 +101,23 @@ apps_by : (app : Bool) (spec : Parts) (s t : ReadingState) (line : List ℕ) (a 
 apps_by true spec s t line a row drawn begun h = app_step spec s t line a row drawn begun.0 begun.1 (app_read spec a line) refl h
 apps_by false spec s t line a row drawn begun h = absurd (let e = h in cc)
 
-standing_step : (spec : Parts) (s t : ReadingState) (standing : Expected) (line : List ℕ) → IsSpec spec → Drawn spec s → OpenDrawn spec s.rows standing
-    → standing_line spec s standing line ≡ Ok t → Drawn spec t
-standing_step spec s t Rows line sound drawn begun h = rows_by (begins line (codes "frame")) spec s t line sound drawn h
-standing_step spec s t (Apps a row) line sound drawn begun h = apps_by (begins line (codes "app")) spec s t line a row drawn begun h
-standing_step spec s t Reports line sound drawn begun h = closing_step spec s t line drawn h
-standing_step spec s t Over line sound drawn begun h = absurd (let e = h in cc)
+expected_step : (spec : Parts) (s t : ReadingState) (expected : Expected) (line : List ℕ) → IsSpec spec → Drawn spec s → OpenDrawn spec s.rows expected
+    → expected_line spec s expected line ≡ Ok t → Drawn spec t
+expected_step spec s t Rows line sound drawn begun h = rows_by (begins line (codes "frame")) spec s t line sound drawn h
+expected_step spec s t (Apps a row) line sound drawn begun h = apps_by (begins line (codes "app")) spec s t line a row drawn begun h
+expected_step spec s t Reports line sound drawn begun h = closing_step spec s t line drawn h
+expected_step spec s t Over line sound drawn begun h = absurd (let e = h in cc)
 
 line_step : (spec : Parts) (s t : ReadingState) (line : List ℕ) → IsSpec spec → Drawn spec s → after_line spec s line ≡ Ok t → Drawn spec t
 line_step spec s t line sound drawn h =
-    standing_step spec s t s.standing line sound drawn drawn.begun (if_ok (is_plain line) (standing_line spec s s.standing line) BROKEN_LINE t h).1
+    expected_step spec s t s.expected line sound drawn drawn.begun (if_ok (is_plain line) (expected_line spec s s.expected line) BROKEN_LINE t h).1
 
 -- A flight whose trace was read to its end can be drawn.
 record DrawnWhole (spec : Parts) (flown : Flown) : Type 0 where
   rows : Each (IsRowDrawn spec) flown.rows
   reports : Each IsReportDrawn flown.reports
 
-ended : (spec : Parts) (k : ℕ) (s : ReadingState) (standing : Expected) (flown : Flown) → Drawn spec s → at_end k s standing ≡ Ok flown → DrawnWhole spec flown
+ended : (spec : Parts) (k : ℕ) (s : ReadingState) (expected : Expected) (flown : Flown) → Drawn spec s → at_end k s expected ≡ Ok flown → DrawnWhole spec flown
 ended spec k s Over flown drawn h =
     let same : record { rows = s.rows; reports = s.reports } ≡ flown = let e = h in cc in
     let made : DrawnWhole spec (record { rows = s.rows; reports = s.reports }) = record { rows = drawn.rows; reports = drawn.reports } in
@@ -126,9 +126,9 @@ ended spec k s Rows flown drawn h = absurd (let e = h in cc)
 ended spec k s (Apps a row) flown drawn h = absurd (let e = h in cc)
 ended spec k s Reports flown drawn h = absurd (let e = h in cc)
 
-last_by : (filled : Bool) (spec : Parts) (k : ℕ) (s : ReadingState) (flown : Flown) → Drawn spec s → cond filled (Err (fault_at k BROKEN_LINE)) (at_end k s s.standing) ≡ Ok flown → DrawnWhole spec flown
+last_by : (filled : Bool) (spec : Parts) (k : ℕ) (s : ReadingState) (flown : Flown) → Drawn spec s → cond filled (Err (fault_at k BROKEN_LINE)) (at_end k s s.expected) ≡ Ok flown → DrawnWhole spec flown
 last_by true spec k s flown drawn h = absurd (let e = h in cc)
-last_by false spec k s flown drawn h = ended spec k s s.standing flown drawn h
+last_by false spec k s flown drawn h = ended spec k s s.expected flown drawn h
 
 go_by : (spec : Parts) (k : ℕ) (s : ReadingState) (line next : List ℕ) (lines : List (List ℕ)) (flown : Flown) → IsSpec spec → Drawn spec s
     → ((t : ReadingState) → Drawn spec t → trace_from spec (k + 1) t (next ∷ lines) ≡ Ok flown → DrawnWhole spec flown)
@@ -137,7 +137,7 @@ go_by spec k s line next lines flown sound drawn more (Err rule) is h = absurd (
 go_by spec k s line next lines flown sound drawn more (Ok t) is h = more t (line_step spec s t line sound drawn is) h
 
 lines_drawn : (spec : Parts) (k : ℕ) (s : ReadingState) (lines : List (List ℕ)) (flown : Flown) → IsSpec spec → Drawn spec s → trace_from spec k s lines ≡ Ok flown → DrawnWhole spec flown
-lines_drawn spec k s [] flown sound drawn h = ended spec k s s.standing flown drawn h
+lines_drawn spec k s [] flown sound drawn h = ended spec k s s.expected flown drawn h
 lines_drawn spec k s (last ∷ []) flown sound drawn h = last_by (is_filled last) spec k s flown drawn h
 lines_drawn spec k s (line ∷ next ∷ lines) flown sound drawn h =
     go_by spec k s line next lines flown sound drawn (λ t held read. lines_drawn spec (k + 1) t (next ∷ lines) flown sound held read) (after_line spec s line) refl h

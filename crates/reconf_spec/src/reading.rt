@@ -9,7 +9,7 @@ ghost use Rattle.spec_members.specs.Facts.{IsNewProc};
 ghost use Rattle.spec_members.specs.Kept.{AreApps};
 ghost use Rattle.reconf_spec.specs.Documents.{names_in, names_with, spec_in, spec_of, unranked_in, unranked_names_in, unranked_of};
 ghost use Rattle.reconf_spec.specs.Writable.{IsWritable};
-ghost use Rattle.spec_apps.specs.Answers.{AnswersSpec, ShowsCycle, CycleAmong};
+ghost use Rattle.spec_apps.specs.Answers.{AnswersSpec, ShowsCycle, HasNoCycle};
 ghost use Rattle.spec_members.specs.Found.{AreMembers};
 
 use crate::documents::{check_version, read_rest};
@@ -54,7 +54,7 @@ fn read_names(alloc: Global, members: &Members<'_>) -> Result<Vocabulary, SpecEr
     requires members { AreMembers members.now }
     ensures value { AnswersSpec (names_in (view members.now.document.now)) result }
     ensures cycle { IfErr result (λ error. ShowsCycle (unranked_names_in (view members.now.document.now)) error) }
-    ensures no_cycle { OnOk result (CycleAmong (unranked_names_in (view members.now.document.now)) []) }
+    ensures no_cycle { OnOk result (HasNoCycle (unranked_names_in (view members.now.document.now))) }
 {
     check_version(members.scram, &Path::root().member("scram"))?;
     let procs = read_procs(alloc, members)?;

@@ -1,11 +1,9 @@
 //! The flight of a schedule on one thread.
 
 ghost use Rattle.std.specs.Prelude.{◌≡◌, ◌++◌, ◌∷◌, [], List, Err, IfErr, IfOk, IfSome, None, Some, length, slice_get, take};
-ghost use Rattle.event_core.specs.Cores.{IsNextIn, IsWordIn, core_places, core_words, core_flight};
+ghost use Rattle.event_core.specs.Cores.{IsNextIn, IsWordIn, core_places, core_words, core_flight, IsOverIn};
 ghost use Rattle.event_core.specs.Flyers.{FlyAfter, FlyBy};
 ghost use Rattle.event_core.specs.Replays.{IsReplay};
-ghost use Rattle.fail_stop.specs.Ends.{IsOver};
-ghost use Rattle.fail_stop.specs.Events.{next_of_actor};
 ghost use Rattle.fault_script.specs.Fits.{Fits};
 ghost use Rattle.schedule_replay.specs.declared.replays.ReplayError.TheVariants.{NoMemory as WantsMemory};
 ghost use Rattle.schedule_replay.specs.Replaying.{AnswersReplay, first_next, next_below};
@@ -161,8 +159,8 @@ fn land(core: Core, spec: &Spec, events: &[Event]) -> Result<Flown, ReplayError>
 // if the flight is over.
 fn pending(core: &Core, spec: &Spec) -> Option<Event>
     requires spec { core.now.spec ≡ spec.now }
-    ensures over { result ≡ None → IsOver (core_flight core.now) (core_places core.now) }
-    ensures going { IfSome result (λ _. IsOver (core_flight core.now) (core_places core.now) → ⊥) }
+    ensures over { result ≡ None → IsOverIn core.now }
+    ensures going { IfSome result (λ _. IsOverIn core.now → ⊥) }
     ensures next { IfSome result (λ next. first_next (core_flight core.now) (core_places core.now) (core_words core.now) ≡ Some next) }
 {
     if core.over() {

@@ -8,9 +8,9 @@ use Rattle.dep_order.specs.Ranks.{Needs, NeedsInTurn, IsCycle}
 use Rattle.scram_types.specs.declared.specification.AppSpec.{AppSpec}
 use Rattle.scram_doc.specs.declared.fault.DocFault.{DocFault}
 use Rattle.spec_apps.specs.Needs.{are_ranked}
-use Rattle.spec_apps.specs.Answers.{CycleAmong}
+use Rattle.spec_apps.specs.Answers.{HasNoCycle}
 
-pub no_cycle : {A E : Type 0} → (answer : Result A E) (unranked : Result (List AppSpec) DocFault) (apps : List AppSpec) → unranked ≡ Ok apps → OnOk answer (are_ranked apps ≡ true) → OnOk answer (CycleAmong unranked [])
+pub no_cycle : {A E : Type 0} → (answer : Result A E) (unranked : Result (List AppSpec) DocFault) (apps : List AppSpec) → unranked ≡ Ok apps → OnOk answer (are_ranked apps ≡ true) → OnOk answer (HasNoCycle unranked)
 no_cycle (Ok a) unranked apps is ranked = rw (is, ranked) refl
 no_cycle (Err e) unranked apps is ranked = ranked
 

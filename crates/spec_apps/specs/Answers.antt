@@ -28,6 +28,10 @@ abbrev pub CycleAmong : Result (List AppSpec) DocFault → List AppId → Type 0
 CycleAmong (Err fault) cycle = cycle ≡ []
 CycleAmong (Ok apps) cycle = CycleIf (are_ranked apps) apps cycle
 
+-- The applications were not read, or have no cycle of needs.
+abbrev pub HasNoCycle : Result (List AppSpec) DocFault → Type 0
+HasNoCycle unranked = CycleAmong unranked []
+
 -- Each application of `named` exists, and `names` contains their names, in order.
 abbrev pub AreNamed : List AppSpec → List AppId → List (List ℕ) → Type 0
 AreNamed apps named names =

@@ -11,7 +11,7 @@ ghost use Rattle.spec_apps.specs.Needs.{apps_in, are_ranked, read_need, read_nee
 ghost use Rattle.dep_order.specs.Timetables.{is_named};
 ghost use Rattle.spec_apps.specs.Facts.{IsNewNeed, AreNeeds};
 ghost use Rattle.dep_order.specs.Ranks.{IsCycle, IsRanking, RanksFall};
-ghost use Rattle.spec_apps.specs.Answers.{AreNamed, AnswersSpec, ShowsCycle, CycleAmong};
+ghost use Rattle.spec_apps.specs.Answers.{AreNamed, AnswersSpec, ShowsCycle, HasNoCycle};
 ghost use Rattle.spec_members.specs.Kept.{AreApps};
 ghost use Rattle.spec_apps.specs.Unranked.{AreUnranked};
 ghost use Rattle.spec_members.specs.Found.{AreMembers};
@@ -200,7 +200,7 @@ pub fn read_apps(
     requires members { AreMembers members.now }
     ensures value { AnswersSpec (apps_in (view members.now.document.now)) result }
     ensures cycle { IfErr result (λ error. ShowsCycle (member_in (codes "apps") read_unranked (view members.now.document.now)) error) }
-    ensures no_cycle { OnOk result (CycleAmong (member_in (codes "apps") read_unranked (view members.now.document.now)) []) }
+    ensures no_cycle { OnOk result (HasNoCycle (member_in (codes "apps") read_unranked (view members.now.document.now))) }
     ensures fits { IfOk result (λ l. AreApps l) }
 {
     let at = Path::root().member("apps");

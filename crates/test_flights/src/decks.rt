@@ -1,8 +1,7 @@
 //! Flights over both decks: over words, and over a core under a lock.
 
 ghost use Rattle.std.specs.Prelude.{◌≡◌, IfOk};
-ghost use Rattle.event_core.specs.Cores.{core_places, core_flight};
-ghost use Rattle.fail_stop.specs.Ends.{IsOver};
+ghost use Rattle.event_core.specs.Cores.{IsOverIn};
 
 use app_model::{Boxes, empty_boxes};
 use coverage_check::Mission;
@@ -70,7 +69,7 @@ pub fn fly_over_lock<'a, R: AllocGlobal + Threads + Wait + Sync>(
     boxes: Boxes,
 ) -> io::Result<Core<'a>>
     ensures spec { IfOk result (λ core. core.spec ≡ mission.now.spec) }
-    ensures over { IfOk result (λ core. IsOver (core_flight core) (core_places core)) }
+    ensures over { IfOk result (λ core. IsOverIn core) }
 {
     let Ok(flight) = LockFlight::open(rt.alloc(), mission, boxes) else {
         return Err(ErrorKind::OutOfMemory.into());

@@ -1,8 +1,7 @@
 //! Flights over a lock that are flown again by their histories.
 
 ghost use Rattle.std.specs.Prelude.{◌≡◌};
-ghost use Rattle.event_core.specs.Cores.{core_places, core_flight};
-ghost use Rattle.fail_stop.specs.Ends.{IsOver};
+ghost use Rattle.event_core.specs.Cores.{IsOverIn};
 
 use crate::decks::fly_over_lock;
 use app_model::empty_boxes;
@@ -33,7 +32,7 @@ pub fn fly_and_write<R: AllocGlobal + Threads + Wait + Sync>(
 /// Returns the result of a flight that is over, and the text of its history.
 fn finish(alloc: Global, mission: &Mission, core: Core) -> io::Result<(Flown, Vec<u8>)>
     requires spec { core.spec ≡ mission.now.spec }
-    requires over { IsOver (core_flight core) (core_places core) }
+    requires over { IsOverIn core }
 {
     match write_history(alloc, mission, &core) {
         Ok(text) => Ok((core.finish(), text)),

@@ -1,6 +1,7 @@
 -- Schedules that are chosen by a rule.
 use Rattle.std.specs.Prelude.{◌≡◌, ℕ, List, [], ◌∷◌, Some}
 use Rattle.bank_words.specs.declared.events.Event.{Event}
+use Rattle.event_core.specs.Cores.{CoreParts, core_flight, core_places, core_words}
 use Rattle.event_core.specs.Replays.{IsReplay}
 use Rattle.fail_stop.specs.Events.{Places, Word}
 use Rattle.fail_stop.specs.Flights.{Flight}
@@ -22,3 +23,7 @@ pub record IsByRule (m : Flight) (rule : Rule) (events : List Event) (at : Place
   pub replay : IsReplay m events at words
   pub chooser : Chooser
   pub chosen_are : AreChosen m (first_chooser rule) (opening m) events chooser replay.state
+
+-- The rule chooses each event of a core's history.
+abbrev pub IsFlownBy : Rule → CoreParts → Type 0
+IsFlownBy rule core = IsByRule (core_flight core) rule core.history (core_places core) (core_words core)

@@ -1,8 +1,7 @@
 //! The choice of the actor that makes the next event.
 
 ghost use Rattle.std.specs.Prelude.{◌≡◌, ℕ, ◌+◌, ◌-◌, ◌≤◌, ◌<◌, IfSome, None, if◌then◌else◌, length, option_map};
-ghost use Rattle.event_core.specs.Cores.{IsNextIn, core_places, core_words, core_flight};
-ghost use Rattle.fail_stop.specs.Ends.{IsOver};
+ghost use Rattle.event_core.specs.Cores.{IsNextIn, core_places, core_words, core_flight, IsOverIn};
 ghost use Rattle.test_schedules.specs.Choices.{begin_of, chooser_after, chosen, first_chooser, first_from, first_in, generator_after, is_backwards, next_in_order, place_in_turn, seed_of};
 
 use bank_words::Event;
@@ -75,7 +74,7 @@ impl Chooser {
         ensures after { IfSome (chosen (core_flight core.now) (core_places core.now) (core_words core.now) self.old)
             (λ found. self.new ≡ chooser_after self.old found.0) }
         ensures next { IfSome result (IsNextIn core.now) }
-        ensures over { result ≡ None → IsOver (core_flight core.now) (core_places core.now) }
+        ensures over { result ≡ None → IsOverIn core.now }
     {
         let backwards = is_backwards(self.rule);
         let begin = self.begin(procs);
@@ -153,7 +152,7 @@ fn first_from(core: &Core, procs: usize, backwards: bool, begin: usize) -> Optio
     requires begin { begin ≤ procs }
     ensures same { result ≡ first_from (next_in_order (core_flight core.now) (core_places core.now) (core_words core.now) backwards) procs begin }
     ensures next { IfSome result (λ found. IsNextIn core.now found.1) }
-    ensures over { result ≡ None → IsOver (core_flight core.now) (core_places core.now) }
+    ensures over { result ≡ None → IsOverIn core.now }
 {
     core.goes_on();
     match first_in(core, procs, backwards, begin, procs + 1) {

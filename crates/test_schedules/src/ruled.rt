@@ -2,12 +2,11 @@
 //! returns a core whose flight of the specification and the script is over.
 
 ghost use Rattle.std.specs.Prelude.{◌≡◌, ◌<◌, ◌≤◌, ◌⊎◌, ◌++◌, [], ◌∷◌, IfOk, length};
-ghost use Rattle.event_core.specs.Cores.{HappensIn, IsNextIn, IsWordIn, core_places, core_words, core_flight};
+ghost use Rattle.event_core.specs.Cores.{HappensIn, IsNextIn, IsWordIn, core_places, core_flight, IsOverIn};
 ghost use Rattle.event_core.specs.Flyers.{FlyBy};
 ghost use Rattle.event_core.specs.Rooms.{events_left};
-ghost use Rattle.fail_stop.specs.Ends.{IsOver};
 ghost use Rattle.fault_script.specs.Fits.{Fits};
-ghost use Rattle.test_schedules.specs.Ruled.{IsByRule};
+ghost use Rattle.test_schedules.specs.Ruled.{IsFlownBy};
 
 use crate::choices::{Chooser, Rule};
 use app_model::empty_boxes;
@@ -32,8 +31,8 @@ pub fn fly<'a>(
     requires script { Fits spec.now script.now }
     ensures spec { IfOk result (λ core. core.spec ≡ spec.now) }
     ensures script { IfOk result (λ core. core.script ≡ script.now) }
-    ensures rule { IfOk result (λ core. IsByRule (core_flight core) rule core.history (core_places core) (core_words core)) }
-    ensures over { IfOk result (λ core. IsOver (core_flight core) (core_places core)) }
+    ensures rule { IfOk result (λ core. IsFlownBy rule core) }
+    ensures over { IfOk result (λ core. IsOverIn core) }
 {
     let boxes = empty_boxes(alloc)?;
     let core = Core::open(alloc, spec, script)?;
@@ -57,8 +56,8 @@ pub fn fly_some<'a>(
     requires script { Fits spec.now script.now }
     ensures spec { IfOk result (λ core. core.spec ≡ spec.now) }
     ensures script { IfOk result (λ core. core.script ≡ script.now) }
-    ensures rule { IfOk result (λ core. IsByRule (core_flight core) rule core.history (core_places core) (core_words core)) }
-    ensures count { IfOk result (λ core. (length core.history ≡ events) ⊎ (IsOver (core_flight core) (core_places core) × (length core.history < events))) }
+    ensures rule { IfOk result (λ core. IsFlownBy rule core) }
+    ensures count { IfOk result (λ core. (length core.history ≡ events) ⊎ (IsOverIn core × (length core.history < events))) }
 {
     let boxes = empty_boxes(alloc)?;
     let core = Core::open(alloc, spec, script)?;
@@ -73,8 +72,8 @@ fn fly_on<'a>(core: Core<'a>, spec: &Spec, flyers: &mut Flyers, rule: Rule) -> C
     requires fits { FlyBy core flyers.old }
     ensures spec { result.spec ≡ core.entry.spec }
     ensures script { result.script ≡ core.entry.script }
-    ensures rule { IsByRule (core_flight result) rule result.history (core_places result) (core_words result) }
-    ensures over { IsOver (core_flight result) (core_places result) }
+    ensures rule { IsFlownBy rule result }
+    ensures over { IsOverIn result }
 {
     let mut core = core;
     let _opened = core.history();
@@ -99,8 +98,8 @@ fn fly_events<'a>(
     requires fits { FlyBy core flyers.old }
     ensures spec { result.spec ≡ core.entry.spec }
     ensures script { result.script ≡ core.entry.script }
-    ensures rule { IsByRule (core_flight result) rule result.history (core_places result) (core_words result) }
-    ensures count { (length result.history ≡ events) ⊎ (IsOver (core_flight result) (core_places result) × (length result.history < events)) }
+    ensures rule { IsFlownBy rule result }
+    ensures count { (length result.history ≡ events) ⊎ (IsOverIn result × (length result.history < events)) }
 {
     let mut core = core;
     let _opened = core.history();

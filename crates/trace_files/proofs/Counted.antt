@@ -19,7 +19,7 @@ use Rattle.trace_text.specs.AppReading.{app_read}
 use Rattle.trace_text.specs.Pieces.{pieces_of}
 use Rattle.trace_text.specs.ReportReading.{end_read, report_read}
 use Rattle.trace_text.specs.RowReading.{row_read}
-use Rattle.trace_text.specs.TraceReading.{ReadingState, after_app, after_line, at_end, before_first, begins, closing, fault_at, go_on, is_plain, standing_line, trace_from, trace_of, with_app, with_done, with_end, with_report, with_row}
+use Rattle.trace_text.specs.TraceReading.{ReadingState, after_app, after_line, at_end, before_first, begins, closing, fault_at, go_on, is_plain, expected_line, trace_from, trace_of, with_app, with_done, with_end, with_report, with_row}
 use Rattle.trace_text.specs.Pieces.{is_filled}
 
 -- A step of the reading adds at most one row and at most one report.
@@ -52,8 +52,8 @@ one_of s t u false first second = second
 
 adds_app : (spec : Parts) (s : ReadingState) (a : ℕ) (row : Row) → AddsOne s (after_app spec s a row)
 adds_app spec s a row =
-    one_of s (record { rows = s.rows; reports = s.reports; standing = Apps (a + 1) row })
-    (record { rows = s.rows ++ row ∷ []; reports = s.reports; standing = Rows }) (nat_lt (a + 1) (length spec.apps))
+    one_of s (record { rows = s.rows; reports = s.reports; expected = Apps (a + 1) row })
+    (record { rows = s.rows ++ row ∷ []; reports = s.reports; expected = Rows }) (nat_lt (a + 1) (length spec.apps))
     (omega arith, omega arith) (omega (arith, length-append s.rows (row ∷ [])), omega arith)
 
 adds_done : (spec : Parts) (s : ReadingState) (a : ℕ) (row : Row) (r : Result Done ℕ) → Adds s (with_done spec s a row r)
@@ -68,34 +68,34 @@ adds_closing spec s line =
     (either s (begins line (codes "end")) (with_end s (end_read (length s.rows) (length s.reports) line)) (Err 2)
     (adds_end s (end_read (length s.rows) (length s.reports) line)) tt)
 
-adds_standing : (spec : Parts) (s : ReadingState) (standing : Expected) (line : List ℕ) → Adds s (standing_line spec s standing line)
-adds_standing spec s Rows line =
+adds_expected : (spec : Parts) (s : ReadingState) (expected : Expected) (line : List ℕ) → Adds s (expected_line spec s expected line)
+adds_expected spec s Rows line =
     either s (begins line (codes "frame")) (with_row s (row_read spec (length s.rows) line)) (closing spec s line)
     (adds_row s (row_read spec (length s.rows) line)) (adds_closing spec s line)
-adds_standing spec s (Apps a row) line =
+adds_expected spec s (Apps a row) line =
     either s (begins line (codes "app")) (with_done spec s a row (app_read spec a line)) (Err 2)
     (adds_done spec s a row (app_read spec a line)) tt
-adds_standing spec s Reports line = adds_closing spec s line
-adds_standing spec s Over line = tt
+adds_expected spec s Reports line = adds_closing spec s line
+adds_expected spec s Over line = tt
 
 adds_line : (spec : Parts) (s : ReadingState) (line : List ℕ) → Adds s (after_line spec s line)
-adds_line spec s line = either s (is_plain line) (standing_line spec s s.standing line) (Err 1) (adds_standing spec s s.standing line) tt
+adds_line spec s line = either s (is_plain line) (expected_line spec s s.expected line) (Err 1) (adds_expected spec s s.expected line) tt
 
 -- If a flight was read, it has at most `rows` rows and at most `reports` reports.
 abbrev UpTo : ℕ → ℕ → Result Flown TraceFault → Type 0
 UpTo rows reports (Ok flown) = (length flown.rows ≤ rows) × (length flown.reports ≤ reports)
 UpTo rows reports (Err fault) = ⊤
 
-up_to_end : (k more : ℕ) (s : ReadingState) (standing : Expected) → UpTo (length s.rows + more) (length s.reports + more) (at_end k s standing)
+up_to_end : (k more : ℕ) (s : ReadingState) (expected : Expected) → UpTo (length s.rows + more) (length s.reports + more) (at_end k s expected)
 up_to_end k more s Over = (omega arith, omega arith)
 up_to_end k more s Rows = tt
 up_to_end k more s (Apps a row) = tt
 up_to_end k more s Reports = tt
 
 up_to_last_by : (k more : ℕ) (s : ReadingState) (b : Bool) →
-    UpTo (length s.rows + more) (length s.reports + more) (if b then Err (fault_at k 1) else at_end k s s.standing)
+    UpTo (length s.rows + more) (length s.reports + more) (if b then Err (fault_at k 1) else at_end k s s.expected)
 up_to_last_by k more s true = tt
-up_to_last_by k more s false = up_to_end k more s s.standing
+up_to_last_by k more s false = up_to_end k more s s.expected
 
 wider : (rows reports more_rows more_reports : ℕ) (r : Result Flown TraceFault) → rows ≤ more_rows → reports ≤ more_reports →
     UpTo rows reports r → UpTo more_rows more_reports r
@@ -112,7 +112,7 @@ up_to_on k more s (Err rule) next adds rest = tt
 
 up_to_lines : (spec : Parts) (k : ℕ) (s : ReadingState) (lines : List (List ℕ)) →
     UpTo (length s.rows + length lines) (length s.reports + length lines) (trace_from spec k s lines)
-up_to_lines spec k s [] = up_to_end k 0 s s.standing
+up_to_lines spec k s [] = up_to_end k 0 s s.expected
 up_to_lines spec k s (last ∷ []) = up_to_last_by k 1 s (is_filled last)
 up_to_lines spec k s (line ∷ next ∷ lines) =
     up_to_on k (length (next ∷ lines)) s (after_line spec s line) (λ (t : ReadingState). trace_from spec (k + 1) t (next ∷ lines)) (adds_line spec s line)

@@ -60,7 +60,7 @@ same_lines spec s text other flown most more same wide reads =
     let low = reads.short in
     rw (← same) (record { read = reads.read; short = omega (arith, low, wide) })
 
-over_read : (spec : Parts) (rows : List Row) (reports : List Report) → Reads spec (record { rows = rows; reports = reports; standing = Over }) [] (record { rows = rows; reports = reports }) 0
+over_read : (spec : Parts) (rows : List Row) (reports : List Report) → Reads spec (record { rows = rows; reports = reports; expected = Over }) [] (record { rows = rows; reports = reports }) 0
 over_read spec rows reports = record { read = λ k. refl; short = omega arith }
 
 -- Lemmas on the lines of reconfigurations and the end line.
@@ -71,7 +71,7 @@ ending_read : (early : Bool) (spec : Parts) (rows : List Row) (seen reports : Li
 ending_read early spec rows seen [] sound few count shown =
     let all : length seen + 0 ≡ length seen = omega arith in
     let none : seen ++ [] ≡ seen = append-nil seen in
-    let last = before_lines spec (in_closing early rows seen) (record { rows = rows; reports = seen; standing = Over }) (end_line (length rows) (length seen)) [] (record { rows = rows; reports = seen }) 60 0
+    let last = before_lines spec (in_closing early rows seen) (record { rows = rows; reports = seen; expected = Over }) (end_line (length rows) (length seen)) [] (record { rows = rows; reports = seen }) 60 0
     (end_back early spec rows seen few (omega (arith, count))) (over_read spec rows seen) in
     rw (all, none) (same_lines spec (in_closing early rows seen) (end_line (length rows) (length seen) ++ []) (end_line (length rows) (length seen)) (record { rows = rows; reports = seen }) (60 + 0) 60
     (append-nil (end_line (length rows) (length seen))) (omega arith) last)

@@ -29,7 +29,7 @@ use Rattle.trace_text.specs.RowReading.{env_names, env_read, is_moving_form, is_
 use Rattle.std.specs.List.{list_all}
 use Rattle.trace_text.specs.Rules.{or_rule}
 use Rattle.trace_text.specs.Spelling.{signed_from, spelled_number}
-use Rattle.trace_text.specs.TraceReading.{ReadingState, after_line, begins, closing, is_plain, standing_line, with_done, with_end, with_report, with_row}
+use Rattle.trace_text.specs.TraceReading.{ReadingState, after_line, begins, closing, is_plain, expected_line, with_done, with_end, with_report, with_row}
 use Rattle.trace_text.proofs.FirstBroken.{least_from, reports_least, told_by}
 
 -- The last test of a reading reports its rule if the test fails, and no rule if it passes.
@@ -87,29 +87,29 @@ least_of spec s words form =
     ∷ keeps form (is_in_order spec words) ∷ keeps form (counts_rightly spec s words) ∷ true ∷ [])
 
 phases_case : (spec : Parts) (s : ReadingState) (words : Words) (p : Option Phase) (q : Option (List ℕ × List ℕ)) → sides_of (word_at words 3) ≡ q →
-    told_by (or_rule NO_FORM p (λ (phase : Phase). or_rule NO_FORM q (phase_line spec (app_due s.standing) words phase)))
+    told_by (or_rule NO_FORM p (λ (phase : Phase). or_rule NO_FORM q (phase_line spec (app_due s.expected) words phase)))
     ≡ least_of spec s words (cond (is_some p && is_some q) (Some PhaseApp) None)
 phases_case spec s words None q e = refl
 phases_case spec s words (Some phase) None e = refl
 phases_case spec s words (Some phase) (Some sides) e =
     rw e (phase_case (app_number spec (word_at words 1)) (proc_named spec (word_at words 4)) (spelled_number 256 sides.0) (spelled_number 256 sides.1)
-    (signed_from 8 6 words) (app_due s.standing) phase)
+    (signed_from 8 6 words) (app_due s.expected) phase)
 
 placed_case : (spec : Parts) (s : ReadingState) (words : Words) (ran : Bool) →
-    told_by (cond ran (ran_line spec (app_due s.standing) words)
-    (or_rule NO_FORM (phase_named (word_at words 2)) (λ (phase : Phase). or_rule NO_FORM (sides_of (word_at words 3)) (phase_line spec (app_due s.standing) words phase))))
+    told_by (cond ran (ran_line spec (app_due s.expected) words)
+    (or_rule NO_FORM (phase_named (word_at words 2)) (λ (phase : Phase). or_rule NO_FORM (sides_of (word_at words 3)) (phase_line spec (app_due s.expected) words phase))))
     ≡ least_of spec s words (cond ran (Some RanApp) (cond (is_some (phase_named (word_at words 2)) && is_some (sides_of (word_at words 3))) (Some PhaseApp) None))
 placed_case spec s words true =
-    ran_case (app_number spec (word_at words 1)) (λ (app : ℕ). listed_mode spec app (word_at words 3)) (proc_named spec (word_at words 4)) (signed_from 8 6 words) (app_due s.standing)
+    ran_case (app_number spec (word_at words 1)) (λ (app : ℕ). listed_mode spec app (word_at words 3)) (proc_named spec (word_at words 4)) (signed_from 8 6 words) (app_due s.expected)
 placed_case spec s words false = phases_case spec s words (phase_named (word_at words 2)) (sides_of (word_at words 3)) refl
 
 bare_act_case : (spec : Parts) (s : ReadingState) (words : Words) (told : Option Act) →
-    told_by (or_rule NO_FORM told (bare_line spec (app_due s.standing) words)) ≡ least_of spec s words (cond (is_some told) (Some BareApp) None)
+    told_by (or_rule NO_FORM told (bare_line spec (app_due s.expected) words)) ≡ least_of spec s words (cond (is_some told) (Some BareApp) None)
 bare_act_case spec s words None = refl
-bare_act_case spec s words (Some told) = bare_case (app_number spec (word_at words 1)) (signed_from 8 4 words) (app_due s.standing) told
+bare_act_case spec s words (Some told) = bare_case (app_number spec (word_at words 1)) (signed_from 8 4 words) (app_due s.expected) told
 
 app_case : (spec : Parts) (s : ReadingState) (words : Words) (placed bare : Bool) →
-    told_by (cond placed (placed_line spec (app_due s.standing) words) (cond bare (or_rule NO_FORM (bare_act (word_at words 2)) (bare_line spec (app_due s.standing) words)) (Err NO_FORM)))
+    told_by (cond placed (placed_line spec (app_due s.expected) words) (cond bare (or_rule NO_FORM (bare_act (word_at words 2)) (bare_line spec (app_due s.expected) words)) (Err NO_FORM)))
     ≡ least_of spec s words (cond placed
     (cond (is_word words 2 (codes "ran")) (Some RanApp) (cond (is_some (phase_named (word_at words 2)) && is_some (sides_of (word_at words 3))) (Some PhaseApp) None))
     (cond (bare && is_some (bare_act (word_at words 2))) (Some BareApp) None))
@@ -117,7 +117,7 @@ app_case spec s words true bare = placed_case spec s words (is_word words 2 (cod
 app_case spec s words false true = bare_act_case spec s words (bare_act (word_at words 2))
 app_case spec s words false false = refl
 
-app_least : (spec : Parts) (s : ReadingState) (words : Words) → told_by (app_in spec (app_due s.standing) words) ≡ least_of spec s words (app_form words)
+app_least : (spec : Parts) (s : ReadingState) (words : Words) → told_by (app_in spec (app_due s.expected) words) ≡ least_of spec s words (app_form words)
 app_least spec s words = app_case spec s words (is_placed_form words) (is_bare_form words)
 
 -- Lemmas on the lines of rows.
@@ -336,12 +336,12 @@ row_line_least spec s line first =
     row_told s (row_read spec (length s.rows) line)
     ∙ line_least spec s line (row_of_words spec (length s.rows)) (row_least spec s (words_of line) ∙ ap (least_of spec s (words_of line)) (row_formed spec line (words_of line) first))
 
-app_line_least : (spec : Parts) (s : ReadingState) (a : ℕ) (row : Row) (line : List ℕ) → app_due s.standing ≡ a → begins line (codes "app") ≡ true →
+app_line_least : (spec : Parts) (s : ReadingState) (a : ℕ) (row : Row) (line : List ℕ) → app_due s.expected ≡ a → begins line (codes "app") ≡ true →
     told_by (with_done spec s a row (app_read spec a line)) ≡ least_of spec s (words_of line) (line_form spec line)
 app_line_least spec s a row line due first =
     app_told spec s a row (app_read spec a line)
     ∙ ap (λ (n : ℕ). told_by (app_read spec n line)) (sym due)
-    ∙ line_least spec s line (app_in spec (app_due s.standing)) (app_least spec s (words_of line) ∙ ap (least_of spec s (words_of line)) (app_formed spec line (words_of line) first))
+    ∙ line_least spec s line (app_in spec (app_due s.expected)) (app_least spec s (words_of line) ∙ ap (least_of spec s (words_of line)) (app_formed spec line (words_of line) first))
 
 report_line_least : (spec : Parts) (s : ReadingState) (line : List ℕ) → begins line (codes "reconfiguration") ≡ true →
     told_by (with_report s (report_read spec (length s.rows) line)) ≡ least_of spec s (words_of line) (line_form spec line)
@@ -373,25 +373,25 @@ open_case : (spec : Parts) (s : ReadingState) (line : List ℕ) (frame : Bool) �
 open_case spec s line true first = row_line_least spec s line first
 open_case spec s line false first = closing_case spec s line (begins line (codes "reconfiguration")) (begins line (codes "end")) refl refl
 
-due_case : (spec : Parts) (s : ReadingState) (a : ℕ) (row : Row) (line : List ℕ) (app : Bool) → app_due s.standing ≡ a → begins line (codes "app") ≡ app →
+due_case : (spec : Parts) (s : ReadingState) (a : ℕ) (row : Row) (line : List ℕ) (app : Bool) → app_due s.expected ≡ a → begins line (codes "app") ≡ app →
     told_by (cond app (with_done spec s a row (app_read spec a line)) (Err OUT_OF_PLACE)) ≡ placed_least spec s line app
 due_case spec s a row line true due first = app_line_least spec s a row line due first
 due_case spec s a row line false due first = refl
 
 -- For each of rules 2 to 9, whether a line satisfies the rule.
 abbrev kept_after : Parts → ReadingState → Expected → List ℕ → List Bool
-kept_after spec s standing line =
-    is_in_place standing line ∷ has_form spec standing line ∷ keeps (asked_form spec standing line) (knows_names spec (words_of line))
-    ∷ keeps (asked_form spec standing line) (spells_numbers (words_of line)) ∷ keeps (asked_form spec standing line) (is_due spec s (words_of line))
-    ∷ keeps (asked_form spec standing line) (is_in_order spec (words_of line)) ∷ keeps (asked_form spec standing line) (counts_rightly spec s (words_of line))
-    ∷ is_open standing ∷ []
+kept_after spec s expected line =
+    is_in_place expected line ∷ has_form spec expected line ∷ keeps (asked_form spec expected line) (knows_names spec (words_of line))
+    ∷ keeps (asked_form spec expected line) (spells_numbers (words_of line)) ∷ keeps (asked_form spec expected line) (is_due spec s (words_of line))
+    ∷ keeps (asked_form spec expected line) (is_in_order spec (words_of line)) ∷ keeps (asked_form spec expected line) (counts_rightly spec s (words_of line))
+    ∷ is_open expected ∷ []
 
-standing_case : (spec : Parts) (s : ReadingState) (line : List ℕ) (standing : Expected) → s.standing ≡ standing →
-    told_by (standing_line spec s standing line) ≡ least_from 2 (kept_after spec s standing line)
-standing_case spec s line Rows is = open_case spec s line (begins line (codes "frame")) refl
-standing_case spec s line (Apps a row) is = due_case spec s a row line (begins line (codes "app")) (ap app_due is) refl
-standing_case spec s line Reports is = closing_case spec s line (begins line (codes "reconfiguration")) (begins line (codes "end")) refl refl
-standing_case spec s line Over is = refl
+expected_case : (spec : Parts) (s : ReadingState) (line : List ℕ) (expected : Expected) → s.expected ≡ expected →
+    told_by (expected_line spec s expected line) ≡ least_from 2 (kept_after spec s expected line)
+expected_case spec s line Rows is = open_case spec s line (begins line (codes "frame")) refl
+expected_case spec s line (Apps a row) is = due_case spec s a row line (begins line (codes "app")) (ap app_due is) refl
+expected_case spec s line Reports is = closing_case spec s line (begins line (codes "reconfiguration")) (begins line (codes "end")) refl refl
+expected_case spec s line Over is = refl
 
 plain_case : (plain : Bool) (read : Result ReadingState ℕ) (more : List Bool) → told_by read ≡ least_from 2 more → told_by (cond plain read (Err BROKEN_LINE)) ≡ least_from 1 (plain ∷ more)
 plain_case true read more h = h
@@ -399,5 +399,5 @@ plain_case false read more h = refl
 
 pub least_rule : LeastRuleIsReported
 least_rule spec s line =
-    reports_least 1 (is_plain line ∷ kept_after spec s s.standing line) (after_line spec s line)
-    (plain_case (is_plain line) (standing_line spec s s.standing line) (kept_after spec s s.standing line) (standing_case spec s line s.standing refl))
+    reports_least 1 (is_plain line ∷ kept_after spec s s.expected line) (after_line spec s line)
+    (plain_case (is_plain line) (expected_line spec s s.expected line) (kept_after spec s s.expected line) (expected_case spec s line s.expected refl))

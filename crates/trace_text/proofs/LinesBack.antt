@@ -25,7 +25,7 @@ use Rattle.trace_text.specs.Flights.{IsActShown, IsAreaShown, IsRun, IsShown, Is
 use Rattle.trace_text.specs.Pieces.{is_filled, sides_of}
 use Rattle.trace_text.specs.Spelling.{signed_from, signed_of, spelled_number}
 use Rattle.trace_text.specs.Text.{app_line, area_text}
-use Rattle.trace_text.specs.TraceReading.{ReadingState, after_app, is_plain, standing_line, with_app}
+use Rattle.trace_text.specs.TraceReading.{ReadingState, after_app, is_plain, expected_line, with_app}
 use Rattle.trace_text.proofs.AppOnly.{phase_line_text, tag_of}
 use Rattle.trace_text.proofs.NamesBack.{app_found_back, listed_back, mode_spelled, mode_valid, proc_back}
 use Rattle.trace_text.proofs.Shapes.{bare_shape, ran_shape}
@@ -38,11 +38,11 @@ pub record LineBack (spec : Parts) (s t : ReadingState) (text : List ℕ) (most 
   pub line : List ℕ
   pub text_is : text ≡ line ++ codes "\n"
   pub plain : is_plain line ≡ true
-  pub read : standing_line spec s s.standing line ≡ Ok t
+  pub read : expected_line spec s s.expected line ≡ Ok t
   pub short : length text ≤ most
 
 pub from_words : (spec : Parts) (s t : ReadingState) (word : List ℕ) (words : List (List ℕ)) (text : List ℕ) (most : ℕ) → list_all is_visible (word ∷ words) ≡ true → width (word ∷ words) ≤ most → most ≤ 513 →
-    line_of (word ∷ words) ++ codes "\n" ≡ text → standing_line spec s s.standing (line_of (word ∷ words)) ≡ Ok t → LineBack spec s t text most
+    line_of (word ∷ words) ++ codes "\n" ≡ text → expected_line spec s s.expected (line_of (word ∷ words)) ≡ Ok t → LineBack spec s t text most
 from_words spec s t word words text most visible narrow few is read =
     let size = line_length word words in
     let sum = length-append (line_of (word ∷ words)) (codes "\n") in
@@ -138,7 +138,7 @@ area_bare name tag area shown =
 -- Lemmas on the lines of applications.
 
 abbrev pub in_apps : List Row → List Report → ℕ → Row → ReadingState
-in_apps rows reports a row = record { rows = rows; reports = reports; standing = Apps a row }
+in_apps rows reports a row = record { rows = rows; reports = reports; expected = Apps a row }
 
 abbrev AppBack : Parts → List Row → List Report → ℕ → Row → AppSpec → Act → List ℤ → Type 0
 AppBack spec rows reports a row app did area =
@@ -146,7 +146,7 @@ AppBack spec rows reports a row app did area =
 
 app_taken : (spec : Parts) (rows : List Row) (reports : List Report) (a : ℕ) (row : Row) (words : List (List ℕ)) (did : Act) (area : List ℤ) →
     list_all is_visible (codes "app" ∷ words) ≡ true → nat_le (length (codes "app" ∷ words)) 16 ≡ true → app_in spec a (codes "app" ∷ words) ≡ Ok (done did area) →
-    standing_line spec (in_apps rows reports a row) (Apps a row) (line_of (codes "app" ∷ words)) ≡ Ok (after_app spec (in_apps rows reports a row) a (with_app row a did area))
+    expected_line spec (in_apps rows reports a row) (Apps a row) (line_of (codes "app" ∷ words)) ≡ Ok (after_app spec (in_apps rows reports a row) a (with_app row a did area))
 app_taken spec rows reports a row words did area visible few read =
     rw (words_in_back (codes "app") words visible few, words_back (codes "app") words visible, read) refl
 

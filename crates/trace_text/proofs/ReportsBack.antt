@@ -17,7 +17,7 @@ use Rattle.trace_text.specs.Flights.{IsEndShown, IsReportShown}
 use Rattle.trace_text.specs.Pieces.{words_of}
 use Rattle.trace_text.specs.ReportReading.{bound_or_none, end_in, report_in, same_bound}
 use Rattle.trace_text.specs.Text.{bound_text, end_line, report_line}
-use Rattle.trace_text.specs.TraceReading.{ReadingState, begins, closing, standing_line}
+use Rattle.trace_text.specs.TraceReading.{ReadingState, begins, closing, expected_line}
 use Rattle.trace_text.proofs.NamesBack.{conf_back, conf_found_back, name_not_dash, not_dash}
 use Rattle.trace_text.proofs.Shapes.{end_shape, finished_shape, unfinished_shape}
 use Rattle.trace_text.proofs.WordBytes.{decimal_over, decimal_visible, is_visible, line_of, name_short, name_visible, words_back, words_in_back}
@@ -29,16 +29,16 @@ closing_by true = Rows
 closing_by false = Reports
 
 abbrev pub in_closing : Bool → List Row → List Report → ReadingState
-in_closing early rows reports = record { rows = rows; reports = reports; standing = closing_by early }
+in_closing early rows reports = record { rows = rows; reports = reports; expected = closing_by early }
 
 closing_taken : (early : Bool) (spec : Parts) (rows : List Row) (reports : List Report) (line : List ℕ) → begins line (codes "frame") ≡ false →
-    standing_line spec (in_closing early rows reports) (closing_by early) line ≡ closing spec (in_closing early rows reports) line
+    expected_line spec (in_closing early rows reports) (closing_by early) line ≡ closing spec (in_closing early rows reports) line
 closing_taken true spec rows reports line other = rw other refl
 closing_taken false spec rows reports line other = refl
 
 report_taken : (early : Bool) (spec : Parts) (rows : List Row) (reports : List Report) (words : List (List ℕ)) (report : Report) → list_all is_visible (codes "reconfiguration" ∷ words) ≡ true →
     nat_le (length (codes "reconfiguration" ∷ words)) 16 ≡ true → report_in spec (length rows) (codes "reconfiguration" ∷ words) ≡ Ok report →
-    standing_line spec (in_closing early rows reports) (closing_by early) (line_of (codes "reconfiguration" ∷ words)) ≡ Ok (in_closing false rows (reports ++ report ∷ []))
+    expected_line spec (in_closing early rows reports) (closing_by early) (line_of (codes "reconfiguration" ∷ words)) ≡ Ok (in_closing false rows (reports ++ report ∷ []))
 report_taken early spec rows reports words report visible few read =
     let line = line_of (codes "reconfiguration" ∷ words) in
     let first : words_of line ≡ codes "reconfiguration" ∷ words = words_back (codes "reconfiguration") words visible in
@@ -48,7 +48,7 @@ report_taken early spec rows reports words report visible few read =
 
 end_taken : (early : Bool) (spec : Parts) (rows : List Row) (reports : List Report) (words : List (List ℕ)) → list_all is_visible (codes "end" ∷ words) ≡ true →
     nat_le (length (codes "end" ∷ words)) 16 ≡ true → end_in (length rows) (length reports) (codes "end" ∷ words) ≡ Ok tt →
-    standing_line spec (in_closing early rows reports) (closing_by early) (line_of (codes "end" ∷ words)) ≡ Ok (record { rows = rows; reports = reports; standing = Over })
+    expected_line spec (in_closing early rows reports) (closing_by early) (line_of (codes "end" ∷ words)) ≡ Ok (record { rows = rows; reports = reports; expected = Over })
 end_taken early spec rows reports words visible few read =
     let line = line_of (codes "end" ∷ words) in
     let first : words_of line ≡ codes "end" ∷ words = words_back (codes "end") words visible in
@@ -57,19 +57,19 @@ end_taken early spec rows reports words visible few read =
     ∙ rw (words_in_back (codes "end") words visible few, first, read) refl
 
 -- The bound, if it is given, is at most 1000 frames.
-abbrev IsSmall : Option ℕ → Type 0
-IsSmall given = IfSome given (λ (frames : ℕ). frames ≤ 1000)
+abbrev pub IsSmallBound : Option ℕ → Type 0
+IsSmallBound given = IfSome given (λ (frames : ℕ). frames ≤ 1000)
 
-small_by : (t : Bool) (frames : ℕ) (more : Option ℕ) → frames ≤ 1000 → IsSmall more → IsSmall (cond t (Some frames) more)
+small_by : (t : Bool) (frames : ℕ) (more : Option ℕ) → frames ≤ 1000 → IsSmallBound more → IsSmallBound (cond t (Some frames) more)
 small_by true frames more one rest = one
 small_by false frames more one rest = rest
 
-bound_small : (spec : Parts) (bounds : List Bound) (from to : ℕ) → Each (IsBound spec.confs) bounds → IsSmall (bound_in bounds from to)
+pub bound_small : (spec : Parts) (bounds : List Bound) (from to : ℕ) → Each (IsBound spec.confs) bounds → IsSmallBound (bound_in bounds from to)
 bound_small spec [] from to sound = tt
 bound_small spec (bound ∷ bounds) from to sound =
     small_by (bound.from.0 == from && bound.to.0 == to) bound.frames (bound_in bounds from to) (sound 0 bound refl).most (bound_small spec bounds from to (λ i x there. sound (suc i) x there))
 
-greater_small : (greatest : Option ℕ) (frames : ℕ) → IsSmall greatest → frames ≤ 1000 → greater_of greatest frames ≤ 1000
+greater_small : (greatest : Option ℕ) (frames : ℕ) → IsSmallBound greatest → frames ≤ 1000 → greater_of greatest frames ≤ 1000
 greater_small None frames h one = one
 greater_small (Some most) frames h one = by (nat_lt most frames)
   where
@@ -77,7 +77,7 @@ greater_small (Some most) frames h one = by (nat_lt most frames)
     by true = one
     by false = h
 
-greatest_small : (spec : Parts) (bounds : List Bound) (from : ℕ) (greatest : Option ℕ) → Each (IsBound spec.confs) bounds → IsSmall greatest → IsSmall (greatest_bound_from greatest bounds from)
+pub greatest_small : (spec : Parts) (bounds : List Bound) (from : ℕ) (greatest : Option ℕ) → Each (IsBound spec.confs) bounds → IsSmallBound greatest → IsSmallBound (greatest_bound_from greatest bounds from)
 greatest_small spec [] from greatest sound h = h
 greatest_small spec (bound ∷ bounds) from greatest sound h =
     greatest_small spec bounds from (cond (bound.from.0 == from) (Some (greater_of greatest bound.frames)) greatest) (λ i x there. sound (suc i) x there)
@@ -88,7 +88,7 @@ pub record BoundBack (given : Option ℕ) : Type 0 where
   pub short : length (bound_text given) ≤ 4
   pub found : bound_or_none (bound_text given) ≡ Some given
 
-bound_back : (given : Option ℕ) → IsSmall given → BoundBack given
+bound_back : (given : Option ℕ) → IsSmallBound given → BoundBack given
 bound_back None small = record { visible = refl; short = omega arith; found = refl }
 bound_back (Some frames) small = record {
   visible = decimal_visible frames (omega (arith, small));
@@ -190,7 +190,7 @@ report_back early spec rows reports report sound few shown =
     report_by early spec rows reports report.from report.to report.begin report.end sound few shown.source shown.target shown.begun shown.ordered shown.ended
 
 pub end_back : (early : Bool) (spec : Parts) (rows : List Row) (reports : List Report) → length rows ≤ MAX_FRAMES → length reports ≤ MAX_FRAMES →
-    LineBack spec (in_closing early rows reports) (record { rows = rows; reports = reports; standing = Over }) (end_line (length rows) (length reports)) 60
+    LineBack spec (in_closing early rows reports) (record { rows = rows; reports = reports; expected = Over }) (end_line (length rows) (length reports)) 60
 end_back early spec rows reports few low =
     let one = frame_short (length rows) few in
     let two = frame_short (length reports) low in

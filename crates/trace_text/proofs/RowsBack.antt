@@ -19,7 +19,7 @@ use Rattle.trace_text.specs.Flights.{IsEnvShown, IsModeShown, IsMove, IsWorldSho
 use Rattle.trace_text.specs.Names.{conf_or_dash}
 use Rattle.trace_text.specs.RowReading.{row_begun, row_of_words}
 use Rattle.trace_text.specs.Text.{row_line, up_text, values_text}
-use Rattle.trace_text.specs.TraceReading.{ReadingState, standing_line}
+use Rattle.trace_text.specs.TraceReading.{ReadingState, expected_line}
 use Rattle.trace_text.proofs.ListsBack.{up_text_back, values_text_back}
 use Rattle.trace_text.proofs.NamesBack.{conf_back, conf_found_back, conf_or_dash_back}
 use Rattle.trace_text.proofs.Shapes.{moving_shape, stable_shape}
@@ -27,11 +27,11 @@ use Rattle.trace_text.proofs.WordBytes.{decimal_visible, is_visible, line_of, na
 use Rattle.trace_text.proofs.LinesBack.{LineBack, frame_short, from_words, in_apps, number_back, shown_back, shown_short, shown_visible}
 
 abbrev pub in_rows : List Row → List Report → ReadingState
-in_rows rows reports = record { rows = rows; reports = reports; standing = Rows }
+in_rows rows reports = record { rows = rows; reports = reports; expected = Rows }
 
 row_taken : (spec : Parts) (rows : List Row) (reports : List Report) (words : List (List ℕ)) (row : Row) →
     list_all is_visible (codes "frame" ∷ words) ≡ true → nat_le (length (codes "frame" ∷ words)) 16 ≡ true → row_of_words spec (length rows) (codes "frame" ∷ words) ≡ Ok row →
-    standing_line spec (in_rows rows reports) Rows (line_of (codes "frame" ∷ words)) ≡ Ok (in_apps rows reports 0 row)
+    expected_line spec (in_rows rows reports) Rows (line_of (codes "frame" ∷ words)) ≡ Ok (in_apps rows reports 0 row)
 row_taken spec rows reports words row visible few read =
     rw (words_in_back (codes "frame") words visible few, words_back (codes "frame") words visible, read) refl
 

@@ -137,7 +137,7 @@ is_frame_due s words = is_some_and (spelled_number MAX_FRAMES (word_at words 1))
 
 -- The line names the application whose line is expected.
 abbrev pub is_app_due : Parts → ReadingState → Words → Bool
-is_app_due spec s words = is_some_and (app_number spec (word_at words 1)) (λ (app : ℕ). app == app_due s.standing)
+is_app_due spec s words = is_some_and (app_number spec (word_at words 1)) (λ (app : ℕ). app == app_due s.expected)
 
 -- Rule 6: a row has the expected frame, and the line of an application names the expected application.
 abbrev pub is_due : Parts → ReadingState → Words → Form → Bool
@@ -216,14 +216,14 @@ asked_form spec Over line = None
 abbrev pub breaks_rule : Parts → ReadingState → List ℕ → ℕ → Bool
 breaks_rule spec s line rule =
     if rule == BROKEN_LINE then not (is_plain line)
-    else (if rule == OUT_OF_PLACE then not (is_in_place s.standing line)
-    else (if rule == NO_FORM then not (has_form spec s.standing line)
-    else (if rule == UNKNOWN_NAME then not (keeps (asked_form spec s.standing line) (knows_names spec (words_of line)))
-    else (if rule == WRONG_NUMBER then not (keeps (asked_form spec s.standing line) (spells_numbers (words_of line)))
-    else (if rule == NOT_NEXT then not (keeps (asked_form spec s.standing line) (is_due spec s (words_of line)))
-    else (if rule == OUT_OF_ORDER then not (keeps (asked_form spec s.standing line) (is_in_order spec (words_of line)))
-    else (if rule == WRONG_COUNT then not (keeps (asked_form spec s.standing line) (counts_rightly spec s (words_of line)))
-    else (if rule == WRONG_END then not (is_open s.standing) else false))))))))
+    else (if rule == OUT_OF_PLACE then not (is_in_place s.expected line)
+    else (if rule == NO_FORM then not (has_form spec s.expected line)
+    else (if rule == UNKNOWN_NAME then not (keeps (asked_form spec s.expected line) (knows_names spec (words_of line)))
+    else (if rule == WRONG_NUMBER then not (keeps (asked_form spec s.expected line) (spells_numbers (words_of line)))
+    else (if rule == NOT_NEXT then not (keeps (asked_form spec s.expected line) (is_due spec s (words_of line)))
+    else (if rule == OUT_OF_ORDER then not (keeps (asked_form spec s.expected line) (is_in_order spec (words_of line)))
+    else (if rule == WRONG_COUNT then not (keeps (asked_form spec s.expected line) (counts_rightly spec s (words_of line)))
+    else (if rule == WRONG_END then not (is_open s.expected) else false))))))))
 
 -- The result of a reading is `Ok` if no rule is broken, or else `Err` with the broken rule of the smallest number.
 abbrev pub ReportsLeast : {A : Type 0} → (ℕ → Bool) → Result A ℕ → Type 0

@@ -27,7 +27,7 @@ use Rattle.trace_text.specs.declared.rule.TheConstants.{BROKEN_LINE, OUT_OF_PLAC
 pub record ReadingState : Type 0 where
   pub rows : List Row
   pub reports : List Report
-  pub standing : Expected
+  pub expected : Expected
 
 -- The maximum number of rows that have been read when these lines are expected. Frames are below 20,000.
 abbrev pub rows_before : Expected → ℕ
@@ -38,7 +38,7 @@ rows_before Over = MAX_FRAMES
 
 -- The state before the first line, in which a row may begin.
 abbrev pub before_first : ReadingState
-before_first = record { rows = []; reports = []; standing = Rows }
+before_first = record { rows = []; reports = []; expected = Rows }
 
 -- The byte is printable in ASCII. The space counts as printable.
 abbrev pub is_printable : ℕ → Bool
@@ -60,13 +60,13 @@ with_app row a act area =
 -- The state after the line of application `a` of a row. The row is complete after its last application.
 abbrev pub after_app : Parts → ReadingState → ℕ → Row → ReadingState
 after_app spec s a row =
-    if nat_lt (a + 1) (length spec.apps) then record { rows = s.rows; reports = s.reports; standing = Apps (a + 1) row }
-    else record { rows = s.rows ++ row ∷ []; reports = s.reports; standing = Rows }
+    if nat_lt (a + 1) (length spec.apps) then record { rows = s.rows; reports = s.reports; expected = Apps (a + 1) row }
+    else record { rows = s.rows ++ row ∷ []; reports = s.reports; expected = Rows }
 
 -- The state after the first line of a row, given the result of reading the line. The lines of the row's applications
 -- are expected next.
 abbrev pub with_row : ReadingState → Result Row ℕ → Result ReadingState ℕ
-with_row s (Ok row) = Ok (record { rows = s.rows; reports = s.reports; standing = Apps 0 row })
+with_row s (Ok row) = Ok (record { rows = s.rows; reports = s.reports; expected = Apps 0 row })
 with_row s (Err rule) = Err rule
 
 -- The state after the line of application `a`, given the result of reading the line. The act and the area in the line
@@ -77,12 +77,12 @@ with_done spec s a row (Err rule) = Err rule
 
 -- The state after the line of a reconfiguration, given the result of reading the line. No row may come after it.
 abbrev pub with_report : ReadingState → Result Report ℕ → Result ReadingState ℕ
-with_report s (Ok report) = Ok (record { rows = s.rows; reports = s.reports ++ report ∷ []; standing = Reports })
+with_report s (Ok report) = Ok (record { rows = s.rows; reports = s.reports ++ report ∷ []; expected = Reports })
 with_report s (Err rule) = Err rule
 
 -- The state after the end line, given the result of reading the line. No line may come after it.
 abbrev pub with_end : ReadingState → Result ⊤ ℕ → Result ReadingState ℕ
-with_end s (Ok done) = Ok (record { rows = s.rows; reports = s.reports; standing = Over })
+with_end s (Ok done) = Ok (record { rows = s.rows; reports = s.reports; expected = Over })
 with_end s (Err rule) = Err rule
 
 -- The state after a line that has to be a reconfiguration or the end line, or the first rule that the line breaks.
@@ -93,17 +93,17 @@ closing spec s line =
 
 -- The state after a further printable line, given the lines that may come here, or the first rule that the line
 -- breaks.
-abbrev pub standing_line : Parts → ReadingState → Expected → List ℕ → Result ReadingState ℕ
-standing_line spec s Rows line =
+abbrev pub expected_line : Parts → ReadingState → Expected → List ℕ → Result ReadingState ℕ
+expected_line spec s Rows line =
     if begins line (codes "frame") then with_row s (row_read spec (length s.rows) line) else closing spec s line
-standing_line spec s (Apps a row) line =
+expected_line spec s (Apps a row) line =
     if begins line (codes "app") then with_done spec s a row (app_read spec a line) else Err OUT_OF_PLACE
-standing_line spec s Reports line = closing spec s line
-standing_line spec s Over line = Err WRONG_END
+expected_line spec s Reports line = closing spec s line
+expected_line spec s Over line = Err WRONG_END
 
 -- The state after a line that is read in state `s`, or the first rule that the line breaks.
 abbrev pub after_line : Parts → ReadingState → List ℕ → Result ReadingState ℕ
-after_line spec s line = if is_plain line then standing_line spec s s.standing line else Err BROKEN_LINE
+after_line spec s line = if is_plain line then expected_line spec s s.expected line else Err BROKEN_LINE
 
 -- The fault of breaking a rule in a line. Lines are counted from 1.
 abbrev pub fault_at : ℕ → ℕ → TraceFault
@@ -119,7 +119,7 @@ at_end k s Reports = Err (fault_at k WRONG_END)
 
 -- The result after the last line feed, given the bytes `last` after it. Rule 1 requires that there are none.
 abbrev pub at_last : ℕ → ReadingState → List ℕ → Result Flown TraceFault
-at_last k s last = if is_filled last then Err (fault_at k BROKEN_LINE) else at_end k s s.standing
+at_last k s last = if is_filled last then Err (fault_at k BROKEN_LINE) else at_end k s s.expected
 
 -- The result after line `k`: that of `next` for the state after the line, or a fault if the line breaks a rule.
 abbrev pub go_on : ℕ → Result ReadingState ℕ → (ReadingState → Result Flown TraceFault) → Result Flown TraceFault
@@ -129,7 +129,7 @@ go_on k (Err rule) next = Err (fault_at k rule)
 -- The result of reading from line `k` on, given the state before the line, the remaining lines, and the bytes after
 -- the last line feed as the last item of the list.
 abbrev pub trace_from : Parts → ℕ → ReadingState → List (List ℕ) → Result Flown TraceFault
-trace_from spec k s [] = at_end k s s.standing
+trace_from spec k s [] = at_end k s s.expected
 trace_from spec k s (last ∷ []) = at_last k s last
 trace_from spec k s (line ∷ next ∷ lines) =
     go_on k (after_line spec s line) (λ (t : ReadingState). trace_from spec (k + 1) t (next ∷ lines))

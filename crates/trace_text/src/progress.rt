@@ -4,7 +4,7 @@
 ghost use Rattle.std.specs.Prelude.{◌≡◌, ◌≤◌, ◌<◌, Ok, length};
 ghost use Rattle.std.specs.List.{list_all};
 ghost use Rattle.trace_text.specs.ReportReading.{report_read};
-ghost use Rattle.trace_text.specs.TraceReading.{AnswersLine, after_app, after_line, before_first, begins, closing, is_plain, is_printable, standing_line, with_app, with_report};
+ghost use Rattle.trace_text.specs.TraceReading.{AnswersLine, after_app, after_line, before_first, begins, closing, is_plain, is_printable, expected_line, with_app, with_report};
 ghost use Rattle.trace_text.specs.declared.progress.Expected.TheVariants.{Apps, Rows};
 ghost use Rattle.scram_types.specs.declared.limits.TheConstants.{MAX_FRAMES};
 
@@ -44,7 +44,7 @@ pub enum Stop {
 pub struct Progress {
     pub rows: Vec<Row>,
     pub reports: Vec<Report>,
-    pub standing: Expected,
+    pub expected: Expected,
 }
 
 impl std::marker::Model for Progress {
@@ -53,9 +53,9 @@ impl std::marker::Model for Progress {
 
     ghost Value = { ReadingState };
 
-    ghost view = { λ p. record { rows = p.rows.items; reports = p.reports.items; standing = p.standing } };
+    ghost view = { λ p. record { rows = p.rows.items; reports = p.reports.items; expected = p.expected } };
 
-    ghost invariant = { λ p. length p.rows.items ≤ rows_before p.standing };
+    ghost invariant = { λ p. length p.rows.items ≤ rows_before p.expected };
 }
 
 impl Progress {
@@ -66,7 +66,7 @@ impl Progress {
         Progress {
             rows: Vec::new(alloc),
             reports: Vec::new(alloc),
-            standing: Expected::Rows,
+            expected: Expected::Rows,
         }
     }
 
@@ -81,7 +81,7 @@ impl Progress {
         if !is_printable_line(line) {
             return Err(Stop::Rule(rule::BROKEN_LINE));
         }
-        match self.standing {
+        match self.expected {
             Expected::Rows => self.read_open(spec, line),
             Expected::Apps(a, row) => self.read_app_line(spec, a, row, line),
             Expected::Reports => self.read_closing(spec, line),
@@ -91,8 +91,8 @@ impl Progress {
 
     // Reads a line in a state in which a row may begin.
     fn read_open(self, spec: &Spec, line: &[u8]) -> Result<Progress, Stop>
-        requires { self.standing ≡ Rows }
-        ensures { AnswersLine (standing_line spec.now self Rows line.now) result }
+        requires { self.expected ≡ Rows }
+        ensures { AnswersLine (expected_line spec.now self Rows line.now) result }
     {
         if !is_begun(line, b"frame") {
             return self.read_closing(spec, line);
@@ -101,7 +101,7 @@ impl Progress {
             Ok(row) => Ok(Progress {
                 rows: self.rows,
                 reports: self.reports,
-                standing: Expected::Apps(0, row),
+                expected: Expected::Apps(0, row),
             }),
             Err(rule) => Err(Stop::Rule(rule)),
         }
@@ -110,7 +110,7 @@ impl Progress {
     // Reads a line that has to be the line of application `a`.
     fn read_app_line(self, spec: &Spec, a: u8, row: Row, line: &[u8]) -> Result<Progress, Stop>
         requires { length self.rows < MAX_FRAMES }
-        ensures { AnswersLine (standing_line spec.now self (Apps a row) line.now) result }
+        ensures { AnswersLine (expected_line spec.now self (Apps a row) line.now) result }
     {
         if !is_begun(line, b"app") {
             return Err(Stop::Rule(rule::OUT_OF_PLACE));
@@ -130,14 +130,14 @@ impl Progress {
         let count = spec.apps.items().len();
         let row = row_with(row, a, done);
         if usize::from(a) + 1 < count {
-            self.standing = Expected::Apps(a + 1, row);
+            self.expected = Expected::Apps(a + 1, row);
             return Ok(self);
         }
         match self.rows.push(row) {
             Ok(()) => {}
             Err(_) => return Err(Stop::NoMemory),
         }
-        self.standing = Expected::Rows;
+        self.expected = Expected::Rows;
         Ok(self)
     }
 
@@ -156,7 +156,7 @@ impl Progress {
             Ok(()) => Ok(Progress {
                 rows: self.rows,
                 reports: self.reports,
-                standing: Expected::Over,
+                expected: Expected::Over,
             }),
             Err(rule) => Err(Stop::Rule(rule)),
         }
@@ -173,7 +173,7 @@ impl Progress {
             },
             Err(rule) => return Err(Stop::Rule(rule)),
         }
-        self.standing = Expected::Reports;
+        self.expected = Expected::Reports;
         Ok(self)
     }
 }

@@ -90,7 +90,7 @@ fn finish(progress: Progress, line: u32, last: &[u8]) -> Result<Flown, TraceErro
             rule: rule::BROKEN_LINE,
         }));
     }
-    match progress.standing {
+    match progress.expected {
         Expected::Over => Ok(Flown {
             rows: List::of(progress.rows),
             reports: List::of(progress.reports),

@@ -2,7 +2,7 @@ use Rattle.std.proofs.Common.{◌∙◌, ap, arith, ℕ, [], length, refl}
 use Rattle.std.specs.Prelude.{replicate}
 use Rattle.scram_types.proofs.Items.{zeros_everywhere}
 use Rattle.dep_order.specs.declared.timetables.Phase.TheVariants as phase
-use Rattle.dep_order.specs.Timetables.{Holds, halt_chart, halt_offset, halt_time, init_chart, init_offset, init_time, phase_length, prepare_time, timed_chart}
+use Rattle.dep_order.specs.Timetables.{IsTableOf, halt_chart, halt_offset, halt_time, init_chart, init_offset, init_time, phase_length, prepare_time, timed_chart}
 use Rattle.dep_order.proofs.Charts.{same_offset}
 use Rattle.dep_order.proofs.Lengths.{kept_is, length_alone, length_is, same_times, timed_agree, times_most}
 use Rattle.dep_order.proofs.Modes.{timed}
@@ -39,7 +39,7 @@ length_of_phase-requires-3-clause-times c = λ a less.
     (λ b. (timed c.args.spec.now known c.args.c b).init) c.times_in-init_times.ensures c.count_apps-count.result (omega arith) a less
 
 -- The offsets are those of the halt chart and of the init chart.
-halt_holds : (c : goal.After-length_of_phase-3) → Holds (halt_offset c.args.spec.now c.args.c) (length c.args.spec.now.apps) c.offsets_in-halt_offsets.result
+halt_holds : (c : goal.After-length_of_phase-3) → IsTableOf (halt_offset c.args.spec.now c.args.c) (length c.args.spec.now.apps) c.offsets_in-halt_offsets.result
 halt_holds c = λ a less.
     let known = c.count_apps-count.ensures.known in
     c.offsets_in-halt_offsets.ensures.offsets a less
@@ -48,7 +48,7 @@ halt_holds c = λ a less.
     (λ b. (timed c.args.spec.now known c.args.c b).halt) c.times_in-halt_times.ensures phase.Halt (halt_chart c.args.spec.now c.args.c)
     refl (λ b. refl) (λ b d. refl) (λ b. refl)) a
 
-init_holds : (c : goal.After-length_of_phase-3) → Holds (init_offset c.args.spec.now c.args.c) (length c.args.spec.now.apps) c.offsets_in-init_offsets.result
+init_holds : (c : goal.After-length_of_phase-3) → IsTableOf (init_offset c.args.spec.now c.args.c) (length c.args.spec.now.apps) c.offsets_in-init_offsets.result
 init_holds c = λ a less.
     let known = c.count_apps-count.ensures.known in
     c.offsets_in-init_offsets.ensures.offsets a less
