@@ -27,8 +27,8 @@ use trace_text::lines::Line;
 pub const MAX_BREAK_LINES: usize = 64;
 
 /// Returns a line for each place at which a condition of acceptance does not hold, in order. If there are more than
-/// [`MAX_BREAK_LINES`] places, only the first of them have a line, and a last line has the number of the others. The
-/// text is empty if the number of the condition is not 1 to 13.
+/// [`MAX_BREAK_LINES`] places, only the first [`MAX_BREAK_LINES`] places have a line, and a last line gives the
+/// number of the other places. The text is empty if the number of the condition is not 1 to 13.
 ///
 /// # Errors
 ///

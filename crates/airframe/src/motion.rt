@@ -132,8 +132,9 @@ fn fly(motion: &Motion) -> World
 /// 300), heading (tenths of a degree, 0 to 3,599) and bank (tenths of a degree, -300 to 300) are clamped to their
 /// ranges.
 ///
-/// The climb goes a quarter of the way to the elevator, and the bank half of the way to the aileron. The altitude gains
-/// a tenth of the new climb, and the heading turns by a tenth of the new bank, around the circle.
+/// The new climb is the old climb, moved a quarter of the way to the elevator. The new bank is the old bank, moved
+/// half of the way to the aileron. The altitude gains a tenth of the new climb, and the heading turns by a tenth of
+/// the new bank, around the circle.
 pub fn step(world: World, elevator: i64, aileron: i64) -> World
     ensures world { result ≡ step_of world elevator aileron }
     ensures flyable { IsFlyable result }

@@ -53,7 +53,8 @@ unfolding initialised word initialised_word initialised_range altitude heading k
 autopilot_begins seen = each (λ i. IsInRange (initialised_range 0 seen.mode.0 i) (word (initialised 0 seen) i))
     (in_clamp _ _) (in_clamp _ _) (in_clamp _ _) (in_clamp _ _) (in_clamp _ _) (in_clamp _ _) (in_clamp _ _)
 
--- For every kind other than the autopilot, each word is clamped at the end of an init phase.
+-- For every kind other than the autopilot, each word at the end of an init phase lies in its range after an init
+-- phase.
 in_initialised : (kind : ℕ) (seen : Seen) (i : ℕ) → (kind == 0) ≡ false → IsInRange (initialised_range kind seen.mode.0 i) (initialised_word kind seen i)
 unfolding initialised_word
 in_initialised kind seen i e = rw e (in_clamp _ _)

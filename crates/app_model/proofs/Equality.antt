@@ -1,4 +1,4 @@
--- Two arrays of numbers are equal if and only if `==` on them is `true`.
+-- `==` on two arrays of numbers is `true` if and only if the arrays are equal.
 use Rattle.std.proofs.Common.{◌≡◌, ℕ, ℤ, Bool, List, eqb, refl}
 use Rattle.std.specs.Bool.{Decides}
 use Rattle.std.specs.Ordering.{int_eq}

@@ -97,7 +97,7 @@ agree names d = record {
       subst (λ (i : ℕ). name_in names i ≡ Some text) same found.there;
 }
 
--- The number `m` is that of an entry of the table, whose first entry has number `n`.
+-- `m` is the number of an entry of the table, whose first entry has number `n`.
 pub record Counted (n m : ℕ) (names : List (Option (List ℕ))) : Type 0 where
   pub first : n ≤ m
   pub last : m < n + length names

@@ -1,5 +1,5 @@
--- The ranges after a halt or an init phase lie within those during the phase, and the sane ranges contain all ranges
--- of a word.
+-- The ranges after a halt or an init phase lie within the ranges during the phase, and the sane ranges contain all
+-- ranges of a word.
 use Rattle.std.proofs.Common.{◌≡◌, ◌≤◌, ℕ, zero, suc, ℤ, pos, ◌<◌, ◌==◌, Bool, true, false, if◌then◌else◌, arith, refl}
 use Rattle.std.proofs.lemmas.Int.{ints}
 use Rattle.scram_types.specs.declared.ranges.Range.{Range}
@@ -39,7 +39,7 @@ zeros r = record { below = omega arith; above = omega arith }
 pub wider : (r s : Range) (x : ℤ) → Narrower r s → IsInRange r x → IsInRange s x
 wider r s x n p = record { least = omega (arith, ints, p.least, n.below); greatest = omega (arith, ints, p.greatest, n.above) }
 
--- The ranges of a kind after an init phase lie in its ranges in the same mode.
+-- The range of each word after an init phase lies in its range in the same mode.
 abbrev pub InitNarrows : ℕ → Type 0
 InitNarrows kind = (mode i : ℕ) → 0 < i → i < 8 → Narrower (initialised_range kind mode i) (mode_range kind mode i)
 

@@ -29,7 +29,8 @@ pub record Kind : Type 0 where
   pub widest : ℕ
   pub variables : List Variable
 
--- The variable with this name, these ranges and this start value. `moves` is `true` if a halt brings it to 0.
+-- The variable with this name, these ranges and this start value. `moves` is `true` if a halt brings the variable to
+-- 0.
 abbrev pub variable : List ℕ → List Range → List Range → Bool → ℕ → Variable
 variable name ranges initialised moves start = record { name = Some name; ranges = ranges; initialised = initialised; moves = moves; start = pos start }
 
@@ -141,7 +142,7 @@ navigator = record {
       [];
 }
 
--- The kind that sends the messages of the other kinds.
+-- The kind that sends a message for each of the kinds 0 to 3 whose status is 1.
 abbrev pub data_link : Kind
 data_link = record {
   name = codes "datalink";
@@ -180,7 +181,8 @@ find_kind kind = slice_get kinds kind
 abbrev pub kind_or_last : ℕ → Kind
 kind_or_last kind = slice_index_or kinds kind task
 
--- Word `i` of the area of a kind, or an unused word if `i` is 8 or more.
+-- Word `i` of the area of a kind, or an unused word if `i` is 8 or more. If there is no such kind, the area is the
+-- task's.
 unfoldable pub kind_variable : ℕ → ℕ → Variable
 kind_variable kind i = slice_index_or (kind_or_last kind).variables i unused
 

@@ -19,7 +19,7 @@ mode_names kind = option_map_or (λ (found : Kind). found.modes) (find_kind kind
 abbrev pub variable_names : ℕ → List (Option (List ℕ))
 variable_names kind = option_map_or (λ (found : Kind). map (λ (variable : Variable). variable.name) found.variables) (find_kind kind) []
 
--- The name of `number` in a table, or `None` if it has no name.
+-- The name of `number` in a table, or `None` if the number has no name.
 abbrev pub name_in : List (Option (List ℕ)) → ℕ → Option (List ℕ)
 name_in names number = option_and_then (λ (name : Option (List ℕ)). name) (slice_get names number)
 
@@ -42,7 +42,7 @@ number_in_from number (name ∷ names) text = if is_spelled name text then Some 
 abbrev pub number_in : List (Option (List ℕ)) → List ℕ → Option ℕ
 number_in names text = number_in_from 0 names text
 
--- The number `mode` is from 1 to `modes`, so it is a mode other than off of a kind with `modes` modes.
+-- The number `mode` is from 1 to `modes`. Such a number denotes a mode, other than off, of a kind with `modes` modes.
 pub record IsModeNumber (mode modes : ℕ) : Type 0 where
   pub first : 1 ≤ mode
   pub last : mode ≤ modes
@@ -53,7 +53,7 @@ pub record NamesAgree (names : List (Option (List ℕ))) : Type 0 where
   pub spelled : (number : ℕ) (text : List ℕ) → number_in names text ≡ Some number → name_in names number ≡ Some text
 
 -- The kind has a name. A number has a name as a mode if and only if it is the number of a mode of the kind. The
--- look-ups of modes agree, and so do those of variables. Each named variable is one of the eight words.
+-- look-ups of modes agree, and so do the look-ups of variables. Each named variable is one of the eight words.
 pub record KindIsNamed (kind : ℕ) : Type 0 where
   pub name : IsSome (name_in kind_names kind)
   pub modes : NamesAgree (mode_names kind)

@@ -27,8 +27,8 @@ unfoldable pub halted : ℕ → ℕ → Seen → List ℤ
 halted kind left seen = pos 2 ∷ halted_word kind left seen 1 ∷ halted_word kind left seen 2 ∷ halted_word kind left seen 3 ∷ halted_word kind left seen 4
     ∷ halted_word kind left seen 5 ∷ halted_word kind left seen 6 ∷ halted_word kind left seen 7 ∷ []
 
--- Word `i` at the end of the init phase: the aircraft's altitude and heading for the autopilot's targets, and
--- otherwise the own word, clamped to its range after an init phase.
+-- Word `i` at the end of the init phase. The autopilot's targets become the aircraft's altitude and heading. Any
+-- other word is the word of the application's own area, clamped to the range after an init phase.
 unfoldable pub initialised_word : ℕ → Seen → ℕ → ℤ
 initialised_word kind seen i =
     if kind == KIND && i == TARGET_ALT then altitude seen else

@@ -7,6 +7,6 @@ use Rattle.app_model.specs.Kinds.{kind_variable}
 abbrev pub start_at : ℕ → ℕ → ℤ
 start_at kind i = (kind_variable kind i).start
 
--- The area that an application of kind `kind` begins with. Its status is that of an init phase.
+-- The area that an application of kind `kind` begins with. Its status is 4, as after an init phase.
 abbrev pub start_of : ℕ → List ℤ
 start_of kind = eight (start_at kind)

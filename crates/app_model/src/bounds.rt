@@ -49,7 +49,7 @@ pub fn after_init(kind: KindId, mode: Mode, variable: u8) -> (i64, i64)
     }
 }
 
-/// Returns the minimum and the maximum of a variable over all modes of the kind. For the status they are 0 and 4.
+/// Returns the minimum and the maximum of a variable over all modes of the kind, which are 0 and 4 for the status.
 pub fn sane(kind: KindId, variable: u8) -> (i64, i64)
     ensures { result ≡ sane kind.0 variable }
 {

@@ -37,7 +37,7 @@ pub mod autopilot {
 pub mod flight_control {
     /// The kind's number.
     pub const KIND: u8 = 1;
-    /// The mode in which the surfaces move toward the command, a step each frame.
+    /// The mode in which the surfaces move toward the command by a limited step each frame.
     pub const AUGMENTED: u8 = 1;
     /// The mode in which the surfaces are set to twice the command.
     pub const DIRECT: u8 = 2;
@@ -55,11 +55,11 @@ pub mod flight_control {
 pub mod power_monitor {
     /// The kind's number.
     pub const KIND: u8 = 2;
-    /// The mode that takes 100 charge units a frame.
+    /// The mode in which the loads take 100 charge units a frame.
     pub const NORMAL: u8 = 1;
-    /// The mode that takes 60 charge units a frame.
+    /// The mode in which the loads take 60 charge units a frame.
     pub const SAVER: u8 = 2;
-    /// The mode that takes 20 charge units a frame.
+    /// The mode in which the loads take 20 charge units a frame.
     pub const ESSENTIAL: u8 = 3;
     /// The battery's charge, in charge units: 0 to 10,000.
     pub const CHARGE: usize = 1;
@@ -92,9 +92,9 @@ pub mod navigator {
 pub mod data_link {
     /// The kind's number.
     pub const KIND: u8 = 4;
-    /// The mode that sends up to 4 messages a frame.
+    /// The mode in which at most 4 messages are sent in a frame.
     pub const FAST: u8 = 1;
-    /// The mode that sends up to 1 message a frame.
+    /// The mode in which at most 1 message is sent in a frame.
     pub const SLOW: u8 = 2;
     /// The number of waiting messages: 0 to 64.
     pub const QUEUED: usize = 1;
@@ -111,10 +111,10 @@ pub mod data_link {
 pub mod task {
     /// The kind's number.
     pub const KIND: u8 = 5;
-    /// The mode of a whole task.
+    /// The mode in which the task does all its work.
     pub const FULL: u8 = 1;
-    /// The mode of a task that does less.
+    /// The mode in which the task does less work.
     pub const REDUCED: u8 = 2;
-    /// The mode of a task that does the least.
+    /// The mode in which the task does the least work.
     pub const MINIMAL: u8 = 3;
 }

@@ -16,7 +16,7 @@ pub struct Rack {
     pub boxes: Vec<Box<dyn App + Send>>,
 }
 
-/// Creates a rack without boxes. It allocates no memory.
+/// Creates a rack without boxes. This function does not allocate memory.
 pub fn empty_rack(alloc: Global) -> Rack
     ensures { result.boxes.items ≡ [] }
 {
@@ -101,8 +101,9 @@ fn box_or_law(app: &mut Box<dyn App + Send>, kind: KindId, order: Order, seen: &
 /// computes the area if the box is of that kind. Otherwise the function computes the law itself. Therefore the result
 /// follows the law of the kind, whatever boxes the rack has. The kinds of the boxes and the boxes at other indices do
 /// not change.
-// No clause depends on the precondition. A function that takes boxes by `&mut` without a precondition counts as a
-// function that may create boxes, and each function that calls it without a precondition does too.
+// No clause depends on the precondition. Without a precondition, a function that takes boxes by `&mut` counts as a
+// function that may create boxes. The same is true of each function that calls such a function without a
+// precondition.
 pub fn rack_frame(rack: &mut Rack, kind: KindId, order: Order, seen: &Seen) -> Area
     requires kind { kind.0 < 8 }
     ensures answer { result ≡ law kind.0 order seen.now }

@@ -4,9 +4,8 @@ use Rattle.scram_types.specs.Lookups.{proc_id}
 use Rattle.bank_words.specs.declared.events.Event.{Event}
 use Rattle.bank_words.specs.declared.events.Event.TheVariants.{Start, Look, Store, Flip, Done, Halt, KNote, KStore, Release}
 
--- The code of an event: 65536 times the number of its kind, plus the number in the event. An event without a number
--- counts as one with number 0. An event with two numbers counts as one with 256 times the first number plus the
--- second.
+-- The code of an event: 65536 times the number of its kind, plus the number in the event. The latter is 0 for an
+-- event without a number, and 256 times the first number plus the second number for an event with two numbers.
 abbrev pub event_code : Event → ℕ
 event_code (Start p) = p.0
 event_code (Look p q) = 65536 + 256 * p.0 + q.0
@@ -34,7 +33,7 @@ IsEvent Release = 0 < 256
 abbrev pub byte_of : ℕ → Option ℕ
 byte_of n = if nat_lt n 256 then Some n else None
 
--- The event with the number `n`, or `None` if `n` is above 255.
+-- The event `event n`, or `None` if `n` is above 255.
 abbrev pub naming : (ℕ → Event) → ℕ → Option Event
 naming event n = option_map event (byte_of n)
 

@@ -24,7 +24,7 @@ pub enum Event {
     Release,
 }
 
-/// Returns the code of an event.
+/// Returns the code of an event. Different events have different codes.
 pub fn event_code(event: Event) -> u32
     ensures code { result ≡ event_code event }
     ensures back { event_of result ≡ Some event }

@@ -1,5 +1,5 @@
-//! Marks: the number of frames up to and including the last frame that a processor committed, or 0 if it has
-//! committed none, and the bank that holds the processor's image.
+//! Marks. A mark encodes a count and a bank. The count is the number of frames up to and including the last frame
+//! that the processor committed, or 0 if it has committed none. The bank holds the processor's image.
 
 ghost use Rattle.std.specs.Prelude.{◌≡◌, ◌≤◌, ◌/◌, ◌%◌};
 ghost use Rattle.bank_words.specs.Marks.{mark_word, pick};

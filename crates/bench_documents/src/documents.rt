@@ -45,7 +45,7 @@ pub fn load<'a, F: Files>(
     }
 }
 
-/// Reads a specification and a script for it. Returns an error if one of them breaks a rule, or if memory runs out.
+/// Reads a specification and a script for it. Returns an error if a document breaks a rule, or if memory runs out.
 pub fn read<'a>(alloc: Global, spec: &[u8], script: &[u8]) -> Result<(Spec, Script), Refusal<'a>>
     ensures { IfOk result (λ read. IsRead spec.now script.now read.0 read.1) }
 {

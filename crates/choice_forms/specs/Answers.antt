@@ -19,7 +19,7 @@ abbrev pub choices_answer : Parts → Option Shown → ℕ × List ℕ
 choices_answer spec (Some shown) = (NOT_ACCEPTED, shown_line spec shown)
 choices_answer spec None = (ANSWERED, choices_text spec)
 
--- The answer to `choices` about the specification in the file of this name.
+-- The answer to `choices` about the specification in the file `specification`.
 abbrev pub ChoicesAnswers : List ℕ → Answer
 ChoicesAnswers specification = AsksSpecification specification (λ (spec : Parts). WithoutFiles (Gives (choices_answer spec (state_refusal spec))))
 
@@ -28,13 +28,13 @@ ChoicesAnswers specification = AsksSpecification specification (λ (spec : Parts
 abbrev pub AssuresChoices : List ℕ → History → List ℕ → Type 0
 AssuresChoices specification = OfSpecification specification (λ (spec : Parts) (reads : History) (text : List ℕ). (reads ≡ []) × (text ≡ choices_text spec))
 
--- The answer to `choose` about the specification in the file of this name, with a configuration's name and the words of
--- a state.
+-- The answer to `choose` about the specification in the file `specification`, with a configuration's name and the
+-- words of a state.
 abbrev pub ChooseAnswers : List ℕ → List ℕ → List StateWord → Answer
 ChooseAnswers specification conf state = AsksSpecification specification (λ (spec : Parts). WithoutFiles (Gives (choose_answer spec conf state)))
 
--- If `choose` ends with status 0, it has read only the file of the specification. The specification has every name in
--- the words, and the text is the line of the choice.
+-- If `choose` ends with status 0, it has read only the file of the specification. The specification has each name
+-- that the words contain, and the text is the line of the choice.
 abbrev pub AssuresChoose : List ℕ → List ℕ → List StateWord → History → List ℕ → Type 0
 AssuresChoose specification conf state =
     OfSpecification specification (λ (spec : Parts) (reads : History) (text : List ℕ). (reads ≡ []) × Gives (choose_answer spec conf state) ANSWERED text)

@@ -24,7 +24,7 @@ use Rattle.choice_forms.specs.declared.states.StateWord.TheVariants.{Value, Down
 use Rattle.choice_forms.specs.Lines.{ruled_text}
 use Rattle.choice_forms.specs.States.{state_word_text}
 
--- The environment `v` with this value for factor `x`.
+-- The environment `v` with `value` as the value of factor `x`.
 abbrev pub with_value : Env → ℕ → ℕ → Env
 with_value v x value = record { up = v.up; factors = set v.factors x value }
 
@@ -32,12 +32,13 @@ with_value v x value = record { up = v.up; factors = set v.factors x value }
 abbrev pub others_up : ℕ → ℕ → ℕ
 others_up up p = if has_bit up p then up - 2 ^ p else up
 
--- The environment `v` with this value for the factor, or `None` if the specification has no such factor or value.
+-- The environment `v` in which the named factor has the named value, or `None` if the specification has no such
+-- factor or value.
 abbrev pub valued : Parts → Env → List ℕ → List ℕ → Option Env
 valued spec v factor value =
     option_and_then (λ (x : FactorId). option_map (λ (n : ℕ). with_value v x.0 n) (find_value spec x value)) (factor_named spec factor)
 
--- The environment `v` with the processor down, or `None` if the specification has no such processor.
+-- The environment `v` with the named processor down, or `None` if the specification has no such processor.
 abbrev pub taken_down : Parts → Env → List ℕ → Option Env
 taken_down spec v proc = option_map (λ (p : ProcId). record { up = others_up v.up p.0; factors = v.factors }) (proc_named spec proc)
 
@@ -53,7 +54,7 @@ abbrev pub env_after_all : Parts → Env → List StateWord → Result Env State
 env_after_all spec v [] = Ok v
 env_after_all spec v (word ∷ words) = option_map_or (λ (w : Env). env_after_all spec w words) (env_after spec v word) (Err word)
 
--- Whether there is a place, and it is on processor `p`.
+-- Whether there is a place and the place is on processor `p`.
 abbrev pub is_placed_on : ℕ → Option Place → Bool
 is_placed_on p None = false
 is_placed_on p (Some place) = place.proc.0 == p
@@ -70,7 +71,8 @@ spared spec c v = bits_below (λ p. is_up_in v p || not (is_used spec c p)) (len
 abbrev pub needs_text : Parts → ConfId → Env → List ℕ
 needs_text spec to v = if is_runnable spec to v then [] else codes ", which needs " ++ added (names_down spec.procs (spared spec to v))
 
--- The text of the difference of an environment from the opening environment of a flight, or `ok` if there is none.
+-- The text of the difference between an environment and the opening environment of a flight, or `ok` if there is no
+-- difference.
 abbrev pub state_text : Parts → Env → List ℕ
 state_text spec v = if have_changed spec (opening_env spec) v then difference_text spec (opening_env spec) v else codes "ok"
 
@@ -102,13 +104,15 @@ no_name_line word = codes "refused: no such name " ++ word ++ codes "\n"
 abbrev pub IsUnknown : List ℕ → ℕ × List ℕ → Type 0
 IsUnknown word refusal = (refusal ≡ (UNKNOWN_NAME, no_name_line word)) ⊎ (refusal ≡ (OUT_OF_MEMORY, memory_line))
 
--- The answer for the choice from configuration `c`, given the environment, or the refusal, given a word of the state
--- with an unknown name.
+-- The answer for the choice from configuration `c`, given the result of reading the words of a state. If the result
+-- is an environment, the text is the line of the choice. If the result is a word with an unknown name, the text is
+-- the refusal of this word.
 abbrev pub chosen_in : Parts → ConfId → Result Env StateWord → ℕ × List ℕ
 chosen_in spec c (Ok v) = (ANSWERED, chosen_line spec c v)
 chosen_in spec c (Err word) = (UNKNOWN_NAME, no_name_line (state_word_text word))
 
--- The answer for the choice from a configuration, or the refusal of the name `conf` if no configuration has it.
+-- The answer for the choice from a configuration, or the refusal of the name `conf` if no configuration has this
+-- name.
 abbrev pub chosen_from : Parts → Option ConfId → List ℕ → List StateWord → ℕ × List ℕ
 chosen_from spec None conf words = (UNKNOWN_NAME, no_name_line conf)
 chosen_from spec (Some c) conf words = chosen_in spec c (env_after_all spec (opening_env spec) words)

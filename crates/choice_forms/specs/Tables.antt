@@ -14,7 +14,7 @@ use Rattle.choice_forms.specs.declared.tables.Table.{Table}
 use Rattle.choice_forms.specs.Lines.{choice_line}
 
 -- The line of rule `k` and configuration `i`, or the empty text if the rule is not the first that fits in any
--- environment in scope. If `k` is the number of rules, the line is that of the environments in which no rule fits.
+-- environment in scope. If `k` is the number of rules, the line is for the environments in which no rule fits.
 abbrev pub choice_text : Parts → ℕ → ℕ → List ℕ
 choice_text spec i k =
     option_map_or (λ (first : Env). choice_line spec i k (count_where spec (is_ruled_by spec (conf_id i) k)) first)
@@ -28,12 +28,12 @@ choices_text_from spec i = texts_below (choice_text spec i) (suc (length spec.ru
 abbrev pub choices_text : Parts → List ℕ
 choices_text spec = texts_below (choices_text_from spec) (length spec.confs)
 
--- The list holds the shares of each configuration, in order.
+-- The list contains the shares of each configuration, in the order of the configurations.
 pub record HasShares (spec : Parts) (all : List (List Share)) : Type 0 where
   pub width : length all ≡ length spec.confs
   pub each : (i : ℕ) (shares : List Share) → slice_get all i ≡ Some shares → AreShares spec (conf_id i) shares
 
--- The shares of a table are those of its specification.
+-- A table contains the shares of each configuration of its specification.
 abbrev pub ShowsShares : Table → Type 0
 ShowsShares table = HasShares table.spec table.shares.items
 

@@ -35,7 +35,7 @@ pub struct Question<'a> {
     pub state: &'a [StateWord],
 }
 
-/// The line of a choice, in two pieces. The second piece has the processors that the target needs.
+/// The line of a choice, in two pieces. The second piece has the processors that the target needs but that are down.
 #[derive(Drop)]
 struct Chosen {
     choice: Line,
@@ -150,7 +150,8 @@ fn env_after(spec: &Spec, env: &Env, word: &StateWord) -> Option<Env>
     }
 }
 
-// Returns the environment with this value for the factor, or `None` if the specification has no such factor or value.
+// Returns the environment in which the named factor has the named value, or `None` if the specification has no such
+// factor or value.
 fn valued(spec: &Spec, env: &Env, factor: &Name, value: &Name) -> Option<Env>
     requires { IsEnv spec.now env.now }
     ensures env { result ≡ valued spec.now env.now factor.now value.now }
@@ -163,7 +164,7 @@ fn valued(spec: &Spec, env: &Env, factor: &Name, value: &Name) -> Option<Env>
     Some(with_value(env, x.0, number))
 }
 
-// Returns the environment with this value for factor `x`.
+// Returns the environment with `value` as the value of factor `x`.
 fn with_value(env: &Env, x: u8, value: u8) -> Env
     requires { x < 6 }
     ensures { result ≡ with_value env.now x value }
@@ -176,7 +177,7 @@ fn with_value(env: &Env, x: u8, value: u8) -> Env
     }
 }
 
-// Returns the environment with the processor down, or `None` if the specification has no such processor.
+// Returns the environment with the named processor down, or `None` if the specification has no such processor.
 fn taken_down(spec: &Spec, env: &Env, proc: &Name) -> Option<Env>
     requires { IsEnv spec.now env.now }
     ensures env { result ≡ taken_down spec.now env.now proc.now }
@@ -200,8 +201,8 @@ fn others_up(up: u8, p: u8) -> u8
     if has_bit(up, p) { up - (1 << p) } else { up }
 }
 
-// Returns the refusal of a word of a state with a name that the specification does not have, or the out-of-memory
-// refusal if there is no memory for its line.
+// Returns the refusal of a word of a state with a name that the specification does not have. If there is no memory
+// for the line of the refusal, returns the out-of-memory refusal.
 fn no_word(alloc: Global, word: &StateWord) -> Refusal
     ensures { IsUnknown (state_word_text word.now) (answer_of result) }
 {
@@ -217,8 +218,8 @@ fn no_word(alloc: Global, word: &StateWord) -> Refusal
     }
 }
 
-// Returns the refusal of a word with a name that the specification does not have, or the out-of-memory refusal if
-// there is no memory for its line.
+// Returns the refusal of a name that the specification does not have. If there is no memory for the line of the
+// refusal, returns the out-of-memory refusal.
 fn no_name(alloc: Global, word: &str) -> Refusal
     ensures { IsUnknown word.now (answer_of result) }
 {

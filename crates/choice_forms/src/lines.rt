@@ -52,8 +52,8 @@ fn add_target(line: &mut Line, spec: &Spec, k: u32, to: ConfId)
     line.text(spec.conf_name(to).as_bytes());
 }
 
-/// Returns the first piece of the line of the choice from configuration `c` in an environment. Rule `k` is the first
-/// that fits, or is past the last rule if none fits.
+/// Returns the first piece of the line of the choice from configuration `c` in an environment. `k` is the index of
+/// the first rule that fits, or the number of rules if no rule fits.
 pub fn make_chosen_line(spec: &Spec, c: ConfId, env: &Env, k: usize) -> Line
     ensures { result ≡ choice_piece spec.now c env.now k }
 {
@@ -66,7 +66,8 @@ pub fn make_chosen_line(spec: &Spec, c: ConfId, env: &Env, k: usize) -> Line
     line
 }
 
-// Appends the difference of an environment from the opening environment of a flight, or `ok` if there is none.
+// Appends the difference between an environment and the opening environment of a flight, or `ok` if there is no
+// difference.
 fn add_state(line: &mut Line, spec: &Spec, env: &Env)
     requires { length line.old + 348 ≤ MAX_LINE_BYTES }
     ensures text { line.new ≡ line.old ++ state_text spec.now env.now }
@@ -126,7 +127,7 @@ fn is_used(spec: &Spec, c: ConfId, p: u8) -> bool
     }
 }
 
-/// Returns `true` if there is a place, and it is on processor `p`.
+/// Returns `true` if there is a place and the place is on processor `p`.
 pub fn is_placed_on(place: &Option<Place>, p: u8) -> bool
     ensures { result ≡ is_placed_on p place.now }
 {

@@ -1,5 +1,5 @@
-//! The form `choices`. For each configuration, it shows the rules that choose the configuration's target, and the
-//! number of environments in which each of these rules chooses it.
+//! The form `choices`. For each configuration, the form shows the rules that choose a target from the configuration.
+//! For each of these rules, it shows the number of environments in which the rule is the first that fits.
 
 ghost use Rattle.std.specs.Prelude.{◌≡◌, ◌<◌, ◌≤◌, ◌∷◌, [], IfOk, length};
 ghost use Rattle.scram_types.specs.Lookups.{conf_id};
@@ -32,9 +32,10 @@ struct Table {
     shares: Vec<List<Share>>,
 }
 
-/// Prints a line for each configuration and each rule that chooses the configuration's target in some environment in
-/// scope, with the number of these environments and the first of them. If too many environments are in scope, it
-/// prints the refusal instead.
+/// Prints the lines of each configuration. There is a line for each rule that is the first that fits in some
+/// environment in scope, and a line for the environments in scope in which no rule fits, if there are any. Each line
+/// has the number of these environments and the first of them. If too many environments are in scope, the refusal is
+/// printed instead.
 pub fn choices<F: Files, K: Sink>(
     alloc: Global,
     specification: &str,
@@ -83,7 +84,7 @@ fn find_table(alloc: Global, spec: Spec) -> Result<Table, Refusal>
     }
 }
 
-/// Returns the shares of each configuration, in order.
+/// Returns the shares of each configuration, in the order of the configurations.
 ///
 /// # Errors
 ///

@@ -7,7 +7,7 @@ use Rattle.std.proofs.lemmas.Nat.{and_mask, one_shl}
 use Rattle.scram_types.proofs.BitSets.{twice, low_bits, bit_cases}
 use Rattle.scram_types.specs.Bits.{has_bit, bits_below}
 
--- The set of the numbers below `n` that are not in a set and the set of those that are in it, each as bits, add up to
+-- Taken as bits, the numbers below `n` that are in a set and the numbers below `n` that are not in the set add up to
 -- `2 ^ n - 1`.
 pub others : (set n : ℕ) → bits_below (λ p. not (has_bit set p)) n + set % 2 ^ n + 1 ≡ 2 ^ n
 others set zero = rw (mod-one set) refl

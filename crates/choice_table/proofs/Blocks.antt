@@ -18,7 +18,8 @@ low_in_block low d m some h =
     omega arith
 
 module _ (spec : Parts) (low d : ℕ) where
-  -- If the processors of the set `d` may not be down together, no environment of that set is in scope.
+  -- Suppose that no environment from number `low` to the start of the block of the set `d` is in scope. If the
+  -- processors of `d` may not be down together, no environment from number `low` to the end of the block is in scope.
   pub pass_block : is_down_in_scope spec d ≡ false → ((k : ℕ) → low ≤ k → k < d * combinations spec.factors → is_number_in_scope spec k ≡ false)
       → (k : ℕ) → low ≤ k → k < (d + 1) * combinations spec.factors → is_number_in_scope spec k ≡ false
   pass_block out before k from below = elim (low_or_high k (d * combinations spec.factors)) [

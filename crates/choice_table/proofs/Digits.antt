@@ -9,7 +9,7 @@ use Rattle.scram_types.specs.declared.specification.Factor.{Factor}
 use Rattle.scram_types.specs.Specification.{Each, IsFactor}
 use Rattle.choice_table.specs.Numbering.{combinations, digits_of, value_count, values_of}
 
--- If each factor of a list is valid, so is each factor but the first.
+-- If each factor of a list is valid, each factor after the first is valid.
 pub after : (f : Factor) (fs : List Factor) → Each IsFactor (f ∷ fs) → Each IsFactor fs
 after f fs known = λ i x e. known (suc i) x e
 
@@ -39,8 +39,8 @@ value_count_most [] x known h = absurd (omega arith)
 value_count_most (f ∷ fs) zero known h = (known 0 f refl).count.few
 value_count_most (f ∷ fs) (suc x) known h = value_count_most fs x (after f fs known) (omega arith)
 
--- The number of combinations from factor `x` on is the number of values of `x` times the number of combinations after
--- `x`.
+-- The value of `combinations` for the factors from `x` on is the number of values of factor `x` times the value of
+-- `combinations` for the factors after `x`.
 pub combinations_drop : (fs : List Factor) (x : ℕ) → x < length fs → combinations (drop x fs) ≡ value_count fs x * combinations (drop (suc x) fs)
 combinations_drop [] x h = absurd (omega arith)
 combinations_drop (f ∷ fs) zero h = refl
@@ -104,8 +104,8 @@ pub digits_end : (fs : List Factor) (vs : List ℕ) (x number : ℕ) → length 
     → number * combinations (drop x fs) + digits_of (drop x fs) (drop x vs) ≡ digits_of fs vs → number ≡ digits_of fs vs
 digits_end fs vs x number past so_far = let end = rw (nothing_left fs x past) at so_far in omega (arith, end)
 
--- After `x` steps of the loop that computes the number of the factors' values, the number is at most `85 * 4 ^ x -
--- 85`, even if the values are arbitrary bytes.
+-- A step of the loop that computes the number of the factors' values keeps a bound. After `x` steps, the number is at
+-- most `85 * 4 ^ x - 85`, even if the values are arbitrary bytes.
 pub few_digits : (count value x number : ℕ) → count ≤ 4 → value < 256 → x < 6 → number + 85 ≤ 85 * 4 ^ x → number * count + value + 85 ≤ 85 * 4 ^ suc x
 few_digits count value x number few byte inside so_far =
     let product = mul-le number count number 4 (omega arith) few in
@@ -122,8 +122,9 @@ digits_room x number inside so_far =
     let wide : 4 ^ x ≤ 4 ^ 6 = pow-le-pow_right (omega arith) inside in
     omega arith
 
--- The number of combinations from factor `x` on, divided by the number of values of `x`, is that of the factors after
--- `x`. The loop that computes values from a number relies on this at each step.
+-- The value of `combinations` for the factors from `x` on, divided by the number of values of factor `x`, is the
+-- value of `combinations` for the factors after `x`. The loop that computes values from a number relies on this at
+-- each step.
 pub place_step : (fs : List Factor) (x place : ℕ) → Each IsFactor fs → x < length fs → place ≡ combinations (drop x fs)
     → place / value_count fs x ≡ combinations (drop (suc x) fs)
 place_step fs x place known h is =

@@ -1,4 +1,4 @@
--- The functions that number environments and that return the environment of a number are inverse to each other.
+-- The functions `number_of` and `env_of` are inverse to each other.
 use Rattle.std.proofs.Common.{◌≡◌, ℕ, zero, suc, ◌+◌, ◌-◌, ◌<◌, ◌≤◌, ◌^◌, ◌/◌, ◌%◌, refl, arith, ap, ◌∙◌, List, [], ◌∷◌, ◌++◌, length, drop, take, get_or, subst, length-drop}
 use Rattle.std.specs.Prelude.{Option, Some, replicate, slice_get, slice_index, unwrap_or}
 use Rattle.std.proofs.Math.Nat.{mod-eq_of_lt, mod-lt}

@@ -1,5 +1,5 @@
--- A configuration can run if and only if the processors of its places are up. A set of processors is up if and only
--- if the processor of each of its bits is up.
+-- A configuration can run if and only if the processors of its places are up. `all_up` holds for a set of processors
+-- if and only if each processor in the set is up.
 use Rattle.std.proofs.Common.{◌≡◌, ℕ, zero, suc, ◌<◌, ◌^◌, ◌/◌, ◌%◌, refl, arith, sym, ap, ◌∙◌, true, List}
 use mathlib.Core.Logic.{inl, inr}
 use Rattle.std.specs.Prelude.{Option, Some, None, bit_and, slice_get}
@@ -28,7 +28,7 @@ runs_where_up spec c v = (
   λ up. all_pass (is_place_up v) (places_of spec c) (up_places v (places_of spec c) up),
 )
 
--- Bit `p` of the bitwise AND of `a` and `b` is the bitwise AND of bit `p` of each.
+-- Bit `p` of `bit_and a b` is the bitwise AND of bit `p` of `a` and bit `p` of `b`.
 common_bit : (a b p : ℕ) → bit_at (bit_and a b) p ≡ bit_and (bit_at a p) (bit_at b p)
 common_bit a b p = ap (λ n. n % 2) (and_shr a b p) ∙ and_mod (a / 2 ^ p) (b / 2 ^ p) 1
 

@@ -47,8 +47,8 @@ has_rule spec c v = list_any (rule_fits c v) spec.rules
 abbrev pub places_of : Parts → ConfId → List (Option Place)
 places_of spec c = option_map_or (λ (conf : Conf). conf.places) (slice_get spec.confs c.0) []
 
--- Whether the processor of an optional place is up in an environment. The value is `true` if the place is `None`, for
--- an application that is off.
+-- Whether the processor of an optional place is up in an environment. If the place is `None`, the application is off
+-- and the value is `true`.
 abbrev pub is_place_up : Env → Option Place → Bool
 is_place_up v None = true
 is_place_up v (Some place) = is_up_in v place.proc.0

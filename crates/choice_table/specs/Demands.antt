@@ -22,7 +22,7 @@ all_down set v = bit_and set v.up == 0
 abbrev pub applies_in : Demand → Env → Bool
 applies_in demand v = list_all (has_wanted v) demand.wants && all_up demand.up v && all_down demand.down v
 
--- Whether a set of configurations contains `c` or is empty. The empty set stands for all configurations.
+-- Whether a set of configurations contains `c` or is empty. The empty set means all configurations.
 abbrev pub is_empty_or_holds : ℕ → ConfId → Bool
 is_empty_or_holds set c = set == 0 || has_bit set c.0
 
@@ -30,12 +30,12 @@ is_empty_or_holds set c = set == 0 || has_bit set c.0
 abbrev pub applies_from : Demand → ConfId → Bool
 applies_from demand c = is_empty_or_holds demand.from c
 
--- Whether a list of modes contains a mode or is empty. The empty list stands for all modes.
+-- Whether a list of modes contains a mode or is empty. The empty list means all modes.
 abbrev pub modes_allow : List Mode → Mode → Bool
 modes_allow modes mode = length modes == 0 || is_among modes mode.0
 
 -- Whether an optional place of an application meets a demand. If the demand has no list of modes for the application,
--- each place meets it, and so does `None`. Otherwise the application must be on, in a mode that the list allows.
+-- each place and `None` meet the demand. Otherwise the application must be on, in a mode that the list allows.
 abbrev pub is_placed : Option (List Mode) → Option Place → Bool
 is_placed None place = true
 is_placed (Some modes) None = false
@@ -51,8 +51,8 @@ is_met_by spec demand c a = is_placed (modes_on demand a) (place_of spec c a) &&
 abbrev pub is_met : Parts → Demand → ConfId → Bool
 is_met spec demand c = is_empty_or_holds demand.to c && all_below (is_met_by spec demand c) 8
 
--- Whether configuration `c` meets a demand, or the demand does not apply both to the environment and to a choice from
--- `c`.
+-- Whether configuration `c` meets a demand if the demand applies both to the environment and to a choice from `c`.
+-- The value is `true` if the demand does not apply to both.
 abbrev pub meets : Parts → ConfId → Env → Demand → Bool
 meets spec c v demand = not (applies_in demand v && applies_from demand c) || is_met spec demand c
 

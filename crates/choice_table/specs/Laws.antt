@@ -14,7 +14,7 @@ RunsWherePlacesAreUp = (spec : Parts) (c : ConfId) (v : Env) →
     (is_runnable spec c v ≡ true → (a : ℕ) (place : Place) → slice_get (places_of spec c) a ≡ Some (Some place) → is_up_in v place.proc.0 ≡ true)
     × (((a : ℕ) (place : Place) → slice_get (places_of spec c) a ≡ Some (Some place) → is_up_in v place.proc.0 ≡ true) → is_runnable spec c v ≡ true)
 
--- A set of processors is up if and only if each processor in it is up.
+-- `all_up` holds for a set of processors if and only if each processor in the set is up.
 abbrev pub SetsAreUpByMembers : Type 0
 SetsAreUpByMembers = (set : ℕ) (v : Env) →
     (all_up set v ≡ true → (p : ℕ) → has_bit set p ≡ true → is_up_in v p ≡ true)

@@ -15,7 +15,7 @@ down_set spec v = bits_below (λ p. not (is_up_in v p)) (length spec.procs)
 abbrev pub value_count : List Factor → ℕ → ℕ
 value_count factors x = option_map_or (λ (factor : Factor). length factor.values) (slice_get factors x) 0
 
--- The number of combinations of values of the factors, which is the product of their numbers of values.
+-- The number of ways to choose one value for each factor. It is the product of the factors' numbers of values.
 abbrev pub combinations : List Factor → ℕ
 combinations [] = 1
 combinations (factor ∷ factors) = length factor.values * combinations factors
@@ -36,7 +36,7 @@ values_of (factor ∷ factors) digits = digits / combinations factors ∷ values
 abbrev pub number_of : Parts → Env → ℕ
 number_of spec v = down_set spec v * combinations spec.factors + digits_of spec.factors v.factors
 
--- The number of environments. They are numbered from 0 to one less than this number.
+-- The number of environments. The environments are numbered from 0 to one less than this number.
 abbrev pub environments : Parts → ℕ
 environments spec = 2 ^ length spec.procs * combinations spec.factors
 
@@ -65,7 +65,7 @@ is_number_in_scope spec n = in_scope spec (numbered spec n)
 abbrev pub states : Parts → ℕ
 states spec = count_below (is_number_in_scope spec) (environments spec)
 
--- The smallest number, at least `low`, of an environment in scope is `n`.
+-- Of the numbers of environments in scope, `n` is the smallest that is at least `low`.
 pub record IsNextInScope (spec : Parts) (low n : ℕ) : Type 0 where
   pub from : low ≤ n
   pub inside : n < environments spec

@@ -27,7 +27,8 @@ pub fn has_rule(spec: &Spec, c: ConfId, env: &Env) -> bool
     spec.rules.items().iter().any(|rule| fits(rule, c, env))
 }
 
-/// Returns `true` if each processor that configuration `c` uses is up. A configuration that does not exist uses none.
+/// Returns `true` if each processor that configuration `c` uses is up. A configuration that does not exist uses no
+/// processor.
 pub fn runnable(spec: &Spec, c: ConfId, env: &Env) -> bool
     ensures { result ≡ is_runnable spec.now c env.now }
 {

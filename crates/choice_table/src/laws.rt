@@ -7,7 +7,7 @@ pub fn runs_where_places_are_up()
     ensures { RunsWherePlacesAreUp }
 {}
 
-/// States that a rule's set of processors is up if and only if each processor in it is up.
+/// States that `all_up` holds for a set of processors if and only if each processor in the set is up.
 pub fn sets_are_up_by_members()
     ensures { SetsAreUpByMembers }
 {}

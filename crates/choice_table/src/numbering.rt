@@ -27,7 +27,7 @@ pub fn number_of(spec: &Spec, env: &Env) -> u32
     u32::from(down) * count_combinations(spec) + number_of_values(spec, &env.factors)
 }
 
-/// Returns the environment with this number, or `None` if no environment has this number.
+/// Returns the environment with number `number`, or `None` if no environment has this number.
 pub fn env_of(spec: &Spec, number: u32) -> Option<Env>
     ensures env { result ≡ env_of spec.now number }
     ensures belongs { IfSome result (λ v. IsEnv spec.now v) }
@@ -55,8 +55,9 @@ pub fn states(spec: &Spec) -> u32
     states
 }
 
-/// Returns the environment in scope with the smallest number that is at least `low`, or `None` if there is none. If a
-/// set of down processors is out of scope, the function skips all environments with this set at once.
+/// Returns the environment in scope with the smallest number that is at least `low`, or `None` if there is no such
+/// environment. If a set of processors may not be down together, the function skips all environments in which exactly
+/// these processors are down.
 pub fn next_in_scope(spec: &Spec, low: u32) -> Option<Numbered>
     ensures next { MatchOption result (NoneInScope spec.now low) (λ found. IsNextInScope spec.now low found.number) }
     ensures env { IfSome result (λ found. env_of spec.now found.number ≡ Some found.env) }

@@ -35,7 +35,7 @@ abbrev pub value_fields : List Factor → ℕ → List ℕ → List ℕ
 value_fields [] i values = []
 value_fields (factor ∷ factors) i values = codes "," ++ value_name factor (slice_index values i) ++ value_fields factors (i + 1) values
 
--- A field for each processor, which is 1 if the processor is up and 0 otherwise. The lowest bit of `up` is that of
+-- A field for each processor, which is 1 if the processor is up and 0 otherwise. The lowest bit of `up` belongs to
 -- the first processor.
 abbrev pub up_fields : List Proc → ℕ → List ℕ
 up_fields [] up = []

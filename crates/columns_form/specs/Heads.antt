@@ -23,7 +23,7 @@ abbrev pub row_head : Parts → List ℕ
 row_head spec =
     codes "frame,moving,from,halting,to,since" ++ factor_heads spec.factors ++ proc_heads spec.procs ++ codes ",altitude,climb,heading,bank"
 
--- The name of the column of word `i` of an application's area, or the empty text if the application's kind does not
+-- The name of the column for word `i` in an application's area, or the empty text if the application's kind does not
 -- use the word.
 abbrev pub word_head : AppSpec → ℕ → List ℕ
 word_head app i = option_map_or (λ (variable : List ℕ). codes "," ++ app.name ++ codes "." ++ variable) (name_in (variable_names app.kind.0) i) []

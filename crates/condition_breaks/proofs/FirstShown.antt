@@ -1,4 +1,4 @@
--- For each condition, the refusal is the one for the first place in the condition's list.
+-- The refusal of each condition equals the refusal for the first place in the condition's list.
 use Rattle.std.proofs.Common.{ℕ, ◌≡◌, ◌∙◌, ◌==◌, Bool, true, false, not, List, [], ◌∷◌, ap, length, refl}
 use Rattle.std.specs.Prelude.{◌&&◌, Option, Some, None, option_map, slice_get, if◌then◌else◌}
 use Rattle.std.specs.Option.{option_map_or, option_to_list}
@@ -125,7 +125,8 @@ module _ (spec : Parts) (made : IsSpec spec) where
       gathered_shown (shown_of spec) (invariant_break spec) (invariant_refusal_at spec) (length spec.invariants) (λ k less.
       unheld_first k (slice_get spec.invariants k))
 
-  -- For the condition with each number, the refusal is the one for the first place in the list with that number.
+  -- For each number, the refusal of the condition with the number equals the refusal for the first place in the list
+  -- with the number.
 
   by_test : (b : Bool) (xs ys : List Break) (o p : Option Shown) → first_shown spec xs ≡ o → first_shown spec ys ≡ p
       → first_shown spec (if b then xs else ys) ≡ (if b then o else p)

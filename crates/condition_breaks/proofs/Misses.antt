@@ -1,4 +1,4 @@
--- The places that `missed_at` builds from the first environments in which demands are missed equal those of
+-- The places that `missed_at` builds from the first environments in which demands are missed equal the places of
 -- `demand_break`.
 use Rattle.std.proofs.Common.{ℕ, ◌<◌, ◌≡◌, ◌∙◌, List, [], ap, arith, length, sym}
 use Rattle.std.specs.Prelude.{Option, option_and_then, option_map}

@@ -1,4 +1,5 @@
--- The refusal of a specification is the one for the first place in the list of the condition that the refusal names.
+-- The refusal of a specification equals the refusal for the first place in the list of the condition that the refusal
+-- names.
 use Rattle.std.proofs.Common.{ℕ, ◌≡◌, ◌∙◌, Bool, true, false, ap, length, refl, sym}
 use mathlib.Core.Logic.{inl, inr}
 use Rattle.std.specs.Prelude.{Option, Some, None, option_map, slice_get}
@@ -94,7 +95,7 @@ module _ (spec : Parts) where
       of_option 13 (demand_refusal_of spec c k) (slice_get spec.demands k) (λ demand.
       of_mapped 13 _ (first_missed_env spec demand (conf_id c)) (λ v. refl))))
 
-  -- The refusal of a specification is the refusal of the condition that it names.
+  -- The refusal of a specification is the refusal of the condition that the refusal names.
   module _ (shown : Shown) where
     abbrev pub OwnRefusal : Type 0
     OwnRefusal = refusal_of_condition spec shown.condition ≡ Some shown

@@ -1,4 +1,4 @@
--- If a condition does not hold somewhere, the condition's list contains a place for this.
+-- If a condition does not hold somewhere, the condition's list contains a place that represents this failure.
 use Rattle.std.proofs.Common.{ℕ, zero, suc, ◌<◌, ◌≡◌, ◌∙◌, Bool, true, false, List, [], ◌∷◌, ◌++◌, arith, length, refl, subst, sym}
 use mathlib.Core.Logic.{inl, inr}
 use Rattle.std.specs.Prelude.{◌&&◌, Option, Some, None, option_map, slice_get, if◌then◌else◌}

@@ -23,7 +23,7 @@ use Rattle.condition_breaks.specs.Form.{first_twin, is_need_off}
 use Rattle.condition_breaks.specs.Lists.{gathered_below, one_if}
 use Rattle.condition_breaks.specs.Ranges.{all_ways, first_unheld, hull_of, interval, range_on}
 
--- The place of A1 if application `a` is on in configuration `c`, `a` needs application `b`, and `b` is off there.
+-- The place of A1 if application `a` is on in configuration `c`, `a` needs application `b`, and `b` is off in `c`.
 -- Otherwise the list is empty.
 abbrev pub need_break : Parts → ℕ → ℕ → ℕ → List Break
 need_break spec c a b = one_if (is_need_off spec (conf_id c) a b) (broken.NeedOff (conf_id c) (app_id a) (app_id b))
@@ -40,7 +40,7 @@ need_breaks_in spec c = gathered_below (need_breaks_of spec c) (length spec.apps
 abbrev pub need_breaks : Parts → List Break
 need_breaks spec = gathered_below (need_breaks_in spec) (length spec.confs)
 
--- The place of A2 if there are too many environments in scope, or the empty list.
+-- The place of A2 if more than `MAX_ENVIRONMENTS` environments are in scope, or the empty list.
 abbrev pub state_breaks : Parts → List Break
 state_breaks spec = one_if (has_too_many_states spec) broken.ManyStates
 
@@ -81,7 +81,7 @@ unmet_breaks spec asked = gathered_below (unmet_break spec asked) (length spec.c
 abbrev pub start_breaks : Parts → List Break
 start_breaks spec = one_if (leaves_start spec) broken.StartLeft
 
--- The place of A9 for a bound from `i` to `j` if a bound is required and no sufficient one is given, or the empty
+-- The place of A9 for a bound from `i` to `j` if a bound is required and no sufficient bound is given, or the empty
 -- list.
 abbrev pub bound_break : Parts → ℕ → ℕ → List Break
 bound_break spec i j = one_if (lacks_bound spec (conf_id i) j) (broken.BoundLacking (conf_id i) (conf_id j))
@@ -161,8 +161,8 @@ abbrev pub demand_breaks : Parts → List Break
 demand_breaks spec = gathered_below (demand_breaks_in spec) (length spec.confs)
 
 -- The place of A13 for configuration `c` and demand `k`, or `None` if the demand is not missed or does not exist.
--- `found` contains for each demand the first environment in which the demand is missed, or `None` if it is not
--- missed.
+-- `found` contains for each demand the first environment in which the demand is missed, or `None` if the demand is
+-- not missed.
 abbrev pub missed_at : List (Option Env) → ℕ → ℕ → Option Break
 missed_at found c k =
     option_and_then (λ (first : Option Env). option_map (λ (v : Env). broken.DemandMissed (conf_id c) k v) first) (slice_get found k)

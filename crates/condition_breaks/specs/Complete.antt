@@ -24,9 +24,10 @@ use Rattle.condition_breaks.specs.Form.{is_need_off}
 abbrev pub HasPlace : List Break → Break → Type 0
 HasPlace found place = (i : ℕ) × (slice_get found i ≡ Some place)
 
--- If a condition does not hold somewhere, the condition's list contains a place for this. One place of A3 stands for
--- all earlier configurations that are the same. One place of A5, A6, A7 or A13 stands for all environments in which
--- the condition does not hold. One place of A11 stands for all configurations from which the invariant may be broken.
+-- If a condition does not hold somewhere, the condition's list contains a place that represents this failure. One
+-- place of A3 represents all earlier configurations that are the same. One place of A5, A6, A7 or A13 represents all
+-- environments in which the condition does not hold. One place of A11 represents all configurations from which the
+-- invariant may be broken.
 pub record HasEach (spec : Parts) : Type 0 where
   pub needs : (c a b : ℕ) → c < length spec.confs → a < length spec.apps → b < length spec.apps → is_need_off spec (conf_id c) a b ≡ true
       → HasPlace (breaks spec 1) (broken.NeedOff (conf_id c) (app_id a) (app_id b))

@@ -25,7 +25,7 @@ use Rattle.condition_breaks.specs.declared.breaks.Way.{Way}
 use Rattle.condition_breaks.specs.Breaks.{breaks, unheld_at}
 use Rattle.condition_breaks.specs.Ranges.{all_ways, range_on}
 
--- The refusal for precondition `k`. It contains the precondition's configuration if the precondition exists.
+-- The refusal for precondition `k`, which contains the precondition's configuration if the precondition exists.
 abbrev pub missed_shown : Parts → ℕ → Shown
 missed_shown spec k =
     option_map_or (λ (pre : Precondition). shown_at 12 pre.conf.0 (other.Item k)) (slice_get spec.preconditions k) (shown_nowhere 12 (other.Item k))
@@ -76,12 +76,13 @@ refusal_of_condition spec condition =
     if condition == 3 then shape_refusal spec else
     if condition == 4 then load_refusal spec else choice_refusal_by spec condition
 
--- The refusal of each condition is the one for the first place in the condition's list. If the list is empty, there
--- is no refusal.
+-- The refusal of each condition equals the refusal for the first place in the condition's list. If the list is empty,
+-- there is no refusal.
 abbrev pub FirstIsShown : Type 0
 FirstIsShown = (spec : Parts) → IsSpec spec → (condition : ℕ) → first_shown spec (breaks spec condition) ≡ refusal_of_condition spec condition
 
--- The refusal of a specification is the one for the first place in the list of the condition that the refusal names.
+-- The refusal of a specification equals the refusal for the first place in the list of the condition that the refusal
+-- names.
 abbrev pub RefusalIsFirst : Type 0
 RefusalIsFirst = (spec : Parts) (shown : Shown) → IsSpec spec → first_refusal spec ≡ Some shown → first_shown spec (breaks spec shown.condition) ≡ Some shown
 
@@ -94,7 +95,8 @@ abbrev pub HoldsAsked : Parts → Invariant → ℤ → ℤ → Type 0
 HoldsAsked spec inv low high =
     Each (λ (taken : Way). has_source inv.from taken.from ≡ true → holds_range low high (range_on spec inv taken) ≡ true) (all_ways spec)
 
--- The interval `needed` contains each range that an invariant has to contain, and lies within every interval that does.
+-- The interval `needed` contains each range that an invariant has to contain, and lies within every other such
+-- interval.
 pub record IsLeastInterval (spec : Parts) (inv : Invariant) (needed : Extremes) : Type 0 where
   pub holds : HoldsAsked spec inv needed.least needed.greatest
   pub least : (low high : ℤ) → HoldsAsked spec inv low high → (low ≤ℤ needed.least) × (needed.greatest ≤ℤ high)

@@ -18,7 +18,7 @@ use Rattle.condition_breaks.specs.Lists.{gathered_below, one_if}
 abbrev pub way_of : ℕ → ℕ → Way
 way_of i j = record { from = conf_id i; to = conf_id j }
 
--- Whether configuration `j` is a possible target of configuration `i` and differs from it.
+-- Whether configuration `j` is a possible target of configuration `i` and differs from `i`.
 abbrev pub is_other_target : Parts → ℕ → ℕ → Bool
 is_other_target spec i j = is_target spec (conf_id i) j && not (i == j)
 
@@ -48,7 +48,7 @@ abbrev pub range_asked : Parts → Invariant → Option Place → ℤ × ℤ
 range_asked spec inv None = (pos 0, pos 0)
 range_asked spec inv (Some place) = if inv.variable == 0 then (pos 1, pos 4) else during (kind_of_app spec inv.app.0) 1 place.mode.0 inv.variable
 
--- The range of an invariant's variable on a way. This is its range in the configuration at the end of the way.
+-- The range of an invariant's variable on a way: the range in the configuration at the end of the way.
 abbrev pub range_on : Parts → Invariant → Way → ℤ × ℤ
 range_on spec inv taken = range_asked spec inv (place_of spec taken.to inv.app.0)
 

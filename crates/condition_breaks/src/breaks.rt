@@ -10,7 +10,7 @@ use scram_types::{AppId, ConfId, Env, ProcId};
 pub enum Break {
     /// In a configuration, an application is on and an application that it needs is off.
     NeedOff(ConfId, AppId, AppId),
-    /// More environments are in scope than acceptance searches.
+    /// More than `MAX_ENVIRONMENTS` environments are in scope.
     ManyStates,
     /// A configuration has no application on.
     NothingOn(ConfId),

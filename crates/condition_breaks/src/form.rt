@@ -73,7 +73,7 @@ fn is_one_of(needs: &[AppId], b: u8) -> bool
     needs.iter().any(|needed| needed.0 == b)
 }
 
-// Appends the place of A2 if too many environments are in scope.
+// Appends the place of A2 if more than `MAX_ENVIRONMENTS` environments are in scope.
 pub(crate) fn add_state_breaks(breaks: &mut Vec<Break>, spec: &Spec) -> Result<(), NoMemory>
     ensures { OnOk result (breaks.new.items ≡ breaks.old.items ++ state_breaks spec.now) }
 {

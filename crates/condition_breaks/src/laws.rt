@@ -3,14 +3,14 @@
 ghost use Rattle.condition_breaks.specs.Complete.{NoneIsLeftOut};
 ghost use Rattle.condition_breaks.specs.Laws.{EachIsBroken, FirstIsShown, NeededIsLeast, RefusalIsFirst};
 
-/// States that the refusal of each condition is the one for the first place in the condition's list. The list is
-/// empty if and only if the condition holds.
+/// States that the refusal of each condition equals the refusal for the first place in the condition's list. The list
+/// is empty if and only if the condition holds.
 pub fn first_is_shown()
     ensures { FirstIsShown }
 {}
 
-/// States that the refusal of a specification that is not accepted is the one for the first place in the list of the
-/// condition that the refusal names.
+/// States that the refusal of a specification that is not accepted equals the refusal for the first place in the list
+/// of the condition that the refusal names.
 pub fn refusal_is_first()
     ensures { RefusalIsFirst }
 {}
@@ -21,10 +21,10 @@ pub fn each_is_broken()
     ensures { EachIsBroken }
 {}
 
-/// States that if a condition does not hold somewhere, the condition's list contains a place for this. One place of
-/// A3 stands for all earlier configurations that are the same. One place of A5, A6, A7 or A13 stands for all
-/// environments in which the condition does not hold. One place of A11 stands for all configurations from which the
-/// invariant may be broken.
+/// States that if a condition does not hold somewhere, the condition's list contains a place that represents this
+/// failure. One place of A3 represents all earlier configurations that are the same. One place of A5, A6, A7 or A13
+/// represents all environments in which the condition does not hold. One place of A11 represents all configurations
+/// from which the invariant may be broken.
 pub fn none_is_left_out()
     ensures { NoneIsLeftOut }
 {}

@@ -16,7 +16,7 @@ use scram_types::bits::is_in;
 use scram_types::{ConfId, Invariant, NoMemory, Place, Precondition, Spec};
 use std::alloc::Global;
 
-// Returns all ways, by source. The first way of a source is the way to itself.
+// Returns all ways, by source. The first way from each source is the way from the source to itself.
 pub(crate) fn all_ways(alloc: Global, spec: &Spec) -> Result<Vec<Way>, NoMemory>
     ensures { IfOk result (λ ways. ways.items ≡ all_ways spec.now) }
 {
@@ -28,7 +28,7 @@ pub(crate) fn all_ways(alloc: Global, spec: &Spec) -> Result<Vec<Way>, NoMemory>
     Ok(ways)
 }
 
-// Appends the ways from configuration `i`. The set of its possible targets is `set`.
+// Appends the ways from configuration `i`. `set` contains the possible targets of `i`.
 fn add_ways_from(ways: &mut Vec<Way>, spec: &Spec, set: u16, i: u8) -> Result<(), NoMemory>
     requires { set ≡ targets spec.now (conf_id i) }
     ensures { OnOk result (ways.new.items ≡ ways.old.items ++ ways_from spec.now i) }
@@ -98,8 +98,7 @@ fn range_asked(spec: &Spec, inv: &Invariant, place: Option<Place>) -> Extremes
     }
 }
 
-/// Returns the range of an invariant's variable on a way. This is its range in the configuration at the end of the
-/// way.
+/// Returns the range of an invariant's variable on a way: the range in the configuration at the end of the way.
 pub fn range_on(spec: &Spec, inv: &Invariant, way: &Way) -> Extremes
     ensures { result ≡ interval (range_on spec.now inv.now way.now) }
 {

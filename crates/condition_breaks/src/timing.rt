@@ -30,8 +30,8 @@ pub(crate) fn add_bound_breaks(
     Ok(())
 }
 
-// Appends the places of A9 for bounds from configuration `i`. The set of configurations to which a bound is required is
-// `set`.
+// Appends the places of A9 for bounds from configuration `i`. `set` contains the configurations to which a bound from
+// `i` is required.
 fn add_bound_breaks_from(
     breaks: &mut Vec<Break>,
     spec: &Spec,
@@ -56,7 +56,7 @@ fn lacks_bound(spec: &Spec, set: u16, i: ConfId, j: ConfId) -> bool
     is_asked(spec, set, i, j) && !is_bounded(spec, i, j)
 }
 
-// Returns `true` if a bound from `i` to `j` is required. `set` is the set of configurations to which a bound from `i`
+// Returns `true` if a bound from `i` to `j` is required. `set` contains the configurations to which a bound from `i`
 // is required.
 fn is_asked(spec: &Spec, set: u16, i: ConfId, j: ConfId) -> bool
     requires set { set ≡ asked_bounds spec.now i }

@@ -58,8 +58,7 @@ implies : (a b : Bool) → (a ≡ true → b ≡ true) → (not a || b) ≡ true
 implies true b f = f refl
 implies false b f = refl
 
--- If `f` returns `None` for the item of an optional item, the result for the optional item is `None`. It is also
--- `None` if there is no item.
+-- If `o` is `None`, or `f` returns `None` for the value of `o`, then the result for `o` is `None`.
 at_none : {A B : Type 0} (o : Option A) (f : A → Option B) → ((x : A) → o ≡ Some x → f x ≡ None) → option_map_or f o None ≡ None
 at_none None f each = refl
 at_none (Some x) f each = each x refl

@@ -1,4 +1,4 @@
--- The environment of a mission is in scope in each frame, also in the frame after the last one.
+-- The environment of a mission is in scope in each frame, including the frame after the last one.
 use Rattle.std.proofs.Common.{◌≡◌, ℕ, zero, suc, ◌-◌, ◌^◌, ◌<◌, ◌≤◌, not, refl, ap, arith, ◌⊎◌, sym, ◌∙◌, [], ◌∷◌, length}
 use mathlib.Core.Logic.{inl, inr}
 use Rattle.std.specs.Prelude.{slice_index}

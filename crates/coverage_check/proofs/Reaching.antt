@@ -134,8 +134,8 @@ module _ (spec : Parts) (made : IsSpec spec) where
       (below_none (passing_env_at spec test) (environments spec) (number_of spec v) none (number_inside v belongs)) in
       ap test (sym same) ∙ and_false (is_number_in_scope spec (number_of spec v)) _ here (ap (in_scope spec) same ∙ scope)
 
-  -- If `found` contains for each demand the first environment in which it is missed, `miss_shown` returns for demand
-  -- `k` the refusal that `demand_refusal_at` defines.
+  -- If `found` contains for each demand the first environment in which the demand is missed, `miss_shown` returns for
+  -- demand `k` the refusal that `demand_refusal_at` defines.
   pub miss_is : (c : ℕ) (found : List (Option Env)) → AreMisses spec (conf_id c) found → (k : ℕ) → k < length spec.demands → miss_shown found c k ≡ demand_refusal_at spec c k
   miss_is c found are k low =
       some_item spec.demands k low (λ demand there.

@@ -42,8 +42,8 @@ target_shown spec requirement.Stays c v = other.Conf (choose spec c v)
 abbrev pub first_unmet_env : Parts → Requirement → ConfId → Option Env
 first_unmet_env spec asked c = first_passing_env spec (is_unmet spec asked c)
 
--- The environment of a cover that belongs to a requirement: the first in which the requirement is not met, or `None`
--- if it is met.
+-- The environment that a cover contains for a requirement: the first one in scope in which the requirement is not
+-- met, or `None` if the requirement is met in each environment in scope.
 abbrev pub unmet_of_cover : Cover → Requirement → Option Env
 unmet_of_cover cover requirement.HasRule = cover.unfit
 unmet_of_cover cover requirement.CanRun = cover.not_runnable

@@ -28,7 +28,8 @@ demand_refusal_of spec c k demand = option_map (λ (v : Env). shown_in 13 c v (o
 abbrev pub demand_refusal_at : Parts → ℕ → ℕ → Option Shown
 demand_refusal_at spec c k = option_map_or (demand_refusal_of spec c k) (slice_get spec.demands k) None
 
--- The refusal for the first demand that the table misses from configuration `c`, or `None` if it misses none.
+-- The refusal for the first demand that the table misses from configuration `c`, or `None` if the table misses no
+-- demand from `c`.
 abbrev pub demand_refusal_in : Parts → ℕ → Option Shown
 demand_refusal_in spec c = first_below (demand_refusal_at spec c) (length spec.demands)
 
@@ -38,6 +39,7 @@ abbrev pub miss_shown : List (Option Env) → ℕ → ℕ → Option Shown
 miss_shown found c k =
     option_and_then (λ (least : Option Env). option_map (λ (v : Env). shown_in 13 c v (other.Demand k)) least) (slice_get found k)
 
--- A13: the refusal for the first configuration from which the table misses a demand, or `None` if it misses none.
+-- A13: the refusal for the first configuration from which the table misses a demand, or `None` if the table misses no
+-- demand.
 abbrev pub demand_refusal : Parts → Option Shown
 demand_refusal spec = first_below (demand_refusal_in spec) (length spec.confs)

@@ -31,7 +31,7 @@ has_off_need spec c a = option_map_or (λ (needing : AppSpec). has_off spec c ne
 abbrev pub lacks_need : Parts → ConfId → ℕ → Bool
 lacks_need spec c a = is_on spec c a && has_off_need spec c a
 
--- Whether more environments are in scope than acceptance searches.
+-- Whether more than `MAX_ENVIRONMENTS` environments are in scope.
 abbrev pub has_too_many_states : Parts → Bool
 has_too_many_states spec = nat_lt MAX_ENVIRONMENTS (states spec)
 
@@ -80,7 +80,7 @@ need_refusal_in spec c = first_below (λ a. shown_if (lacks_need spec (conf_id c
 abbrev pub need_refusal : Parts → Option Shown
 need_refusal spec = first_below (need_refusal_in spec) (length spec.confs)
 
--- A2: the refusal if too many environments are in scope, or `None` if there are not too many.
+-- A2: the refusal if more than `MAX_ENVIRONMENTS` environments are in scope, or `None` otherwise.
 abbrev pub state_refusal : Parts → Option Shown
 state_refusal spec = shown_if (has_too_many_states spec) (shown_nowhere 2 (other.Count (states spec)))
 

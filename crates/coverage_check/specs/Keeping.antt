@@ -12,12 +12,12 @@ pub record StaysInScope (spec : Parts) (script : ScriptParts) (f : ℕ) : Type 0
   pub belongs : IsEnv spec (env_at spec script f)
   pub scope : in_scope spec (env_at spec script f) ≡ true
 
--- The environment is in scope in each frame up to and including the frame after the last one. The environment of
--- frame 0 is `opening_env`.
+-- The environment is in scope in each frame, including the frame after the last one. The environment of frame 0 is
+-- `opening_env`.
 pub record KeepsScope (spec : Parts) (script : ScriptParts) : Type 0 where
   pub opens : env_at spec script 0 ≡ opening_env spec
   pub stays : (f : ℕ) → f ≤ script.frames → StaysInScope spec script f
 
--- The environment of every mission is in scope in every frame, also in the frame after the last one.
+-- The environment of every mission is in scope in every frame, including the frame after the last one.
 abbrev pub MissionsKeepScope : Type 0
 MissionsKeepScope = (mission : MissionParts) → IsSpec mission.spec → IsMission mission → KeepsScope mission.spec mission.script

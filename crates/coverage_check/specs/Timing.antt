@@ -45,8 +45,8 @@ slowest spec =
 abbrev pub least : Parts → ConfId → ConfId → ℕ
 least spec i j = 1 + halting_time spec i + further spec.policy spec.changes * slowest spec + preparing_time spec j + initialising_time spec j
 
--- Whether a reconfiguration may end in the configuration in which it began. It may do so if a further change is
--- possible.
+-- Whether a reconfiguration may end in the configuration in which it began. This requires that the environment may
+-- change again during the reconfiguration.
 abbrev pub can_return : Parts → Bool
 can_return spec = nat_lt 0 (further spec.policy spec.changes)
 

@@ -16,7 +16,7 @@ use cube_cover::Cover;
 use scram_types::{NoMemory, Spec};
 use std::alloc::Global;
 
-/// An accepted specification. All thirteen conditions hold for it.
+/// A specification for which all thirteen conditions of acceptance hold.
 #[derive(Drop)]
 pub struct Accepted {
     spec: Spec,
@@ -57,11 +57,11 @@ pub enum AcceptError {
 ///
 /// # Errors
 ///
-/// Returns the refusal by the first condition that does not hold, at its smallest configuration, then at the
-/// environment with the smallest number, then at the smallest other value. For invariants and preconditions, the
-/// first item comes first, then its smallest configuration. For demands, the smallest configuration comes first, then
-/// the first demand, then its first environment. Returns `NoMemory` if memory runs out. Both errors contain the
-/// specification.
+/// Returns the refusal by the first condition that does not hold, at the first place where that condition is broken.
+/// Places are ordered by configuration, then by the number of the environment, then by the other value. For
+/// invariants and preconditions, places are ordered by item, then by configuration. For demands, places are ordered
+/// by configuration, then by demand, then by environment. Returns `NoMemory` if memory runs out. Both errors contain
+/// the specification.
 #[tactic(auto, using(crate::proofs::Accepting::accepted))]
 pub fn accept(alloc: Global, spec: Spec) -> Result<Accepted, AcceptError>
     ensures accepted { IfOk result (λ accepted. accepted ≡ spec) }

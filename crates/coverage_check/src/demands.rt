@@ -12,8 +12,8 @@ use cube_cover::misses;
 use scram_types::{ConfId, Env, NoMemory, Spec};
 use std::alloc::Global;
 
-// Returns the refusal for the first configuration from which the table misses a demand (A13), or `None` if it misses
-// none.
+// Returns the refusal for the first configuration from which the table misses a demand (A13), or `None` if the table
+// misses no demand.
 pub(crate) fn refuse_demand(alloc: Global, spec: &Spec) -> Result<Option<Shown>, NoMemory>
     ensures { IfOk result (λ shown. shown ≡ demand_refusal spec.now) }
 {
@@ -26,7 +26,8 @@ pub(crate) fn refuse_demand(alloc: Global, spec: &Spec) -> Result<Option<Shown>,
     Ok(None)
 }
 
-// Returns the refusal for the first demand that the table misses from configuration `c`, or `None` if it misses none.
+// Returns the refusal for the first demand that the table misses from configuration `c`, or `None` if the table
+// misses no demand from `c`.
 fn refuse_demand_in(alloc: Global, spec: &Spec, c: u8) -> Result<Option<Shown>, NoMemory>
     requires known { IsSpec spec.now }
     requires inside { c < length spec.now.confs }

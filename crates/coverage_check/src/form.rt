@@ -59,8 +59,8 @@ fn has_off(spec: &Spec, c: ConfId, needs: &[AppId]) -> bool
     needs.iter().any(|needed| !spec.is_on(c, *needed))
 }
 
-/// Returns the refusal if more environments are in scope than acceptance searches (A2), with the number of
-/// environments in scope, or `None` if there are not too many.
+/// Returns the refusal if more than [`MAX_ENVIRONMENTS`] environments are in scope (A2), or `None` otherwise. The
+/// refusal contains the number of environments in scope.
 pub fn refuse_states(spec: &Spec) -> Option<Shown>
     ensures { result ≡ state_refusal spec.now }
 {

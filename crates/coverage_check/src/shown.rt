@@ -22,7 +22,7 @@ pub enum Other {
     Conf(ConfId),
     /// A number of environments, or a bound in frames.
     Count(u32),
-    /// A target, and the minimum bound in frames that suffices for it.
+    /// A target, and the minimum bound that suffices for the target, in frames.
     Least(ConfId, u32),
     /// The index of an invariant among the invariants, or of a precondition among the preconditions.
     Item(u32),

@@ -16,10 +16,10 @@ use dep_order::timetable;
 use scram_types::{Bound, ConfId, NoMemory, Policy, Spec};
 use std::alloc::Global;
 
-/// Returns the minimum bound, in frames, that suffices for a reconfiguration from configuration `i` to `j`. It counts
-/// one frame, the frames that `i` takes to halt, and the frames that `j` takes to prepare and to initialise. For each
-/// further change of the environment, it adds the greatest number of frames from the choice of one target to the
-/// choice of the next.
+/// Returns the minimum bound, in frames, that suffices for a reconfiguration from configuration `i` to `j`. The bound
+/// counts one frame, the frames that `i` takes to halt, and the frames that `j` takes to prepare and to initialise.
+/// For each further change of the environment, the bound also counts the greatest number of frames from the choice of
+/// one target to the choice of the next.
 pub fn least(spec: &Spec, i: ConfId, j: ConfId) -> u32
     ensures { result ≡ least spec.now i j }
 {
@@ -29,7 +29,7 @@ pub fn least(spec: &Spec, i: ConfId, j: ConfId) -> u32
 }
 
 /// Returns the configurations, as bits, to which a specification must give a bound from configuration `i`. They are
-/// the possible targets of `i`. Configuration `i` itself is one of them only if a reconfiguration may return to the
+/// the possible targets of `i`, except that `i` itself is included only if a reconfiguration may return to the
 /// configuration in which it began.
 ///
 /// # Errors

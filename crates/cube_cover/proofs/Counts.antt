@@ -9,7 +9,7 @@ use Rattle.cube_cover.specs.Sizes.{sum_below}
 
 -- The number of `n` below `a * b` such that `n / b` passes one test and `n % b` passes another is a product. Its
 -- factors are the number of quotients below `a` that pass the first test and the number of remainders below `b` that
--- pass the second. The proof goes through the quotients one by one.
+-- pass the second test. The proof is by induction on the quotients.
 
 row_more : (f g h : ℕ → Bool) (d b k : ℕ) → count_below f (d * b) ≡ count_below g d * count_below h b
     → ((j : ℕ) → j < k → f (d * b + j) ≡ (g d && h j)) → count_below f (d * b + k) ≡ count_below g d * count_below h b + (if g d then count_below h k else 0)

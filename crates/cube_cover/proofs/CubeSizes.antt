@@ -109,9 +109,8 @@ module _ (spec : Parts) (made : IsSpec spec) (cube : Cube) where
       let few = made.factors_count in
       length-append (values_of spec.factors n) zeros ∙ rw (values_length spec.factors n, length-replicate {A = ℕ} (6 - length spec.factors) 0) (omega arith)
 
-  -- If digit 0 is open at each place past the last factor, the cube holds the environment with number `n` and the
-  -- environment is in scope if and only if the environment's set of processors is allowed and its combination of
-  -- values is open.
+  -- Suppose that digit 0 is open at each place past the last factor. The environment with number `n` is held by the
+  -- cube and in scope if and only if its set of processors is allowed and its combination of values is open.
   held_number : (n : ℕ) → are_open cube (length spec.factors) zeros ≡ true → passes_at spec (holds cube) n
       ≡ (is_down_held spec cube (n / combinations spec.factors) && are_open cube 0 (values_of spec.factors (n % combinations spec.factors)))
   held_number n shut =
@@ -146,8 +145,9 @@ module _ (spec : Parts) (made : IsSpec spec) (cube : Cube) where
       turn true false u = refl
       turn false a u = refl
 
-  -- The number of environments in scope that the cube holds is the number of allowed sets of processors times the
-  -- number of open combinations of values. It is 0 if digit 0 is not open at some place past the last factor.
+  -- If digit 0 is open at each place past the last factor, the number of environments in scope that the cube holds is
+  -- a product. Its factors are the number of allowed sets of processors and the number of open combinations of
+  -- values.
   pub size_counted : (sets ways : ℕ) → are_open cube (length spec.factors) zeros ≡ true → sets ≡ count_below (is_down_held spec cube) (2 ^ length spec.procs)
       → ways ≡ open_ways cube 0 spec.factors → sets * ways ≡ count_where spec (holds cube)
   size_counted sets ways shut sets_are ways_are =
@@ -174,7 +174,8 @@ module _ (spec : Parts) (made : IsSpec spec) (cubes : List Cube) (disjoint : Are
       (λ scope. let most = disjoint (numbered spec n) (known n less scope) in let part = held_before cubes k (numbered spec n) in rw (scope) (omega arith))
       (λ out. rw (out) (omega arith))
 
-  -- The first `k` cubes hold at most as many environments in scope as the specification has environments.
+  -- The numbers of environments in scope that the first `k` cubes hold add up to at most the number of environments
+  -- of the specification.
   pub held_most : (k : ℕ) → sum_below (held_at spec (take k cubes)) (environments spec) ≤ environments spec
   held_most k = sum_most (held_at spec (take k cubes)) (environments spec) (λ n less. held_few k n less)
 

@@ -53,15 +53,16 @@ pub add_none : (n : ℕ) (b : Bool) → b ≡ false → n ≡ n + once b
 add_none n true e = absurd (cc)
 add_none n false e = omega arith
 
--- An environment is cut off at an earlier place, at the next place, or at neither. The first two counts add up to the
--- count of the environments that some place up to the next one cuts off.
+-- The test `c` is whether a cube holds an environment, `s` is whether the environment passes at all earlier places,
+-- and `t` is whether it passes at the next place. If the cube holds the environment and one of the places fails, the
+-- environment is counted once.
 pub cut_more : (n : ℕ) (c s t : Bool) → (n + once (c && not s)) + once ((c && s) && not t) ≡ n + once (c && not (s && t))
 cut_more n true true t = omega arith
 cut_more n true false t = omega arith
 cut_more n false s t = omega arith
 
--- If an environment is in a part, the next cube adds the same number to the cubes of the part that hold it as to all
--- cubes that hold it. Otherwise the number for the part stays 0.
+-- If an environment is in a part, the next cube adds the same number to the count for the part as to the count for
+-- all cubes. Otherwise, the count for the part stays 0.
 pub part_more : (n : ℕ) (h p : Bool) → (if p then n else 0) + once (h && p) ≡ (if p then n + once h else 0)
 part_more n true true = refl
 part_more n true false = refl

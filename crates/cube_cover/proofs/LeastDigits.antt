@@ -1,5 +1,5 @@
--- The number of the environment with the smallest open digits of a cube is at most that of each environment that the
--- cube holds.
+-- No environment that a cube holds has a smaller number than the environment with the smallest open digits of the
+-- cube.
 use Rattle.std.proofs.Common.{◌≡◌, ◌≢◌, ◌∙◌, ℕ, zero, suc, ◌+◌, ◌*◌, ◌-◌, ◌^◌, ◌<◌, ◌≤◌, refl, ap, sym, subst, arith, Bool, true, false, not, ◌||◌, List, [], ◌∷◌, length}
 use mathlib.Core.Logic.{inl, inr}
 use Rattle.std.specs.Prelude.{◌==◌, slice_index, nat_lt, if◌then◌else◌}
@@ -168,7 +168,7 @@ module _ (spec : Parts) (made : IsSpec spec) (cube : Cube) where
     ];
   }
 
-  -- The environment of smallest digits has a number that is at most that of each environment that the cube holds.
+  -- No environment that the cube holds has a smaller number than the environment of smallest digits.
 
   module _ (v : Env) (known : IsEnv spec v) (held : holds cube v ≡ true) where
     digits : HasDigits v
@@ -271,8 +271,8 @@ module _ (spec : Parts) (made : IsSpec spec) (cube : Cube) where
           ap (λ (y : ℕ). has_bit cube.bits (4 * y + digit_in (least_env spec cube) y)) (sym split) ∙ processor_held (x - 6) (omega arith)
     ])
 
-  -- If the environment of smallest digits belongs to the specification, is held and is in scope, it is the first
-  -- environment in scope, by number, that the cube holds. Otherwise the cube holds no environment in scope.
+  -- If the environment of smallest digits belongs to the specification, is held by the cube and is in scope, it is
+  -- the first environment in scope, by number, that the cube holds. Otherwise the cube holds no environment in scope.
 
   pub found : (env : Env) → env ≡ least_env spec cube → belongs spec env ≡ true → holds cube env ≡ true → in_scope spec env ≡ true → IsLeast spec (λ v. holds cube v) env
   found env is belonging held scope =

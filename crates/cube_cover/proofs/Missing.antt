@@ -45,7 +45,7 @@ either_part true false false = refl
 either_part false c h = refl
 
 -- Within the cube `by`, an environment is marked by the first `k + 1` regions if and only if it is marked by the
--- first `k` regions or held by the next one, whose target passes the test.
+-- first `k` regions, or held by the next region and the target of this region passes the test.
 pub marked_more : (regions : List Region) (by : Cube) (passes : ℕ → Bool) (k : ℕ) (d : Region) (v : Env) → k < length regions
     → ((is_marked (take k regions) passes v && holds by v) || (is_held passes v (get_or regions k d) && holds by v)) ≡ (is_marked (take (k + 1) regions) passes v && holds by v)
 marked_more regions by passes k d v low =

@@ -91,8 +91,7 @@ count_where_same spec made s t same = count_same (passes_at spec s) (passes_at s
     (λ scope. rw (scope) (same (numbered spec n) (record { belongs = is_env spec made.factors made.factors_count n less; scope = scope })))
     (λ out. rw (out) refl))
 
--- The environment in scope with the smallest number that passes the test is the first one that a search by number
--- finds.
+-- If an environment satisfies `IsLeastEnv`, it is the environment that `first_where` finds by number.
 
 told_if : {A : Type 0} (b : Bool) (x : A) → b ≡ true → (if b then Some x else None) ≡ Some x
 told_if b x e = rw e refl
@@ -131,7 +130,7 @@ module _ (spec : Parts) (made : IsSpec spec) (test : Env → Bool) where
       let here : found_at (number_of spec v) ≡ Some v = told_if _ (numbered spec (number_of spec v)) passes ∙ ap Some same in
       sym (first_found found_at (environments spec) (number_of spec v) v before here inside)
 
--- A share of one test is a share of another test that agrees with it on all environments in scope.
+-- If two tests agree on all environments in scope, a share of one test is also a share of the other test.
 pub share_same : (spec : Parts) → IsSpec spec → (s t : Env → Bool) (share : Share) → Agree spec s t → IsShare spec s share → IsShare spec t share
 share_same spec made s t share same is = record {
   count = is.count ∙ count_where_same spec made s t same;

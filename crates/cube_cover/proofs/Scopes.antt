@@ -46,7 +46,7 @@ module _ (spec : Parts) (made : IsSpec spec) (v : Env) (belongs : IsEnv spec v) 
     few = (let few = made.procs_count.few in let room : 2 ^ length spec.procs ≤ 2 ^ 8 = pow-le-pow_right {n = 2} (omega arith) few in let up = belongs.up in omega arith);
   }
 
-  -- Each digit of an environment of the specification is one that its place can have.
+  -- Each digit of an environment of the specification satisfies `is_digit` at its place.
 
   factor_is_digit : (x : ℕ) → (factor_in v x == 0 || nat_lt (factor_in v x) (value_count spec.factors x)) ≡ true
   factor_is_digit x = elim (low_or_high x (length spec.factors)) [

@@ -35,8 +35,9 @@ module _ (spec : Parts) (cube by rest next : Cube) (x : ℕ) where
       ∙ cut_more (holders old v) (holds cube v) (all_below (allows by v) x) (allows by v x)
       ∙ ap (λ (n : ℕ). holders old v + once (holds cube v && not (all_below (allows by v) n))) (plus_one x)
 
--- Suppose that a list holds those environments of the first `k` cubes that are in a part, and that those of the next
--- cube are added. Then the list holds those of the first `k + 1` cubes.
+-- Suppose that a list holds the environments of the first `k` cubes that are in a part, and that the environments of
+-- the next cube that are in the part are added. Then the list holds the environments of the first `k + 1` cubes that
+-- are in the part.
 pub parts_more : (spec : Parts) (cubes : List Cube) (k : ℕ) (d : Cube) (part : Env → Bool) (old new : List Cube) → k < length cubes
     → ((v : Env) → IsInScope spec v → holders old v ≡ (if part v then holders (take k cubes) v else 0)) → Gain spec old new (λ v. holds (get_or cubes k d) v && part v)
     → (v : Env) → IsInScope spec v → holders new v ≡ (if part v then holders (take (k + 1) cubes) v else 0)
@@ -63,7 +64,7 @@ none_split spec by inside outside e f = record {
     either_zero true n e = e
     either_zero false n e = refl
 
--- If two cubes share no environment, the whole of the first lies outside of the second.
+-- If two cubes share no environment, the whole first cube lies outside of the second cube.
 
 pub apart_beyond : (cube by : Cube) (v : Env) → (holds cube v && holds by v) ≡ false → holds cube v ≡ (holds cube v && not (holds by v))
 apart_beyond cube by v e = part (holds cube v) (holds by v) e

@@ -44,7 +44,7 @@ pub choose_inside : (spec : Parts) → IsSpec spec → (c : ConfId) (v : Env) �
 choose_inside spec made c v known = target_inside (length spec.confs) spec.rules c v (λ k rule there. (made.rules k rule there).to) known
 
 -- The target of the first rule that fits, or configuration `c` itself if no rule fits, passes a test if and only if
--- the chosen target does.
+-- the chosen target passes the test.
 
 ruled_or_own : (rules : List Choice) (c : ConfId) (passes : ℕ → Bool) (v : Env) → (is_ruled rules c passes v || (not (list_any (rule_fits c v) rules) && passes c.0)) ≡ passes (target_among rules c v).0
 unfolding is_ruled

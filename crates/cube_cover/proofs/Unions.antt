@@ -14,7 +14,8 @@ use Rattle.cube_cover.specs.declared.cubes.Cube.{Cube}
 use Rattle.cube_cover.specs.Covers.{IsLeast, IsLeastEnv, earlier_env}
 use Rattle.cube_cover.specs.Cubes.{Agree, holds, is_in}
 
--- The smaller of two first environments is the first that passes either test.
+-- Of the first environments that pass each of two tests, the earlier environment is the first that passes either
+-- test.
 
 either_false : (a b : Bool) → a ≡ false → b ≡ false → (a || b) ≡ false
 either_false true b e f = e

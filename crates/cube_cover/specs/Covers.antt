@@ -16,14 +16,15 @@ pub record IsLeast (spec : Parts) (test : Env → Bool) (found : Env) : Type 0 w
   pub passes : test found ≡ true
   pub least : (v : Env) → IsEnv spec v → in_scope spec v ≡ true → test v ≡ true → number_of spec found ≤ number_of spec v
 
--- Of the environments in scope that pass the test, the optional environment is the one with the smallest number. It
--- is `None` if no environment in scope passes.
+-- The optional environment is the environment with the smallest number among the environments in scope that pass the
+-- test. It is `None` if no environment in scope passes the test.
 abbrev pub IsLeastEnv : Parts → (Env → Bool) → Option Env → Type 0
 IsLeastEnv spec test (Some found) = IsLeast spec test found
 IsLeastEnv spec test None = (v : Env) → IsEnv spec v → in_scope spec v ≡ true → test v ≡ false
 
 -- The environment with the smaller number of two optional environments, or the first of them if their numbers are
--- equal. If only one is present, the value is that environment. If neither is present, the value is `None`.
+-- equal. If only one environment is present, the value is that environment. If neither is present, the value is
+-- `None`.
 abbrev pub earlier_env : Parts → Option Env → Option Env → Option Env
 earlier_env spec None None = None
 earlier_env spec (Some v) None = Some v

@@ -25,8 +25,8 @@ is_ruled [] c passes v = false
 is_ruled (rule ∷ rules) c passes v = if rule_fits c v rule then passes rule.to.0 else is_ruled rules c passes v
 
 -- The regions `ruled` hold exactly the environments in scope that the cubes hold and in which some rule fits
--- configuration `c`. The target of a region is that of the first such rule. The cubes `unruled` hold exactly the
--- environments in scope that the cubes hold and in which no rule fits `c`.
+-- configuration `c`. The target of a region is the target of the first such rule. The cubes `unruled` hold exactly
+-- the environments in scope that the cubes hold and in which no rule fits `c`.
 pub record AreRegions (spec : Parts) (c : ConfId) (cubes : List Cube) (ruled : List Region) (unruled : List Cube) : Type 0 where
   pub targets : (passes : ℕ → Bool) → Agree spec (is_marked ruled passes) (λ v. is_in cubes v && is_ruled spec.rules c passes v)
   pub rest : Agree spec (is_in unruled) (λ v. is_in cubes v && not (has_rule spec c v))

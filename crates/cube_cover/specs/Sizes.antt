@@ -37,14 +37,14 @@ allows_up cube up = all_below (λ p. is_open_digit cube (6 + p) (digit_of_proces
 abbrev pub is_down_held : Parts → Cube → ℕ → Bool
 is_down_held spec cube down = allows_up cube (2 ^ length spec.procs - 1 - down) && is_down_in_scope spec down
 
--- Whether each value of a list is open in a cube: the first value at place `x`, and each further one at the next
+-- Whether each value of a list is open in a cube: the first value at place `x`, and each further value at the next
 -- place.
 abbrev pub are_open : Cube → ℕ → List ℕ → Bool
 are_open cube x [] = true
 are_open cube x (value ∷ values) = is_open_digit cube x value && are_open cube (suc x) values
 
--- The number of combinations of open values of the factors in a list. The first factor is at place `x` of a cube, and
--- each further factor at the next place.
+-- The number of ways to choose one open value for each factor in a list. The first factor is at place `x` of a cube,
+-- and each further factor at the next place.
 abbrev pub open_ways : Cube → ℕ → List Factor → ℕ
 open_ways cube x [] = 1
 open_ways cube x (factor ∷ factors) = count_below (is_open_digit cube x) (length factor.values) * open_ways cube (suc x) factors

@@ -104,8 +104,9 @@ fn find(
     })
 }
 
-// Returns the first environment of the cubes, by number, in which the table chooses from `t` a configuration other
-// than `t`, or `None` if there is no such environment. If `t` is `i`, the result is `None`.
+// Returns the first environment in scope, by number, that the cubes hold and in which the table chooses a
+// configuration other than `t` from `t`, or `None` if there is no such environment. If `t` is `i`, the result is
+// `None`.
 fn find_unsettled(
     alloc: Global,
     spec: &Spec,

@@ -41,7 +41,7 @@ pub fn misses(alloc: Global, spec: &Spec, i: ConfId) -> Result<Vec<Option<Env>>,
     Ok(found)
 }
 
-// Returns the regions of configuration `i`, in each of which one target is chosen.
+// Returns the regions of configuration `i`. In all environments of a region, the same target is chosen.
 fn chosen_regions(alloc: Global, spec: &Spec, i: ConfId) -> Result<Vec<Region>, NoMemory>
     requires { IsSpec spec.now }
     ensures { IfOk result (λ regions. AreAll spec.now i regions.items) }

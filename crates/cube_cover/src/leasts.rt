@@ -25,8 +25,8 @@ pub(crate) fn least_of(spec: &Spec, cubes: &[Cube]) -> Option<Env>
     least
 }
 
-// Returns the environment with the smaller number of two optional environments. If only one is present, returns that
-// environment. If neither is present, returns `None`.
+// Returns the environment with the smaller number of two optional environments, or the first of them if their numbers
+// are equal. If only one environment is present, returns that environment. If neither is present, returns `None`.
 pub(crate) fn earlier_env(spec: &Spec, one: Option<Env>, other: Option<Env>) -> Option<Env>
     ensures { result ≡ earlier_env spec.now one other }
 {

@@ -1,4 +1,4 @@
-//! The environments in scope, divided by the first rule that fits them.
+//! The environments in scope, divided into shares by the first rule that fits in them.
 
 ghost use Rattle.std.specs.Prelude.{◌≡◌, ◌&&◌, IfOk};
 ghost use Rattle.scram_types.specs.Specification.{IsSpec};
@@ -16,8 +16,8 @@ use crate::splits::split_by;
 use scram_types::{Choice, ConfId, Env, NoMemory, Spec};
 use std::alloc::Global;
 
-/// A share of the environments in scope. `count` is the number of environments, and `first` is the first of them, by
-/// number, or `None` if the share is empty.
+/// A share of the environments in scope. `count` is the number of environments in the share, and `first` is the first
+/// of them, by number, or `None` if the share is empty.
 #[derive(Clone, Copy, Debug, PartialEq, Eq)]
 pub struct Share {
     pub count: u32,

@@ -25,8 +25,9 @@ pub(crate) fn count_held(spec: &Spec, cubes: &[Cube]) -> u32
     count
 }
 
-// Returns the number of environments in scope that a cube holds. This is the number of sets of processors that may be
-// down times the number of combinations of open values. It is 0 if `are_zeros_open` returns `false`.
+// Returns the number of environments in scope that a cube holds. The result is the product of two numbers: the number
+// of sets of processors that may be down, and the number of ways to choose one open value for each factor. It is 0 if
+// `are_zeros_open` returns `false`.
 fn size_of(spec: &Spec, cube: Cube) -> u32
     requires { IsSpec spec.now }
     ensures { result ≡ count_where spec.now (holds cube) }
@@ -136,7 +137,7 @@ fn digit_of_processor(up: u8, p: u8) -> u8
     if has_bit(up, p) { 0 } else { 1 }
 }
 
-// Returns the number of combinations of open values of the factors.
+// Returns the number of ways to choose one open value for each factor.
 fn count_combinations(spec: &Spec, cube: Cube) -> u32
     requires { IsSpec spec.now }
     ensures value { result ≡ open_ways cube 0 spec.now.factors }

@@ -57,7 +57,7 @@ module _ (chart : Chart) (rank : ℕ → ℕ) (ranked : IsRanked chart rank) whe
     most = λ a bs h. chain_most 8 a bs (chain_length a bs h) h;
   }
 
-  -- An application below `n` that is on and has the maximum rank of those that are on.
+  -- An application that is on and has a number below `n`. No other such application has a higher rank.
   pub record Top (n : ℕ) : Type 0 where
     pub app : ℕ
     pub inside : app < n
@@ -128,8 +128,8 @@ module _ (chart : Chart) (rank : ℕ → ℕ) (ranked : IsRanked chart rank) whe
     | inr t ↦ (t.app, t.inside, t.on, top_zero 8 t)
   ]
 
-  -- If times are at most 16 frames, the times along a chain before an application of rank r sum to at most 16 times
-  -- (7 - r).
+  -- If times are at most 16 frames, the times along a chain before an application of rank `r` sum to at most `16 * (7
+  -- - r)` frames.
   pub longest_ranked : ((b : ℕ) → b < chart.apps → chart.time b ≤ 16) → (links a : ℕ) → a < chart.apps → longest chart links a ≤ 112 - 16 * rank a
   longest_ranked few zero a known = omega arith
   longest_ranked few (suc links) a known = greatest_within (time_added chart (longest chart links) a) chart.apps (112 - 16 * rank a) (λ b less.

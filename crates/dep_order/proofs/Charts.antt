@@ -5,8 +5,8 @@ use Rattle.scram_types.proofs.Searches.{greatest_same, greatest_within}
 use Rattle.scram_types.specs.Searches.{greatest_below}
 use Rattle.dep_order.specs.Chains.{Chart, longest, offset, time_added}
 
--- Two charts have the same number of applications, the same applications that are on, the same order and the same
--- times.
+-- Two charts agree if they have the same number of applications, the same applications that are on, the same order
+-- and the same times.
 
 pub record Agree (one other : Chart) : Type 0 where
   pub apps : one.apps ≡ other.apps

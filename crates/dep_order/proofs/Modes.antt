@@ -23,7 +23,7 @@ mode_in_each P [] mode x each e = none_some x e
 mode_in_each P (y ∷ ys) mode x each e =
     mode_case P (y.mode.0 == mode) y x (mode_in ys mode) (each 0 y refl) (mode_in_each P ys mode x (λ i z f. each (suc i) z f)) e
 
--- A phase takes 1 to 16 frames for an application that is on, and 0 frames for one that is off.
+-- A phase takes 1 to 16 frames for an application that is on, and 0 frames for an application that is off.
 pub record IsTimed (on : Bool) (time : ℕ) : Type 0 where
   pub most : time ≤ 16
   pub test : on ≡ nat_lt 0 time

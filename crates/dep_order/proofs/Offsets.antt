@@ -1,4 +1,4 @@
--- The charts of a specification: ranks fall along them, and phases end in time.
+-- Lemmas on the charts of a specification: ranks fall along the charts, and phases end in time.
 use Rattle.std.proofs.Common.{◌≡◌, ℕ, suc, ◌+◌, ◌-◌, ◌<◌, ◌≤◌, Bool, true, false, refl, arith, ap, sym, ◌∙◌, List, [], ◌∷◌, length}
 use Rattle.std.specs.Prelude.{Option, Some, None, ◌==◌, ◌||◌, if◌then◌else◌, nat_lt, slice_get}
 use Rattle.std.specs.Option.{option_map_or}
@@ -18,7 +18,7 @@ use Rattle.dep_order.proofs.Modes.{IsTimed, timed}
 abbrev pub rank_of : Parts → ℕ → ℕ
 rank_of spec a = option_map_or (λ (app : AppSpec). app.rank) (slice_get spec.apps a) 0
 
--- The rank of application `b` is below 8 and higher than that of application `a`. This holds if `b` needs `a`.
+-- The rank of application `b` is below 8 and higher than the rank of application `a`. This holds if `b` needs `a`.
 record Rises (spec : Parts) (b a : ℕ) : Type 0 where
   rises : rank_of spec a < rank_of spec b
   few : rank_of spec b < 8
@@ -90,7 +90,7 @@ if_below false n most h = omega arith
 some_time : (on : Bool) (n : ℕ) → IsTimed on n → on ≡ true → 1 ≤ n
 some_time on n time h = let test : nat_lt 0 n ≡ true = sym time.test ∙ h in grind (arith, nat_tests)
 
--- The value of an application that is on is at most the maximum of the values of all that are on.
+-- The value of an application that is on is at most the maximum of the values of all applications that are on.
 ends : (spec : Parts) → IsSpec spec → (c : ConfId) (value : ℕ → ℕ) (a : ℕ) → is_on spec c a ≡ true
     → value a ≤ greatest_below (λ a. where_on spec c a (value a)) (length spec.apps)
 ends spec known c value a on =

@@ -28,7 +28,7 @@ turned_closed apps b rest zero d inside turn = subst (λ (l : List AppId). Needs
 turned_closed apps b rest (suc k) d inside turn =
     turn_join apps (drop k rest) b (take k rest) (get_or rest k d) (turn_drop apps (b ∷ rest) (suc k) b turn) (turn_take apps (b ∷ rest) (suc k) d b inside turn)
 
--- The element at index `i` of the list rotated by `k` is at index `place` of the list.
+-- Lemmas on the element at index `i` of a list rotated by `k`, which is at index `place` of the list itself.
 
 before_or_past : (n k i : ℕ) → (k + i < n) ⊎ (n ≤ k + i)
 before_or_past n k i = grind arith

@@ -12,7 +12,7 @@ use Rattle.dep_order.specs.Ranks.{Needs, NeedsInTurn}
 use Rattle.dep_order.specs.Ranking.{is_unranked, rank_in, ready}
 use Rattle.dep_order.specs.Timetables.{is_named}
 
--- If needs determine no rank, one of the needed applications has none.
+-- If needs determine no rank, one of the needed applications has no rank.
 
 wait_case : (ranks : List (Option ℕ)) (least : ℕ) (needed : AppId) (needs : List AppId) (rank : Option ℕ)
     → ((more : ℕ) → find (λ (n : AppId). is_unranked ranks n.0) needs ≡ None → ready more ranks needs ≡ None → ⊥)

@@ -11,7 +11,7 @@ pub record Chart : Type 0 where
   pub time : ℕ → ℕ
 
 -- The time that application `b` adds to a chain before application `a`: the time of `b` plus `summed b`, or 0 if `b`
--- is off or does not go before `a`. `summed` is the sum of times along a chain before each application.
+-- is off or does not go before `a`. `summed c` is the sum of times along a chain before application `c`.
 abbrev pub time_added : Chart → (ℕ → ℕ) → ℕ → ℕ → ℕ
 time_added chart summed a b = if chart.on b && chart.before b a then chart.time b + summed b else 0
 
@@ -26,7 +26,7 @@ abbrev pub offset : Chart → ℕ → ℕ
 offset chart a = longest chart 8 a
 
 -- A list of applications is a chain before application `a`: each application is on, the first goes before `a`, and
--- each further one goes before its predecessor in the list.
+-- each further application goes before its predecessor in the list.
 abbrev pub Chain : Chart → List ℕ → ℕ → Type 0
 Chain chart [] a = Unit {0}
 Chain chart (b ∷ bs) a = (b < chart.apps) × (chart.on b ≡ true) × (chart.before b a ≡ true) × Chain chart bs b

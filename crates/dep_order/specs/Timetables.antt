@@ -40,7 +40,8 @@ needs spec b a = option_map_or (λ (app : AppSpec). is_named app.needs a) (slice
 abbrev pub halt_chart : Parts → ConfId → Chart
 halt_chart spec c = record { apps = length spec.apps; on = is_on spec c; before = needs spec; time = halt_time spec c }
 
--- The chart of the init phase of a configuration, in which each application initialises after those that it needs.
+-- The chart of the init phase of a configuration, in which each application initialises after the applications that
+-- it needs.
 abbrev pub init_chart : Parts → ConfId → Chart
 init_chart spec c = record { apps = length spec.apps; on = is_on spec c; before = λ b a. needs spec a b; time = init_time spec c }
 
@@ -94,8 +95,8 @@ timed_chart spec phase times = record {
   time = slice_index times;
 }
 
--- The number of frames of a phase, given the times and offsets of the first `n` applications. It is the maximum sum
--- of offset and time of an application whose time is above 0.
+-- The number of frames of a phase, given the times and offsets of the first `n` applications. The value is the
+-- maximum sum of offset and time of an application whose time is above 0.
 abbrev pub phase_length : List ℕ → List ℕ → ℕ → ℕ
 phase_length times offsets n =
     greatest_below (λ a. if nat_lt 0 (slice_index times a) then slice_index offsets a + slice_index times a else 0) n

@@ -4,8 +4,8 @@ ghost use Rattle.dep_order.specs.Ranks.{RankingExcludesCycles};
 ghost use Rattle.dep_order.specs.Timetables.{OffsetsAreGreatestSums, PhasesEndInTime};
 
 /// States that an application's halt offset is the sum of halt times along some chain of its dependents, and that no
-/// such chain has a greater sum. The same holds for its init offset, with the init times along the chains of
-/// applications that it needs. Without a chain an offset is 0.
+/// such chain has a greater sum. The same holds for an init offset, with the init times along the chains of
+/// applications that the application needs. Without a chain, an offset is 0.
 pub fn offsets_are_greatest_sums()
     ensures { OffsetsAreGreatestSums }
 {}

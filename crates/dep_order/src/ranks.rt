@@ -101,8 +101,8 @@ fn rank_of(ranks: &Ranks, app: AppId) -> Option<u8>
     }
 }
 
-// Returns the ranks of the first `count` applications, in order, or `Err` with the number of the first one that has
-// no rank.
+// Returns the ranks of the first `count` applications, in order, or `Err` with the number of the first application
+// without a rank.
 fn list_ranks(count: usize, ranks: &Ranks) -> Result<ArrayVec<u8, 8>, u8>
     requires { count ≤ 8 }
     ensures count { IfOk result (λ listed. length listed.items ≡ count) }
@@ -120,7 +120,7 @@ fn list_ranks(count: usize, ranks: &Ranks) -> Result<ArrayVec<u8, 8>, u8>
     Ok(listed)
 }
 
-// Returns the first needed application that has no rank, or `None` if all have one.
+// Returns the first needed application that has no rank, or `None` if each needed application has a rank.
 fn find_waiting(ranks: &Ranks, needs: &[AppId]) -> Option<AppId>
     ensures { result ≡ find (λ needed. is_unranked ranks.now needed.0) needs.now }
 {
@@ -147,8 +147,8 @@ fn wait_of(apps: &[AppSpec], ranks: &Ranks, a: AppId) -> AppId
     }
 }
 
-// Returns a cycle of needs. The function begins with `start`, which has no rank. It goes on to an application without
-// a rank that the present one needs, until it comes back to an application already visited.
+// Returns a cycle of needs. The search begins with `start`, which has no rank. Each step leads to an application
+// without a rank that the current application needs. The search ends when it reaches an application already visited.
 fn find_cycle(apps: &[AppSpec], ranks: &Ranks, start: AppId) -> ArrayVec<AppId, 8>
     requires few { length apps.now ≤ 8 }
     requires needs { NeedsInRange apps.now }

@@ -51,8 +51,8 @@ pub fn timetable(spec: &Spec, c: ConfId) -> Times
     }
 }
 
-// Returns the offset of each application, and 0 for each number without an application. Each round of the loop allows
-// chains of one more application.
+// Returns the offset of each application, and 0 for each number without an application. Each iteration of the loop
+// allows for chains with one more application.
 fn offsets_in(spec: &Spec, phase: Phase, times: &[u8; 8]) -> [u16; 8]
     requires { AtMost 16 (length spec.now.apps) times.now }
     ensures offsets { IsTableOf (offset (timed_chart spec.now phase times.now)) (length spec.now.apps) result }

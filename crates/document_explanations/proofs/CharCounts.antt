@@ -71,8 +71,8 @@ dots_by false text short is shown other =
 pub cut_dots : (text short : List ℕ) → short ≡ take_chars 60 text → (length short ≡ length text → ⊥) → cut text ≡ short ++ codes ".."
 cut_dots text short shown other = dots_by (nat_lt 60 (char_count text)) text short refl shown other
 
--- If the first byte of a text begins a character, `take_chars n` of the text has at most `n` characters. The same
--- must hold for every number and the text after that byte.
+-- If the byte `b` begins a character, and `take_chars m text` has at most `m` characters for each `m`, then
+-- `take_chars n (b ∷ text)` has at most `n` characters.
 counted_start : (none : Bool) (n b : ℕ) (text : List ℕ) → (n == 0) ≡ none → is_char_start b ≡ true → ((m : ℕ) → char_count (take_chars m text) ≤ m)
     → char_count (cond none [] (b ∷ take_chars (n - 1) text)) ≤ n
 unfolding char_count

@@ -56,7 +56,7 @@ restarts_missing = refl
 halts : wanted_in Script 6 (codes ".halts") ≡ codes "0 to " ++ decimal 8 ++ codes " elements, 0 to " ++ decimal 16 ++ codes " where scram is 2"
 halts = refl
 
--- The members of a document of version 2. The table has some of them only for other versions, or not at all.
+-- The members of a document of version 2, with some that the table has only for other versions or not at all.
 members : Members
 members = member (codes "demands") (array no_items) (member (codes "extra") (number (unsigned 1)) (member (codes "policy") (string (codes "settle")) (member (codes "scram") (number (unsigned 2)) no_members)))
 

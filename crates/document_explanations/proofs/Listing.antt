@@ -7,7 +7,7 @@ read_first : {A B C : Type 0} (shown : B → C) (seen : A → B) (items : List A
 read_first shown seen [] = refl
 read_first shown seen (x ∷ items) = ap (λ (rest : List _). shown (seen x) ∷ rest) (read_first shown seen items)
 
--- If the items are read as the plain data `things`, the texts listed for the items are those of `things`.
+-- If the items are read as the plain data `things`, the listed texts of the items are the listed texts of `things`.
 pub listed_read : {A B : Type 0} (shown : B → List ℕ) (seen : A → B) (items : List A) (things : List B) → map seen items ≡ things
     → listed (map (λ (x : A). shown (seen x)) items) ≡ listed (map shown things)
 listed_read {A} {B} shown seen items things same = ap listed (read_first shown seen items ∙ ap (map shown) same)

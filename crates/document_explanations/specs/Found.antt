@@ -55,8 +55,8 @@ abbrev pub elements_text : Data → List ℕ
 elements_text value = option_map_or (λ (items : Items). decimal (items_len items) ++ codes " elements") (as_array value) []
 
 -- The text that is shown for `value`, which was found at a path of document `d` where `rule` is broken. It has the
--- names of the members that are not known if `rule` forbids further members, the number of elements if `rule` is that
--- of a wrong length, and otherwise the value itself.
+-- names of the members that are not known if `rule` is `FURTHER_MEMBER`, and the number of elements if `rule` is
+-- `WRONG_LENGTH`. For any other rule, it is the value itself.
 abbrev pub found_in : DocumentKind → ℕ → List ℕ → Data → Data → List ℕ
 found_in kind rule path d value =
     if rule == FURTHER_MEMBER then further_members d (wanted_at kind rule path) value

@@ -1,4 +1,4 @@
--- The laws of the tables of members and of the length of a text that is shown.
+-- Laws on the tables of members, and on the length of a text that is shown.
 use Rattle.std.specs.Prelude.{◌≡◌, ◌≤◌, ℕ, List, [], ◌∷◌, ◌++◌, codes, length, map, if◌then◌else◌}
 use Rattle.std.specs.Fmt.{char_count}
 use Rattle.std.specs.List.{filter}

@@ -55,8 +55,8 @@ all_but_last [] = []
 all_but_last (level ∷ []) = []
 all_but_last (level ∷ next ∷ levels) = level ∷ all_but_last (next ∷ levels)
 
--- The levels of the value whose expected value is shown. If a member is missing, they are the levels of its object, and
--- otherwise those of the path.
+-- The levels of the value whose expected value is shown. If a member is missing, they are the levels of its object,
+-- and otherwise the levels of the path.
 abbrev pub wanted_levels : ℕ → List ℕ → List (List ℕ)
 wanted_levels rule path = if rule == MISSING_MEMBER then all_but_last (levels_of path) else levels_of path
 

@@ -30,7 +30,7 @@ pub record DocumentRule : Type 0 where
 abbrev pub rule_read : TableRule → DocumentRule
 rule_read r = record { number = r.number; text = r.text.now; limit = r.limit; shows = r.shows }
 
--- A rule with this number and this text, without a limit. `shows` are the parts of its explanation.
+-- A rule with this number and this text, without a limit. `shows` states which parts of its explanation are shown.
 abbrev pub says : ℕ → List ℕ → Shows → DocumentRule
 says number text shows = record { number = number; text = text; limit = None; shows = shows }
 

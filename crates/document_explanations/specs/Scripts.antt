@@ -30,8 +30,8 @@ pub record BreaksExplainedScript (spec : Parts) (refusal : ℕ × List ℕ) (byt
 abbrev pub long_explained_script : ℕ × List ℕ
 long_explained_script = (long_script.0, long_script.1 ++ explanation Script None rule.TOO_LONG [] None)
 
--- The answer if `name` is the name of a script's file: the answer `Then` to the script in the file, or the refusal of
--- a file that was not read, is too long or breaks a rule. A broken rule is explained.
+-- The answer if `name` is the name of a script's file. It is the answer `Then` to the script in the file, or the
+-- refusal of a file that was not read, is too long or breaks a rule. A broken rule is explained.
 abbrev pub AsksExplainedScript : Parts → List ℕ → (ScriptParts → Answer) → Answer
 AsksExplainedScript spec name Then =
     AnswersFile MAX_SCRIPT_BYTES long_explained_script name (AnswersDocument (SaysScript spec) (BreaksExplainedScript spec) Then)

@@ -31,8 +31,8 @@ pub record BreaksExplainedSpecification (refusal : ℕ × List ℕ) (bytes : Lis
 abbrev pub long_explained_specification : ℕ × List ℕ
 long_explained_specification = (long_specification.0, long_specification.1 ++ explanation Specification None rule.TOO_LONG [] None)
 
--- The answer if `name` is the name of a specification's file: the answer `Then` to the specification in the file, or
--- the refusal of a file that was not read, is too long or breaks a rule. A broken rule is explained.
+-- The answer if `name` is the name of a specification's file. It is the answer `Then` to the specification in the
+-- file, or the refusal of a file that was not read, is too long or breaks a rule. A broken rule is explained.
 abbrev pub AsksExplainedSpecification : List ℕ → (Parts → Answer) → Answer
 AsksExplainedSpecification name Then =
     AnswersFile MAX_SPECIFICATION_BYTES long_explained_specification name (AnswersDocument SaysSpecification BreaksExplainedSpecification Then)

@@ -74,7 +74,7 @@ pub enum Number {
     Whole { least: u32, greatest: u32 },
     /// A number from `least` to `greatest`, which may be negative.
     Signed { least: i64, greatest: i64 },
-    /// A frame of a script that is at least `least`.
+    /// A frame of a script. Its number is at least `least`.
     Frame { least: u32 },
     /// The step of a frame at which a processor halts.
     Step,
@@ -95,7 +95,7 @@ pub enum Text {
     ConfigurationOrAny,
     /// The name of a factor of the same document.
     Factor,
-    /// The name of a value of a factor of the same document.
+    /// The name of a factor's value in the same document.
     Value,
     /// The name of a kind of application.
     Kind,

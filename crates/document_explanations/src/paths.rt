@@ -15,7 +15,7 @@ use trace_text::numbers::read_number;
 // The exclusive upper limit of an index in a path.
 const INDEX_END: u64 = 100_000;
 
-// Returns a path without its first dot. The text is empty if the path is that of the whole document.
+// Returns a path without its first dot. The text is empty if the path is the path of the whole document.
 fn after_dot(path: &Path) -> &str
     ensures { result.now ≡ after_dot path.now }
 {
@@ -73,7 +73,7 @@ fn descend(start: Wanted, levels: &str) -> Option<(Wanted, &str)>
 }
 
 /// Returns the expected value at a path where a rule of a document is broken, or `None` if this kind of document has
-/// no such path. If a member is missing, the expected value is that of the member's object.
+/// no such path. If a member is missing, returns the expected value of the member's object.
 pub fn wanted_at(kind: DocumentKind, rule: u8, path: &Path) -> Option<Wanted>
     ensures { result ≡ wanted_at kind rule path.now }
 {

@@ -69,7 +69,7 @@ module _ {X : Type 0} {Y : X → Type 0} (m : Flight) where
   still_down p h (Up live) is = let down = is.down in cc
   still_down p h (Down halted) is = is
 
-  -- A processor in flight that halts is at the place of a halt in its frame.
+  -- After a processor in flight has halted, it is at the place of a halt in its frame.
   pub flyer_stopped : (p : ℕ) (place : Place) (flyer : Flyer X Y) → IsFlyerAt m p place flyer → IsFlyerAt m p (halted_there place) (flyer_halted (frame_of place) flyer)
   flyer_stopped p (At f n) flyer is = record { unit = unit_stopped p (At f n) flyer.unit is.unit refl; spare = is.spare }
   flyer_stopped p (Halted h) flyer is = record { unit = still_down p h flyer.unit is.unit; spare = is.spare }

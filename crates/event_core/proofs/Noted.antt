@@ -41,7 +41,7 @@ module _ (spec : Parts) (script : ScriptParts) (stored : List ℕ) (k : ℕ) (fe
       let bank : bank_taken stored (suc k) p ≡ image_bank_after spec script p (suc k) = ap (λ mark. pick mark (suc k)) n.mark ∙ picked spec script p (suc k) in
       rw bank (n.held i inside)
 
--- The marks after frame `k` are those after the current frame of a kernel that has ended `k` frames.
+-- If a kernel has ended `k` frames, then the marks after frame `k` are the marks after the kernel's current frame.
 pub marks_of : (kernel : KernelParts) (spec : Parts) (script : ScriptParts) (k : ℕ) (marks : List ℕ) → kernel ≡ kernel_after spec script k → AreMarks spec script (suc k) marks
     → AreMarks kernel.spec kernel.script (kernel.past + 1) marks
 marks_of kernel spec script k marks is are =

@@ -31,7 +31,8 @@ use Rattle.event_core.proofs.Ending.{ended_by}
 use Rattle.event_core.proofs.ImagesFound.{images_found}
 use Rattle.event_core.proofs.Steps.{kept_of}
 
--- Twenty words are those of a kernel image if each of them equals the word of the image at the same index.
+-- Lemmas that twenty words are the words of a kernel image if each of them equals the word of the image at the same
+-- index.
 next_same : (x y : ℕ) (xs ys : List ℕ) → x ≡ y → xs ≡ ys → x ∷ xs ≡ y ∷ ys
 next_same x y xs ys is are = rw (is, are) refl
 
@@ -76,8 +77,8 @@ module _ {spec : Parts} {script : ScriptParts} {places : KeptPlaces} {stored : L
   pub looking : (p : ℕ) → p < length spec.procs → HasLooked (flight_of spec script) ((machine_places places).proc p) → Looking spec script places stored p
   looking p low looked = at_place p ((machine_places places).proc p) low refl looked
 
--- If a processor of a core has made all looks of its frame, but neither its flip nor its halt, then it is in the
--- frame of the core's kernel and is not noted in it.
+-- If a processor of a core has made all looks of its frame, but neither its flip nor its halt, then the core's kernel
+-- is in the same frame. The kernel has not noted the processor in this frame.
 pub looking_in : (core : CoreParts) (spec : Parts) (script : ScriptParts) (places : KeptPlaces) (stored : List ℕ) (history : List Event) (room count p : ℕ) → core_of spec script places stored history ≡ core
     → MachineKeeps spec script places stored history room count → ReadersFind → p < length core.spec.procs → HasLooked (core_flight core) ((core_places core).proc p) → Looking spec script places stored p
 looking_in core spec script places stored history room count p is k find low looked =

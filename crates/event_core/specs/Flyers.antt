@@ -25,7 +25,8 @@ pub record FlyersFit {X : Type 0} {Y : X → Type 0} (spec : Parts) (script : Sc
   pub all : AreFlyersAt (flight_of spec script) at flyers.all.items
   pub drafted : AreLastDrafts spec script flyers.drafted
 
--- The processors fly with the core: they are at the places of the core's machine.
+-- The processors fly with the core. They are at the places of the core's machine, and their last drafts satisfy
+-- `AreLastDrafts`.
 abbrev pub FlyBy : {X : Type 0} {Y : X → Type 0} → CoreParts → Flyers X Y → Type 0
 FlyBy core flyers = FlyersFit core.spec core.script (core_places core).proc flyers
 

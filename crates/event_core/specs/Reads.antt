@@ -11,8 +11,8 @@ use Rattle.fail_stop.specs.Listed.{stored_in}
 abbrev pub bank_taken : List ℕ → ℕ → ℕ → ℕ
 bank_taken stored f p = pick (stored_in stored (MarkWord p)) f
 
--- Word `i` of the image that a reader in frame `f` finds for processor `p`, or 0 if the specification has no such
--- word.
+-- Word `i` of the image that a reader in frame `f` finds for processor `p`, or 0 if an image of the specification has
+-- no word `i`.
 abbrev pub word_read : Parts → List ℕ → ℕ → ℕ → ℕ → ℤ
 word_read spec stored f p i = if nat_lt i (words spec) then decode (stored_in stored (BankWord p (bank_taken stored f p) i)) else pos 0
 

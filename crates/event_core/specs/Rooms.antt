@@ -3,8 +3,8 @@ use Rattle.std.specs.Prelude.{ℕ, zero, suc, ◌+◌, ◌-◌, ◌*◌}
 use Rattle.fail_stop.specs.Events.{At, Halted, Place, Places}
 use Rattle.fail_stop.specs.Flights.{Flight}
 
--- The maximum number of events of a processor in a frame: a start, a look at each processor, the stores, the flip, and
--- then done or a halt.
+-- The maximum number of events of a processor in a frame: the start, a look at each processor, the stores, the flip,
+-- and then the end of the frame or a halt.
 abbrev pub events_a_frame : Flight → ℕ
 events_a_frame m = m.procs + m.width + 3
 

@@ -92,7 +92,7 @@ impl<'a> Core<'a> {
     }
 
     /// Returns the next event of the kernel. Returns `None` if and only if the processor that the kernel notes next
-    /// may not be noted yet, the kernel has made its last note, or no frame is flown.
+    /// may not be noted yet, the kernel has made its last note, or the flight has no frame.
     pub fn next_kernel(&self) -> Option<Event>
         ensures { result ≡ next_kernel (core_flight self.now) (core_places self.now) (core_words self.now) }
     {
@@ -156,7 +156,8 @@ impl<'a> Core<'a> {
         machine_goes_on();
     }
 
-    /// Returns word `i` of the kernel image of the next frame, once the kernel has noted every processor.
+    /// Returns word `i` of the kernel image of the next frame. The kernel must have noted every processor in its
+    /// frame.
     pub fn kernel_word(&self, i: u8) -> u64
         requires word { i < 20 }
         requires noted { length self.now.spec.procs ≤ self.now.places.step }
@@ -177,7 +178,8 @@ impl<'a> Core<'a> {
         frames == 0 || self.places.frame == frames - 1 && self.places.step >= procs
     }
 
-    /// Returns the rows and reports of a flight that is over. They are the one-thread trace, whatever the schedule was.
+    /// Returns the rows and reports of a flight that is over. They are those of the one-thread trace, for any
+    /// schedule.
     pub fn finish(self) -> Flown
         requires { IsOverIn self }
         ensures rows { result.rows ≡ rows_of self.entry.spec self.entry.script }
@@ -205,8 +207,8 @@ impl<'a> Core<'a> {
     }
 
     /// Applies an event if it is the next of its actor. Otherwise returns an error with the actor's next event and
-    /// changes nothing. For a store, `word` is the word of the draft. For a store of the kernel, `word` is the word
-    /// of the next frame's image.
+    /// changes nothing. For a store of a processor, `word` must be the word of its draft. For a store of the kernel,
+    /// `word` must be the word of the next frame's kernel image. Other events do not use `word`.
     pub fn step(&mut self, event: Event, word: u64) -> Result<(), Illegal>
         requires { IsNextIn self.old event → IsWordIn self.old event word }
         ensures spec { self.new.spec ≡ self.old.spec }
@@ -239,8 +241,8 @@ impl<'a> Core<'a> {
     }
 }
 
-/// Returns the rows and reports of two flights that are over. If both are of one specification and one script, the
-/// results are equal, whatever their schedules were.
+/// Returns the rows and reports of two flights that are over. Both flights must have the same specification and the
+/// same script. The results are equal, for any two schedules.
 pub fn finish_both<'a>(one: Core<'a>, other: Core<'a>) -> (Flown, Flown)
     requires spec { other.spec ≡ one.spec }
     requires script { other.script ≡ one.script }

@@ -21,8 +21,8 @@ use fail_stop::{Draft, Flyer};
 use scram_types::{Image, NoMemory, ProcId, Spec};
 use std::alloc::Global;
 
-/// Eight processors that fly with a core, in the order of their numbers. For each there is its last draft, or `None`
-/// before its first draft.
+/// Eight processors that fly with a core, in the order of their numbers. `drafted` contains the last draft of each,
+/// or `None` before its first draft.
 #[derive(Drop)]
 pub struct Flyers {
     pub all: Vec<Flyer>,
@@ -52,7 +52,7 @@ impl Flyers {
 
     /// Returns the word for an event, and updates the processors as the event requires. The event must be the next of
     /// its actor. A processor makes one draft in a frame, before its first store. A halt event halts the processor,
-    /// and the start event of the restart makes it live again.
+    /// and the start event of its restart starts it again with its spare rack.
     pub fn word(&mut self, core: &Core, spec: &Spec, event: Event) -> u64
         requires spec { core.now.spec ≡ spec.now }
         requires next { IsNextIn core.now event }
@@ -114,8 +114,8 @@ impl Flyers {
         stored_word(&image, i)
     }
 
-    // Returns the draft of processor `p` in its current frame: the last draft if it is of that frame, or else a new
-    // one.
+    // Returns the draft of processor `p` in its current frame: the last draft if it is a draft of that frame, or else
+    // a new draft.
     fn image(&mut self, core: &Core, spec: &Spec, p: ProcId) -> Image
         requires spec { core.now.spec ≡ spec.now }
         requires known { p.0 < length spec.now.procs }

@@ -2,8 +2,9 @@
 
 ghost use Rattle.event_core.specs.Counts.{HistoriesCountFrames};
 
-/// States that the number of frames that have ended follows from the history. The number of the kernel's frame is the
-/// number of releases. A frame has ended for each full set of notes, one note of each processor.
+/// States how the kernel's place and the number of frames that have ended follow from the history. The number of the
+/// kernel's frame is the number of releases. The number of frames that have ended is the number of notes divided by
+/// the number of processors.
 pub fn histories_count_frames()
     ensures { HistoriesCountFrames }
 {}

@@ -1,7 +1,7 @@
 //! The places of the actors of a flight.
 
-/// The place of a processor. Either the processor is in a frame and has made a number of steps in it, or it has halted
-/// in a frame.
+/// The place of a processor: its frame and the number of steps that it has made in the frame, or the frame in which
+/// it has halted.
 #[derive(Clone, Copy, Debug, PartialEq, Eq)]
 pub enum Place {
     At(u32, u32),

@@ -13,7 +13,7 @@ use bank_words::{KernelImage, decode, kernel_decode, kernel_encode, pick};
 use fail_stop::words::{bank_index, mark_index};
 use scram_types::{Image, ProcId, Spec};
 
-/// Returns the marks of the processors.
+/// Returns the marks of processors 0 to 7, in order.
 pub(crate) fn marks_read(stored: &[u64]) -> [u64; 8]
     requires { length stored.now ≡ word_index_count }
     ensures { result ≡ eight (λ p. stored_in stored.now (MarkWord p)) }
@@ -73,7 +73,7 @@ pub(crate) fn images_read(spec: &Spec, stored: &[u64], frame: u32) -> [Image; 8]
     ]
 }
 
-/// Returns the kernel image of a frame, decoded from its words. The stored words must be the words of `image`.
+/// Returns the kernel image that the stored words encode. These words must be the words of `image`.
 pub(crate) fn kernel_read(stored: &[u64], image: &KernelImage) -> KernelImage
     requires stored { length stored.now ≡ word_index_count }
     requires held { (i : ℕ) → i < 20 → stored_in stored.now (KernelWord i) ≡ word_in (kernel_encode image.now) i }

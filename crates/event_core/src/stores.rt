@@ -48,7 +48,7 @@ pub(crate) fn store(stored: &mut Vec<u64>, places: &Places, event: Event, word: 
     }
 }
 
-/// Returns the frame of a place.
+/// Returns the frame of a place. For a processor that has halted, this is the frame of the halt.
 pub(crate) fn frame_of(place: Place) -> u32
     ensures { result ≡ frame_of (machine_place place) }
 {

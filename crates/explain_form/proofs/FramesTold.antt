@@ -1,4 +1,4 @@
--- Lemmas on the reasons why a script leaves the failure assumption.
+-- Lemmas on the reasons why a script violates the failure assumption.
 use Rattle.std.proofs.Common.{◌≡◌, ◌∙◌, ℕ, suc, ◌+◌, ◌≤◌, ◌++◌, ap, append_assoc, arith, sym, List, Bool, true, false}
 use Rattle.std.specs.Prelude.{Some, None, codes, if◌then◌else◌}
 use Rattle.scram_types.specs.Scripts.{ScriptParts}
@@ -29,7 +29,8 @@ frame_by f true changes outside e = sym (ap (λ (o : Outside). o.frame) (same_so
 frame_by f false true outside e = sym (ap (λ (o : Outside). o.frame) (same_some _ outside e))
 frame_by f false false outside e = absurd (cc)
 
--- The frame with which a script leaves the assumption is one of the script's frames, or the one after the last.
+-- The first frame in which a script violates the assumption is one of the script's frames, or the frame after the
+-- last of them.
 pub outside_inside : (spec : Parts) (script : ScriptParts) (outside : Outside) → first_outside spec script ≡ Some outside → outside.frame ≤ script.frames
 outside_inside spec script outside e =
     let found = found_below (outside_at spec script) (suc script.frames) outside e in

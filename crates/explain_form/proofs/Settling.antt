@@ -55,7 +55,7 @@ module _ (result : Result Explanation Refusal) where
   assumed_settles spec script none settles =
       subst (λ (o : Option Outside). PreparesWithoutFiles (Gives (outside_answer spec script o)) GivesExplanation result) (sym none) settles
 
-  -- If the script leaves the failure assumption and the text of its refusal was prepared, the answer is prepared.
+  -- If the script violates the failure assumption and the text of its refusal was prepared, the answer is prepared.
   pub outside_settles : (spec : Parts) (script : ScriptParts) (outside : Outside) → first_outside spec script ≡ Some outside
       → PreparesWithoutFiles (Gives (UNASSUMED_SCRIPT, unassumed_text spec script outside)) GivesExplanation result
       → PreparesWithoutFiles (Gives (outside_answer spec script (first_outside spec script))) GivesExplanation result

@@ -31,7 +31,7 @@ abbrev pub ExplainScriptAnswers : List ℕ → List ℕ → Answer
 ExplainScriptAnswers specification script =
     AsksExplainedSpecification specification (λ (spec : Parts). AsksExplainedScript spec script (MissionAnswers spec))
 
--- The status of an explanation is neither that of an unread file nor that of unwritten output.
+-- The status of an explanation is neither `UNREAD_FILE` nor `UNWRITTEN_OUTPUT`.
 pub record HasNoFault (explanation : Explanation) : Type 0 where
   pub read : explanation.code ≢ UNREAD_FILE
   pub written : explanation.code ≢ UNWRITTEN_OUTPUT

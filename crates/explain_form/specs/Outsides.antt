@@ -1,4 +1,4 @@
--- The reasons why a script leaves the failure assumption.
+-- The reasons why a script violates the failure assumption.
 use Rattle.std.specs.Prelude.{ℕ, suc, ◌+◌, Bool, ◌&&◌, nat_lt, List, [], ◌++◌, codes, decimal, if◌then◌else◌}
 use Rattle.scram_types.specs.Scripts.{ScriptParts}
 use Rattle.scram_types.specs.Specification.{Parts}
@@ -10,11 +10,12 @@ use Rattle.fault_script.specs.Environments.{env_at}
 use Rattle.form_base.specs.Lines.{added, names_down}
 use Rattle.form_base.specs.Texts.{texts_below}
 
--- Frame `f` is at or after the start of the window that ends with frame `last`.
+-- Whether frame `f` is at or after the start of the window that ends with frame `last`.
 abbrev pub is_in_window : Parts → ℕ → ℕ → Bool
 is_in_window spec last f = nat_lt last (f + spec.window)
 
--- The environment changes in frame `f`, and `f` is at or after the start of the window that ends with frame `last`.
+-- Whether the environment changes in frame `f` and `f` is at or after the start of the window that ends with frame
+-- `last`.
 abbrev pub is_change_told : Parts → ScriptParts → ℕ → ℕ → Bool
 is_change_told spec script last f = is_in_window spec last f && is_change_frame spec script f
 
@@ -46,12 +47,12 @@ abbrev pub down_line : Parts → ScriptParts → ℕ → List ℕ
 down_line spec script f =
     codes "  down " ++ added (names_down spec.procs (env_at spec script f).up) ++ codes ", at most " ++ decimal spec.halts ++ codes "\n"
 
--- The reason why a script leaves the failure assumption with frame `f`. For halts, the line has the processors that are
--- down in the next frame. For changes, the line has the change frames of the window that ends with `f`.
+-- The reason why a script violates the failure assumption in frame `f`. For halts, the line has the processors that
+-- are down in the next frame. For changes, the line has the change frames of the window that ends with `f`.
 abbrev pub outside_text_by : Parts → ScriptParts → ℕ → OutsideKind → List ℕ
 outside_text_by spec script f Halts = down_line spec script (f + 1)
 outside_text_by spec script f Changes = too_many_changes_text spec script f
 
--- The reason why a script leaves the failure assumption, which follows the refusal.
+-- The reason why a script violates the failure assumption. It is printed after the refusal.
 abbrev pub outside_text : Parts → ScriptParts → Outside → List ℕ
 outside_text spec script outside = outside_text_by spec script outside.frame outside.kind

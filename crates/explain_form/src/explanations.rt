@@ -1,4 +1,4 @@
-//! The text that `explain` prints, which is the line of an answer and further lines.
+//! The text that `explain` prints: the line of an answer, followed by further lines.
 
 ghost use Rattle.std.specs.Prelude.{◌≡◌, ◌++◌, IfOk, Some};
 ghost use Rattle.fault_script.specs.Assumption.{first_outside};
@@ -39,7 +39,7 @@ pub(crate) fn make_refused(alloc: Global, spec: &Spec, shown: &Shown) -> Result<
     join(alloc, &make_shown_line(spec, shown), &breaks)
 }
 
-// Returns the text for a script that leaves the failure assumption.
+// Returns the text for a script that violates the failure assumption.
 pub(crate) fn make_unassumed(
     alloc: Global,
     spec: &Spec,

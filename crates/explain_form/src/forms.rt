@@ -59,7 +59,8 @@ pub fn explain_script<F: Files, K: Sink>(
     }
 }
 
-/// Reads the specification, and returns the text that is printed for it, or the refusal if it cannot be read.
+/// Reads the specification and returns the text that is printed for it. Returns the refusal if the specification
+/// cannot be read.
 fn read_specification<F: Files>(
     alloc: Global,
     specification: &str,
@@ -74,8 +75,8 @@ fn read_specification<F: Files>(
     }
 }
 
-/// Reads the specification and the script, and returns the text that is printed for them, or the refusal if one cannot
-/// be read.
+/// Reads the specification and the script, and returns the text that is printed for them. Returns the refusal of the
+/// first file that cannot be read.
 fn read_both<F: Files>(
     alloc: Global,
     named: MissionFiles<'_>,

@@ -1,5 +1,5 @@
 //! The form `explain`, which prints why a specification or a script is refused, or the idle parts of an accepted
-//! specification. The output of the form is the answer to the bytes of the files that its words name.
+//! specification. The output of the form is the answer to the bytes of the files that the command's words name.
 #![tactic(auto)]
 
 mod explanations;

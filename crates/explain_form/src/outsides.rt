@@ -1,4 +1,4 @@
-//! The reasons why a script leaves the failure assumption.
+//! The reasons why a script violates the failure assumption.
 
 ghost use Rattle.std.specs.Prelude.{◌≡◌, ◌+◌, ◌≤◌, ◌++◌, IfOk, OnOk};
 ghost use Rattle.fault_script.specs.Assumption.{is_change_frame, is_same_env};
@@ -11,8 +11,8 @@ use scram_types::{Env, NoMemory, Script, Spec};
 use std::alloc::{AllocError, Global};
 use trace_text::lines::Line;
 
-/// Returns the reason why a script leaves the failure assumption with a frame. The line has the change frames of the
-/// window that ends with this frame, or the processors that are down in the next frame.
+/// Returns the line with the reason why a script violates the failure assumption in a frame. The line has the change
+/// frames of the window that ends with this frame, or the processors that are down in the next frame.
 ///
 /// # Errors
 ///
@@ -82,8 +82,8 @@ fn add_change_frames(
     Ok(())
 }
 
-// Appends the number of a frame, if the frame is in the window that ends with frame `last` and the environment changes
-// in it.
+// Appends the number of a frame if the environment changes in the frame and the frame is in the window that ends with
+// frame `last`.
 fn add_change_frame(
     text: &mut Vec<u8>,
     spec: &Spec,

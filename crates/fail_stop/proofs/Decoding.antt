@@ -4,8 +4,8 @@ use Rattle.std.specs.Prelude.{nat_eq, nat_lt, replicate, slice_index_or, slice_s
 use Rattle.std.proofs.lemmas.Bool.Decides.{nat_tests}
 use Rattle.std.proofs.lemmas.Grind.{common_steps}
 
--- If the first `n` words of an image are those of `v` and the others are zero, and `v n` is set at index `n`, then
--- the first `n + 1` words are those of `v` and the others are zero.
+-- If an image has the first `n` values of `v` followed by zeros, and index `n` is set to `v n`, then the image has
+-- the first `n + 1` values of `v` followed by zeros.
 pub word_set : (image : List ℤ) (n : ℕ) (v : ℕ → ℤ) (x : ℤ) → length image ≡ 64 → n < 64 → x ≡ v n → ((i : ℕ) → i < 64 → slice_index_or image i (pos 0) ≡ (if nat_lt i n then v i else pos 0))
     → (i : ℕ) → i < 64 → slice_index_or (slice_set image n x) i (pos 0) ≡ (if nat_lt i (n + 1) then v i else pos 0)
 word_set image n v x long low is before i small = by_place (nat_eq i n) refl where

@@ -1,5 +1,5 @@
--- A processor's draft of a snapshot is `draft_made`. If the snapshot is that of a frame of a script, the draft is
--- that of the one-thread trace.
+-- A processor's draft of a snapshot is `draft_made`. If the snapshot belongs to a frame of a script, the draft is the
+-- processor's draft in the one-thread trace.
 use Rattle.std.proofs.Common.{◌≡◌, ◌∙◌, ℕ, zero, suc, ◌+◌, ◌<◌, refl, ap, sym, subst, arith, length, Bool, true, false, List}
 use native.Mathlib.Decide.{ℕ_discrete}
 use Rattle.std.specs.Prelude.{ℤ, Option, Some, None, IfSome, option_map, if◌then◌else◌, nat_eq, nat_lt}
@@ -29,8 +29,8 @@ use Rattle.fail_stop.specs.declared.snapshots.Snapshot.{Snapshot}
 use Rattle.fail_stop.specs.Drafts.{IsSnapshot, area_kept, areas_shown, draft_made, slot_made, state_shown, task_among}
 use Rattle.fail_stop.proofs.Joining.{image_same, of_slots}
 
--- If the tasks, the view, the areas and the old image are those of a snapshot, the image that is made of them is
--- `draft_made`.
+-- If the tasks, the view, the areas and the old image are taken from a snapshot, the image that is made from these
+-- values is `draft_made`.
 
 pub draft_is : (spec : Parts) (snap : Snapshot) (p : ℕ) (tasks : List Task) (seen : Seen) (areas : List (List ℤ)) (own image : List ℤ)
     → tasks ≡ eight (task_of spec snap.kernel.mode snap.kernel.frame) → seen ≡ seen_by_all spec snap.kernel.env (state_shown snap)
@@ -38,7 +38,7 @@ pub draft_is : (spec : Parts) (snap : Snapshot) (p : ℕ) (tasks : List Task) (s
     → image ≡ image_of (slot_made spec tasks seen areas own p) → image ≡ draft_made spec snap p
 draft_is spec snap p tasks seen areas own image is_tasks is_seen is_areas is_own is_image = is_image ∙ rw (is_tasks, is_seen, is_areas, is_own) refl
 
--- The slots of the first `n` applications are made, and the others stay as they were.
+-- The slots of the first `n` applications are made, and the other slots are those of the old image.
 
 abbrev pub MadeBelow : (ℕ → List ℤ) → ℕ → List ℤ → List ℤ → Type 0
 MadeBelow slot n old image = (b : ℕ) → b < 8 → slot_in image b ≡ (if nat_lt b n then slot b else slot_in old b)
@@ -46,7 +46,8 @@ MadeBelow slot n old image = (b : ℕ) → b < 8 → slot_in image b ≡ (if nat
 pub none_made : (slot : ℕ → List ℤ) (image : List ℤ) → MadeBelow slot 0 image image
 none_made slot image b low = let none : nat_lt b 0 ≡ false = grind (arith, nat_tests) in rw none refl
 
--- If slot `n` replaces the old slot, then the slots of the first `n + 1` applications are made.
+-- If the slots of the first `n` applications are made, and slot `n` replaces the old slot, then the slots of the
+-- first `n + 1` applications are made.
 pub one_made : (slot : ℕ → List ℤ) (n : ℕ) (area old image after : List ℤ) → MadeBelow slot n old image → area ≡ slot n → ((b : ℕ) → b < 8 → slot_in after b ≡ (if nat_eq b n then area else slot_in image b))
     → MadeBelow slot (n + 1) old after
 one_made slot n area old image after before is put b low = put b low ∙ by_place (ℕ_discrete b n) (before b low)
@@ -61,7 +62,8 @@ one_made slot n area old image after before is put b low = put b low ∙ by_plac
         let same : nat_lt b (n + 1) ≡ nat_lt b n = grind (arith, nat_tests, d) in
         rw (other, same) was
 
--- If slot `n` equals the old slot, then the slots of the first `n + 1` applications are made without a change.
+-- If the slots of the first `n` applications are made, and slot `n` equals the old slot, then the slots of the first
+-- `n + 1` applications are made without a change.
 pub one_kept : (slot : ℕ → List ℤ) (n : ℕ) (old image : List ℤ) → MadeBelow slot n old image → slot n ≡ slot_in old n → MadeBelow slot (n + 1) old image
 one_kept slot n old image before is b low = by_place (ℕ_discrete b n) (before b low)
   where
@@ -75,7 +77,7 @@ one_kept slot n old image before is b low = by_place (ℕ_discrete b n) (before 
 pub all_made : (slot : ℕ → List ℤ) (old image : List ℤ) → length image ≡ 64 → MadeBelow slot 8 old image → image ≡ image_of slot
 all_made slot old image long made = of_slots image long ∙ image_same (slot_in image) slot (λ b low. let under : nat_lt b 8 ≡ true = grind (arith, nat_tests, low) in made b low ∙ rw under refl)
 
--- Lemmas that the keeper of an application is a processor of the specification.
+-- Proof that the keeper of an application is a processor of the specification.
 
 start_exists : (spec : Parts) (place : Option Place) → IfSome place (λ p. p.proc.0 < length spec.procs) → Exists spec (option_map (λ (place : Place). place.proc) place)
 unfolding Exists
@@ -99,7 +101,7 @@ keeper_exists spec is script (suc f) a low =
     subst (Exists spec) (sym (eight_at (λ b. keeper_after (λ p. commits spec script p f) (state_after spec script f) (task_in spec phase b) b) a None low))
     (on_exists spec (λ p. commits spec script p f) (keeper_at (state_after spec script f).keepers a) (task_in spec phase a).proc (task_exists spec is phase a) (keeper_exists spec is script f a low))
 
--- Lemmas that the areas in the snapshot of a frame are the areas as of the start of the frame.
+-- Proof that the areas in the snapshot of a frame are the areas as of the start of the frame.
 
 kept_same : (spec : Parts) (script : ScriptParts) (f a : ℕ) (snap : Snapshot) (keeper : Option ProcId) (area : List ℤ) → a < 8 → IsSnapshot spec script f snap → Exists spec keeper
     → IsSlotOfKeeper keeper area (λ p. slot_after spec script p f a) → area_kept snap.images keeper a ≡ area

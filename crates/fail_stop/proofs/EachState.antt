@@ -1,4 +1,4 @@
--- Each state of each schedule satisfies `Kept`, for a mission whose processors are up by their halts and restarts.
+-- Each state of each schedule satisfies `Kept`, for a flight whose halts and restarts decide which processors are up.
 use Rattle.std.proofs.Common.{◌≡◌, ℕ, zero, suc, ◌<◌, ◌≤◌, Bool, true, false, ◌&&◌, ◌||◌, refl, sym, ap, ◌∙◌, arith, List, [], ◌∷◌}
 use Rattle.std.specs.Prelude.{Option, Some, None, nat_eq, is_none, is_some, if◌then◌else◌}
 use Rattle.std.proofs.lemmas.Bool.Decides.{nat_tests}
@@ -77,7 +77,7 @@ latest_low halt (suc f) h e = latest_next halt f h (halt f) e (latest_low halt f
     latest_next halt f h None e ih = let l : h < f = ih e in omega arith
     latest_next halt f h (Some s) e ih = let same : f ≡ h = cc in omega arith
 
--- Lemmas that `is_up_after` and the recursion over frames agree on whether a processor is up.
+-- Proof that `is_up_after` and the recursion over frames agree on whether a processor is up.
 up_more : (restart l : Option ℕ) (f : ℕ) → ((h : ℕ) → l ≡ Some h → h < f) → is_up_after l restart (suc f) ≡ ((is_up_after l restart f && true) || is_frame restart (suc f))
 up_more restart None f low = refl
 up_more None (Some h) f low = refl

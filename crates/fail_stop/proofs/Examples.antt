@@ -1,4 +1,4 @@
--- A small flight, computed: one processor, one word, a halt in frame 0 and a restart in frame 2.
+-- Computed states of a small flight, with one processor, one word, a halt in frame 0 and a restart in frame 2.
 use Rattle.std.proofs.Common.{◌≡◌, ℕ, zero, suc, refl, List, [], ◌∷◌}
 use Rattle.std.specs.Prelude.{Option, Some, None}
 use Rattle.fail_stop.specs.Flights.{Flight}

@@ -31,7 +31,7 @@ unfolding is_committed
 commits_flipped m p f n None e u c l = rw (u, e) refl
 commits_flipped m p f n (Some s) e u c l = rw (u, e) (grind (arith, nat_tests))
 
--- After the flip of a frame, the banks are those at the end of the frame.
+-- After the flip of a frame, each bank holds the words that it holds at the end of the frame.
 bank_flipped : (m : Flight) (k j p f n b i : ℕ) → Running m k j p f n → m.procs + 1 + m.width < n → bank_at m p (At f n) b i ≡ bank_before m p (suc f) b i
 bank_flipped m k j p f n b i r h = bank_end m p f n b i (made_all m n (omega arith) ∙ sym (stores_commits m p f (commits_flipped m p f n (m.halt p f) refl r.up h r.within)))
 

@@ -1,4 +1,4 @@
--- Lemmas that processors in flight are at their places in the machine after a start and after a halt.
+-- Proof that processors in flight are at their places in the machine after a start and after a halt.
 use Rattle.std.proofs.Common.{◌≡◌, ◌∙◌, ◌+◌, ◌<◌, ◌≤◌, ℕ, ap, arith, refl, subst, sym, true, false, List, [], ◌∷◌, ◌++◌, length}
 use Rattle.std.specs.Prelude.{Option, Some, None, is_some, map, slice_index_or, slice_set}
 use native.Mathlib.Decide.{ℕ_discrete}
@@ -68,7 +68,7 @@ module _ {X : Type 0} {Y : X → Type 0} (m : Flight) where
       → IsFlyerAt m p (At 0 0) flyer
   opening_flyer p flyer proc rack spare unit some is = record { unit = rw unit (record { number = is; down = refl; frame = λ down. cc }); spare = λ r e low. ap is_some some }
 
-  -- A processor that neither halts nor restarts is, without a change, at its place after the event.
+  -- A processor that neither halts nor restarts in an event is at its place after the event without a change.
   pub flyer_stays : (p : ℕ) (before after : Place) (flyer : Flyer X Y) → is_halted after ≡ is_halted before → (is_halted before ≡ true → frame_of after ≡ frame_of before) → frame_of before ≤ frame_of after
       → IsFlyerAt m p before flyer → IsFlyerAt m p after flyer
   flyer_stays p before after flyer same still low is = record {
@@ -76,8 +76,8 @@ module _ {X : Type 0} {Y : X → Type 0} (m : Flight) where
     spare = λ r e later. is.spare r e (omega (arith, later, low));
   }
 
-  -- If processor `i` of a list is replaced by one at its new place, and the places of the others do not change, then
-  -- each processor is at its place.
+  -- If processor `i` of a list is replaced by a processor at its new place, and no other place changes, then each
+  -- processor is at its place.
   pub flyers_with : (before after : ℕ → Place) (flyers : List (Flyer X Y)) (i : ℕ) (flyer : Flyer X Y) → AreFlyersAt m before flyers → i < 8 → IsFlyerAt m i (after i) flyer
       → ((q : ℕ) → (q ≡ i → ⊥) → after q ≡ before q) → AreFlyersAt m after (slice_set flyers i flyer)
   flyers_with before after flyers i flyer are low is others =

@@ -127,8 +127,8 @@ back_none : (o : Option ℕ) (h g : ℕ) → ((r : ℕ) → o ≡ Some r → h <
 back_none None h g e = refl
 back_none (Some s) h g e = let late : h < s → g < s = e s refl in grind (arith, nat_tests)
 
--- The commits, banks, end words and images of a processor do not change from the halt of the processor in frame `h`
--- up to frame `b`, if the processor does not restart before frame `b`.
+-- If a processor halts in frame `h` and does not restart before frame `b`, its commits, banks, end words and images
+-- do not change after the halt until frame `b`.
 pub halted_still : (m : Flight) (p h s b : ℕ) → Flies m → m.up p h ≡ true → m.halt p h ≡ Some s → h < b → ((r : ℕ) → m.restart p ≡ Some r → h < r → b ≤ r) → Same m p (suc h) b
 halted_still m p h s b y u e l q = still m p (suc h) b (omega arith) (λ g lo hi. y.gone p h s g u e (omega arith) (back_none (m.restart p) h g (λ r i j. let k : b ≤ r = q r i j in omega arith)))
 

@@ -1,4 +1,4 @@
--- The law of events: an event that is the next of its actor keeps the invariant `Kept`.
+-- The law of events: an event that is the next of its actor preserves the invariant `Kept`.
 use Rattle.std.proofs.Common.{◌≡◌, ◌⊎◌, ℕ, suc, ◌<◌, ◌≤◌, refl, sym, inl, inr, arith}
 use Rattle.std.specs.Prelude.{Some, None, nat_lt, if◌then◌else◌}
 use Rattle.std.proofs.lemmas.Bool.Decides.{nat_tests}

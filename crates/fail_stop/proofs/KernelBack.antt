@@ -45,7 +45,7 @@ use Rattle.frame_model.specs.Tasks.{task_for, task_in}
 use Rattle.fail_stop.specs.ScriptFlights.{kernel_words}
 use Rattle.fail_stop.proofs.ImageRanges.{read_back}
 
--- Lemmas that a mode with small numbers can be decoded from its words.
+-- Proof that a mode with small numbers can be decoded from its words.
 
 abbrev IsMoveSmall : ConfId → Option ConfId → ConfId → ℕ → Type 0
 IsMoveSmall from halting to since = (from.0 < 256) × IfSome halting (λ c. c.0 < 256) × (to.0 < 256) × (since < 4294967296)
@@ -112,7 +112,7 @@ module _ (spec : Parts) (facts : IsSpec spec) where
       mode_by arrived (stable_decision spec to frame v) (moving_decision spec frame from halting to since settled t) (stable_small to frame v low.2 now)
       (mode_by (t.0 == to.0) (Moving from halting to since) (turn_to spec frame from halting to since settled t) low (turn_small frame from halting to since settled t low chosen now))
 
-  -- Lemmas that the numbers of the mode of each frame are small.
+  -- Proof that the numbers of the mode of each frame are small.
 
   module _ (script : ScriptParts) where
     decided_small : (f : ℕ) → f < 4294967296 → IsModeSmall (state_after spec script f).mode → IsModeSmall (decided spec script f)
@@ -122,7 +122,7 @@ module _ (spec : Parts) (facts : IsSpec spec) where
     mode_small zero now = let known = facts.start in let few = facts.confs_count.few in omega (arith, known, few)
     mode_small (suc f) now = decided_small f (omega (arith, now)) (mode_small f (omega (arith, now)))
 
-  -- Lemmas that the number of each keeper is small.
+  -- Proof that the number of each keeper is small.
 
   abbrev IsKeeperSmall : Option ProcId → Type 0
   IsKeeperSmall keeper = IfSome keeper (λ p. p.0 < 256)
@@ -175,7 +175,7 @@ module _ (spec : Parts) (facts : IsSpec spec) where
         keepers_back (λ b. keeper_after (λ p. commits spec script p f) (state_after spec script f) (task_in spec (phase_at spec (decided spec script f) f) b) b)
         (λ a under. kept_small (λ p. commits spec script p f) (keeper_at (state_after spec script f).keepers a) _ (keepers_small f a under) (asked_small (phase_at spec (decided spec script f) f) a))
 
--- Lemmas that each number of the world fits in a word.
+-- Proof that each number of the world fits in a word.
 
 record IsWorldWords (world : World) : Type 0 where
   alt : FitsSums world.alt
@@ -206,7 +206,7 @@ world_at spec script zero =
     record { alt = record { low = omega (arith, ints); high = omega (arith, ints) }; climb = zero_is; heading = record { low = omega (arith, ints); high = omega (arith, ints) }; bank = zero_is }
 world_at spec script (suc f) = world_words (state_after spec script (suc f)).world (flyable _)
 
--- Lemmas that the factors and the set of processors that are up can be decoded from their words.
+-- Proof that the factors and the set of processors that are up can be decoded from their words.
 
 number_by : (t : Bool) (a b : ℕ) → a < 256 → b < 256 → cond t a b < 256
 number_by true a b h k = h

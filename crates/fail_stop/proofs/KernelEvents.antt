@@ -1,4 +1,4 @@
--- Each event of the kernel keeps the invariant `Kept`.
+-- Each event of the kernel preserves the invariant `Kept`.
 use Rattle.std.proofs.Common.{◌≡◌, ◌⊎◌, ℕ, suc, ◌+◌, ◌*◌, ◌/◌, ◌%◌, ◌<◌, ◌≤◌, Bool, true, false, not, ◌&&◌, ◌||◌, refl, sym, ◌∙◌, inl, inr, arith}
 use Rattle.std.specs.Prelude.{Option, Some, None, nat_eq, if◌then◌else◌}
 use Rattle.std.proofs.lemmas.Bool.Decides.{nat_tests}
@@ -35,8 +35,8 @@ by_kernel m at words e at2 words2 h k a kn mk en bk rl kr pl =
     kernel_word (EndWord q) l same = rw (same q) (h.words_are (EndWord q) l ∙ en q ∙ k.words_are (EndWord q) l)
     kernel_word (BankWord q b i) l same = rw (same q) (h.words_are (BankWord q b i) l ∙ bk q b i ∙ k.words_are (BankWord q b i) l)
 
--- The place is one at which the kernel may have noted processor `p` in frame `k`. The processor is past the frame, or
--- the processor has halted and does not restart up to that frame.
+-- The kernel may have noted processor `p` in frame `k` if `p` is at this place. The processor is past the frame, or
+-- has halted and does not restart up to that frame.
 abbrev pub Noted : Flight → ℕ → ℕ → Place → Type 0
 Noted m k p (At f n) = k < f
 Noted m k p (Halted h) = (r : ℕ) → m.restart p ≡ Some r → h < r → k < r
@@ -88,7 +88,7 @@ note_place m k j q (Halted h) s c = record { step = s.step; up = s.up; halts = s
     noted_more2 q j P a b l (yes d) = b d
     noted_more2 q j P a b l (no d) = a (omega arith)
 
--- If processor `q` is noted already, then its place remains a valid one after a further note.
+-- If processor `q` has been noted, its place remains valid after a further note.
 past_place : (m : Flight) (k j q : ℕ) (x : Place) → q < j → IsPlaced m k j q x → IsPlaced m k (suc j) q x
 past_place m k j q (At f n) l r = record { up = r.up; low = r.low; high = r.high; fresh = r.fresh; within = r.within; noted = λ g. r.noted l; done = r.done }
 past_place m k j q (Halted h) l s = record { step = s.step; up = s.up; halts = s.halts; high = s.high; later = s.later; noted = λ g. s.noted l }

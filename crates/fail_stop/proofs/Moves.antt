@@ -90,7 +90,7 @@ pub nat_eq_other : (q p : ℕ) → q ≢ p → nat_eq q p ≡ false
 nat_eq_other q p n = grind (arith, nat_tests)
 
 -- If an event of processor `p` from place `y` leaves the words of `p` as the new place of `p` requires, then the
--- event keeps the invariant.
+-- event preserves the invariant.
 pub by_actor : (m : Flight) (at : Places) (words : Word → ℕ) (e : Event) (at2 : Places) (words2 : Word → ℕ) (p : ℕ) (y x : Place)
     → Happens m at words e at2 words2 → Kept m at words → p < m.procs → at.proc p ≡ y
     → ((q : ℕ) → is_actor e q ≡ nat_eq q p) → moved m e p y ≡ x → frame_after at e ≡ at.frame → step_after at e ≡ at.step

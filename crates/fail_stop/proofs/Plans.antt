@@ -23,7 +23,7 @@ is_less a b h = grind (arith, nat_tests)
 pub both_less : (a b c d : ℕ) → (nat_lt a b && nat_lt c d) ≡ true → (a < b) × (c < d)
 both_less a b c d h = grind (arith, nat_tests)
 
--- After the start, event `e` is the next one of processor `p` within a frame.
+-- Event `e` is the next event of processor `p`, and it comes after the start of a frame.
 pub record Mid (m : Flight) (p : ℕ) (place : Place) (e : Event) : Type 0 where
   pub f : ℕ
   pub n : ℕ

@@ -1,4 +1,4 @@
--- Lemmas that some actor has a next event if the machine is not over, and that each word of a bank is the one that
+-- Proof that some actor has a next event if the machine is not over, and that each word of a bank is the word that
 -- was stored there last.
 use Rattle.std.proofs.Common.{◌≡◌, ◌≢◌, ◌⊎◌, ℕ, zero, suc, ◌+◌, ◌-◌, ◌*◌, ◌/◌, ◌%◌, ◌<◌, ◌≤◌, Bool, true, false, ◌||◌, refl, ap, subst, ◌∙◌, inl, inr, arith}
 use Rattle.std.specs.Prelude.{Option, Some, None, nat_eq, if◌then◌else◌}

@@ -1,4 +1,5 @@
--- Lemmas that a reader finds the words and images of its frame, and that a note finds those after the frame.
+-- Proof that a reader finds the words and images of its frame, and that a note finds the mark and the image after the
+-- frame.
 use Rattle.std.proofs.Common.{◌≡◌, ℕ, suc, ◌+◌, ◌-◌, ◌*◌, ◌/◌, ◌%◌, ◌<◌, ◌≤◌, Bool, true, false, refl, sym, ap, subst, ◌∙◌, arith}
 use Rattle.std.proofs.lemmas.Bool.Decides.{nat_tests}
 use native.Mathlib.Decide.{dec_le}
@@ -87,7 +88,7 @@ gives m p k j (Halted h) y l s =
     }
 
 module _ (m : Flight) (at : Places) (words : Word → ℕ) (y : Flies m) (k : Kept m at words) where
-  -- A processor that has made a step in a frame and may read is in the kernel's frame.
+  -- A processor that has made a step in a frame is in the kernel's frame.
   reader : (p f n : ℕ) → p < m.procs → at.proc p ≡ At f n → 0 < n → f ≡ at.frame
   reader p f n l here z =
       let r : Running m at.frame at.step p f n = rw here at (k.placed p l) in

@@ -47,13 +47,13 @@ stands : {A : Type 0} (test : A → Bool) (xs : List A) (x : A) → find test xs
 stands test [] x e = absurd (cc)
 stands test (y ∷ ys) x e = stands_at test y ys x (test y) (stands test ys x) e
 
--- The latest halt of a processor below a frame is that of the script.
+-- The latest halt of a processor below a frame is the latest halt in the script.
 
 latest_same : (script : ScriptParts) (p f : ℕ) → latest (halt_step script p) f ≡ latest_halt script p f
 latest_same script p zero = refl
 latest_same script p (suc f) = rw (found_some (is_halt_in p f) (λ (halt : HaltAt). halt.step) script.halts, latest_same script p f) refl
 
--- Lemmas that a processor restarts at most once.
+-- Proof that a processor restarts at most once.
 
 none_later : (p h g : ℕ) (x : RestartAt) (xs : List RestartAt) → (x.proc.0 == p) ≡ true → EachLater Differ (x ∷ xs) → list_any (is_restart_between p h g) xs ≡ false
 none_later p h g x xs of_p once = not_true (list_any (is_restart_between p h g) xs) (λ again.
@@ -82,7 +82,7 @@ since_same spec script fits p f (Some h) = sym (back_list p h f script.restarts 
 up_by : (spec : Parts) (script : ScriptParts) → Fits spec script → (p f : ℕ) → is_up script p f ≡ is_up_after (latest (halt_step script p) f) (restart_of script p) f
 up_by spec script fits p f = since_same spec script fits p f (latest_halt script p f) ∙ ap (λ (o : Option ℕ). is_up_after o (restart_of script p) f) (sym (latest_same script p f))
 
--- Lemmas that each halt comes after at most all stores of its frame, or after the mark.
+-- Proof that each halt comes after at most all stores of its frame, or after the mark.
 
 step_of : (spec : Parts) (script : ScriptParts) → Fits spec script → (p f s : ℕ) (o : Option HaltAt) → halt_in script p f ≡ o → option_map (λ (halt : HaltAt). halt.step) o ≡ Some s → s ≤ words spec + 1
 step_of spec script fits p f s None is e = absurd (cc)
@@ -98,7 +98,7 @@ up_by_halts spec script fits = record { up = up_by spec script fits; steps = λ 
 pub script_flies : (spec : Parts) (script : ScriptParts) → Fits spec script → Flies (flight_of spec script)
 script_flies spec script fits = flies (flight_of spec script) (up_by_halts spec script fits)
 
--- Lemmas that the flight of a script commits the frames of the one-thread trace.
+-- Proof that the flight of a script commits the frames of the one-thread trace.
 
 mark_reached : (w : ℕ) (o : Option HaltAt) → reaches_mark w (option_map (λ (halt : HaltAt). halt.step) o) ≡ not (is_early w o)
 mark_reached w None = refl
@@ -111,7 +111,7 @@ pub committed_same : (spec : Parts) (script : ScriptParts) → Fits spec script 
 unfolding is_committed
 committed_same spec script fits p f = ap (λ (b : Bool). is_up script p f && b) (mark_reached (words spec) (halt_in script p f)) ∙ sym (commits_by spec script fits p f)
 
--- Lemmas that the flight of a script has the images of the one-thread trace.
+-- Proof that the flight of a script has the images of the one-thread trace.
 
 image_more : (spec : Parts) (script : ScriptParts) (p f : ℕ) → commits spec script p f ≡ true → image_after spec script p (suc f) ≡ draft spec script p f
 image_more spec script p f c = rw c refl
@@ -131,7 +131,7 @@ unfolding image_before
 images_same spec script fits p zero = refl
 images_same spec script fits p (suc f) = images_next spec script fits p f (commits spec script p f) refl (images_same spec script fits p f)
 
--- Lemmas that the flight of a script has the marks of the one-thread trace.
+-- Proof that the flight of a script has the marks of the one-thread trace.
 
 sides_next : (spec : Parts) (script : ScriptParts) → Fits spec script → (p f : ℕ) (b : Bool) → commits spec script p f ≡ b
     → side (flight_of spec script) p f ≡ image_bank_after spec script p f → side (flight_of spec script) p (suc f) ≡ image_bank_after spec script p (suc f)

@@ -14,7 +14,7 @@ marked m (Halted h) = suc h
 abbrev pub unmarked_bank : Flight → Places → ℕ → ℕ
 unmarked_bank m at p = 1 - commit_count m p (marked m (at.proc p)) % 2
 
--- Processor `p` is in frame `f` and has made `n` steps in it. The start is one of these steps.
+-- Processor `p` is in frame `f` and has made `n` steps in the frame. At least the start is among these steps.
 abbrev pub Reads : Places → ℕ → ℕ → ℕ → Type 0
 Reads at p f n = (at.proc p ≡ At f n) × (0 < n)
 

@@ -51,7 +51,7 @@ draft_made spec snap p = image_of (slot_made
     (image_in snap.images p)
     p)
 
--- The snapshot is that of frame `f` of a script. It contains the kernel image of the frame and the images of all
+-- The snapshot belongs to frame `f` of a script. It contains the kernel image of the frame and the images of all
 -- processors as of the start of the frame.
 pub record IsSnapshot (spec : Parts) (script : ScriptParts) (f : ℕ) (snap : Snapshot) : Type 0 where
   pub kernel : snap.kernel ≡ kernel_image spec script f

@@ -8,8 +8,8 @@ abbrev pub IsDone : Flight → ℕ → Place → Type 0
 IsDone m p (At f n) = f ≡ m.frames
 IsDone m p (Halted h) = (r : ℕ) → m.restart p ≡ Some r → r ≤ h
 
--- The machine is over. The flight has no frame, or each processor has flown all frames or has halted for good and the
--- kernel has made its last note.
+-- The machine is over. Either the flight has no frame, or each processor has flown all frames or has halted for good,
+-- and the kernel has made its last note.
 abbrev pub IsOver : Flight → Places → Type 0
 IsOver m at = (m.frames ≡ 0) ⊎ (((p : ℕ) → p < m.procs → IsDone m p (at.proc p)) × (suc at.frame ≡ m.frames) × (m.procs ≤ at.step))
 

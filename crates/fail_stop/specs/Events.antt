@@ -27,14 +27,14 @@ pub data Word : Type 0 where
   EndWord : ℕ → Word
   BankWord : ℕ → ℕ → ℕ → Word
 
--- Whether the event of a processor after `n` steps of a frame is its halt, given the step of the halt, or `None`. A
--- halt at step `s` comes after the start, the looks and `s` further steps.
+-- Whether the event of a processor after `n` steps of a frame is its halt, given the step of its halt in the frame,
+-- if any. A halt at step `s` comes after the start, the looks and `s` further steps.
 abbrev pub halts_at : Flight → ℕ → Option ℕ → Bool
 halts_at m n None = false
 halts_at m n (Some s) = nat_eq n (m.procs + 1 + s)
 
--- The event of processor `p` after `n` steps of a frame without a halt, or `None` after the last. The order is start,
--- looks, stores, flip, done.
+-- The event of processor `p` after `n` steps of a frame without a halt, or `None` after the last event. The order is
+-- start, looks, stores, flip, done.
 abbrev pub plan_step : Flight → ℕ → ℕ → Option Event
 plan_step m p n =
     if nat_eq n 0 then Some (Start (proc_id p))
@@ -43,8 +43,8 @@ plan_step m p n =
     else (if nat_eq n (m.procs + 1 + m.width) then Some (Flip (proc_id p))
     else (if nat_eq n (m.procs + 2 + m.width) then Some (Done (proc_id p)) else None))))
 
--- The event of processor `p` after `n` steps of frame `f`, or `None` after the last. A halt replaces all events that
--- would follow.
+-- The event of processor `p` after `n` steps of frame `f`, or `None` after the last event. A halt replaces all events
+-- that would follow.
 abbrev pub plan : Flight → ℕ → ℕ → ℕ → Option Event
 plan m p f n = if halts_at m n (m.halt p f) then Some (Halt (proc_id p)) else plan_step m p n
 
@@ -120,9 +120,9 @@ abbrev pub one_on : Place → Place
 one_on (At f n) = At f (suc n)
 one_on (Halted h) = Halted h
 
--- The place after a start, given the frame of the restart, or `None`. A processor that has not halted is one step
--- further. A halted processor has made one step of the frame of its restart. Without a restart its place does not
--- change.
+-- The place after a start, given the frame of the processor's restart, if any. A processor that has not halted is one
+-- step further. A halted processor has made one step of the frame of its restart. Without a restart its place does
+-- not change.
 abbrev pub started : Option ℕ → Place → Place
 started restart (At f n) = At f (suc n)
 started restart (Halted h) = back_at restart (Halted h)
@@ -187,12 +187,12 @@ abbrev pub is_halted : Place → Bool
 is_halted (At f n) = false
 is_halted (Halted h) = true
 
--- The place of a processor after the whole of frame `f`, given the step of its halt in the frame, or `None`.
+-- The place of a processor after the whole of frame `f`, given the step of its halt in the frame, if any.
 abbrev pub after_frame : ℕ → Option ℕ → Place
 after_frame f None = At (suc f) 0
 after_frame f (Some s) = Halted f
 
--- The word that an event writes and its new value, or `None` if the event writes none.
+-- The word that an event writes and the new value of the word, or `None` if the event writes no word.
 abbrev pub writes : Flight → Places → (Word → ℕ) → Event → Option (Word × ℕ)
 writes m at words (Store p i) = Some (BankWord p.0 (1 - words (MarkWord p.0) % 2) i, word_in (m.draft p.0 (frame_of (at.proc p.0))) i)
 writes m at words (Flip p) = Some (MarkWord p.0, mark_word (suc (frame_of (at.proc p.0))) (1 - words (MarkWord p.0) % 2))

@@ -3,7 +3,7 @@
 use Rattle.std.specs.Prelude.{◌≡◌, ℕ, zero, suc, ◌+◌, ◌-◌, ◌*◌, ◌<◌, ◌≤◌, min, Bool, true, false, ◌&&◌, List, get_or, Option, Some, None, if◌then◌else◌, nat_lt, nat_le, nat_eq}
 use Rattle.bank_words.specs.Marks.{mark_word}
 
--- A flight as numbers and functions. The numbers are those of frames, of processors and of words of an image. The
+-- A flight as numbers and functions. The numbers count the frames, the processors, and the words of an image. The
 -- functions return whether a processor is up in a frame, the step of a halt, the frame of a restart, the start image
 -- of a processor, its draft in a frame, and the kernel's words of a frame.
 pub record Flight : Type 0 where
@@ -35,7 +35,8 @@ pub record Flies (m : Flight) : Type 0 where
 abbrev pub word_in : List ℕ → ℕ → ℕ
 word_in image i = get_or image i 0
 
--- Whether a processor reaches its mark in a frame: there is no halt, or the halt comes after the flip.
+-- Whether a processor reaches its mark in a frame, given the step of its halt in the frame, if any: there is no halt,
+-- or the halt comes after the flip.
 abbrev pub reaches_mark : ℕ → Option ℕ → Bool
 reaches_mark width None = true
 reaches_mark width (Some s) = nat_lt width s
@@ -69,7 +70,7 @@ side m p (suc f) = if is_committed m p f then 1 - side m p f else side m p f
 abbrev pub mark_before : Flight → ℕ → ℕ → ℕ
 mark_before m p f = mark_word (last_commit m p f) (side m p f)
 
--- The end word of a processor after frame `f`, given the step of its halt in the frame, or `None`.
+-- The end word of a processor after frame `f`, given the step of its halt in the frame, if any.
 abbrev pub end_word_after : ℕ → Option ℕ → ℕ
 end_word_after f None = 2 * suc f
 end_word_after f (Some s) = 2 * f + 1
@@ -79,8 +80,8 @@ unfoldable pub end_before : Flight → ℕ → ℕ → ℕ
 end_before m p zero = 0
 end_before m p (suc f) = if m.up p f then end_word_after f (m.halt p f) else end_before m p f
 
--- The number of stores of a processor in a frame in which it is up, given the number of words of an image, and the
--- step of its halt in the frame, or `None`.
+-- The number of stores of a processor in a frame in which it is up, given the number of words of an image and the
+-- step of its halt in the frame, if any.
 abbrev pub stores_by : ℕ → Option ℕ → ℕ
 stores_by width None = width
 stores_by width (Some s) = min s width
@@ -89,7 +90,8 @@ stores_by width (Some s) = min s width
 unfoldable pub stores_in : Flight → ℕ → ℕ → ℕ
 stores_in m p f = if m.up p f then stores_by m.width (m.halt p f) else 0
 
--- Word `i` of bank `b` of processor `p` after `s` stores of frame `f`, if `old` is the word at the start of the frame.
+-- Word `i` of bank `b` of processor `p` after the first `s` stores in frame `f`, given the word `old` at the start of
+-- the frame.
 unfoldable pub laid : Flight → ℕ → ℕ → ℕ → ℕ → ℕ → ℕ → ℕ
 laid m p f s b i old = if nat_eq b (1 - side m p f) && nat_lt i s then word_in (m.draft p f) i else old
 

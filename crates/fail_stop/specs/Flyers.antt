@@ -52,8 +52,8 @@ abbrev pub unit_frame : {X : Type 0} {Y : X → Type 0} → HeldUnit X Y → ℕ
 unit_frame (Up live) = 0
 unit_frame (Down halted) = halted.frame
 
--- The unit is that of processor `p` at the place. The unit has halted if and only if the place is that of a halted
--- processor. In that case it has halted in the frame of the place.
+-- The unit belongs to processor `p`, which is at this place. The unit has halted if and only if the place is the
+-- place of a halted processor. In that case the unit has halted in the frame of the place.
 pub record IsUnitAt {X : Type 0} {Y : X → Type 0} (p : ℕ) (place : Place) (unit : HeldUnit X Y) : Type 0 where
   pub number : unit_proc unit ≡ p
   pub down : is_down unit ≡ is_halted place

@@ -42,7 +42,7 @@ stored_word m at (MarkWord p) = mark_at m p (at.proc p)
 stored_word m at (EndWord p) = end_at m p (at.proc p)
 stored_word m at (BankWord p b i) = bank_at m p (at.proc p) b i
 
--- The number of steps before the last event of a frame, given the step of the halt in the frame, or `None`.
+-- The number of steps before the last event of a frame, given the step of the halt in the frame, if any.
 abbrev pub last_step : Flight → Option ℕ → ℕ
 last_step m None = m.procs + 2 + m.width
 last_step m (Some s) = m.procs + 1 + s

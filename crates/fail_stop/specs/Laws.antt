@@ -86,7 +86,7 @@ SchedulesKeep = (spec : Parts) (script : ScriptParts) → Fits spec script → (
     → IsSchedule (flight_of spec script) (opening (flight_of spec script)) events state
     → Kept (flight_of spec script) state.at state.words × IsConsistent (flight_of spec script) state.at state.words
 
--- A processor that reads in frame `f` finds the words of that frame. The bank that the reader picks of processor `q`
+-- A processor that reads in frame `f` finds the words of that frame. The bank of processor `q` that the reader picks
 -- does not change during the frame and holds the image of `q` after the first `f` frames. The kernel's words are
 -- those of frame `f`.
 pub record Finds (spec : Parts) (script : ScriptParts) (words : Word → ℕ) (f : ℕ) : Type 0 where

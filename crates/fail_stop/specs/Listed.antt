@@ -5,7 +5,7 @@ use Rattle.bank_words.specs.declared.events.Event.{Event}
 use Rattle.fail_stop.specs.Events.{Places, Word, ReleaseWord, KernelWord, MarkWord, EndWord, BankWord, proc_after, frame_after, step_after}
 
 -- The index of a word, for at most 8 processors and 64 words per bank. The release has a cache line of 64 bytes to
--- itself, and so have the words that each processor writes.
+-- itself. The words that one processor writes share no cache line with other words.
 abbrev pub index_of : Word → ℕ
 index_of ReleaseWord = 0
 index_of (KernelWord i) = 8 + i

@@ -13,8 +13,8 @@ abbrev pub start_word : List (List ℤ) → List (Option ProcId) → ℕ → ℕ
 start_word areas keepers p i =
     if is_proc p (keeper_at keepers (i / 8)) then encode (slice_index_or (area_at areas (i / 8)) (i % 8) (pos 0)) else 0
 
--- Word `r`, at the opening, among the words that processor `p` writes. Bank 0 holds the start image, and all other
--- words are 0.
+-- The opening value of word `r` among the words that processor `p` writes. Bank 0 holds the start image, and all
+-- other words are 0.
 abbrev pub proc_opening : List (List ℤ) → List (Option ProcId) → ℕ → ℕ → ℕ
 proc_opening areas keepers p r =
     if nat_lt r 8 then 0 else (if nat_lt r 72 then start_word areas keepers p (r - 8) else 0)

@@ -1,4 +1,4 @@
--- Schedules from the opening, and the processors that are up by the halts and restarts.
+-- Schedules from the opening state, and the processors that are up as the halts and restarts of a flight decide.
 use Rattle.std.specs.Prelude.{◌≡◌, ℕ, zero, suc, ◌+◌, ◌≤◌, Bool, true, false, ◌&&◌, ◌||◌, List, [], ◌∷◌, Option, Some, None, is_none, is_some, if◌then◌else◌, nat_eq}
 use Rattle.fail_stop.specs.Flights.{Flight, back_by}
 use Rattle.bank_words.specs.declared.events.Event.{Event}

@@ -52,7 +52,7 @@ fn area_kept(snap: &Snapshot, a: u8) -> Area
 
 /// Replaces the slot of each application that processor `proc` hosts in the frame. `image` is the image of the
 /// processor as of the start of the frame. Each new slot is the result of one call of the application's box.
-/// Afterwards `seen` is what the last of these applications saw, or unchanged if there is none.
+/// Afterwards `seen` is what the last of these applications saw, or is unchanged if there is none.
 pub(crate) fn make_slots(
     proc: ProcId,
     rack: &mut Rack,

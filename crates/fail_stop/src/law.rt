@@ -4,7 +4,7 @@
 
 ghost use Rattle.fail_stop.specs.Laws.{BanksHoldTheLastStores, DraftsAreOfTraces, EventsKeep, EventsKeepLists, FlightsAreOfTraces, KernelImagesComeBack, KeptIsConsistent, MachineGoesOn, NotesFix, OpeningKeeps, OpeningListsAreOfScripts, ReadersFind, SchedulesKeep};
 
-/// States that the flight of a script commits the frames of the one-thread trace and has its images.
+/// States that the flight of a script has the commits, marks, banks and images of the one-thread trace.
 pub fn flights_are_of_traces()
     ensures { FlightsAreOfTraces }
 {}
@@ -49,8 +49,7 @@ pub fn readers_find()
     ensures { ReadersFind }
 {}
 
-/// States that, if the kernel has noted a processor, the mark and the image of the processor are those after the
-/// kernel's frame.
+/// States that the mark and the image of a processor that the kernel has noted are those after the kernel's frame.
 pub fn notes_fix()
     ensures { NotesFix }
 {}

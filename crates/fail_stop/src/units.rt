@@ -30,8 +30,8 @@ pub struct Halted {
 
 impl Live {
     /// Returns the processor of this number, with these boxes.
-    // No postcondition depends on the precondition. Without a precondition, a function that returns boxes counts as
-    // one that may make boxes, and so does each function that calls it without a precondition.
+    // No postcondition depends on the precondition. Without it, Rattle reports this function, which returns boxes,
+    // under `hides`, as one that may create boxes. Rattle also reports each caller without a precondition.
     pub fn new(proc: ProcId, rack: Rack) -> Live
         requires proc { proc.0 < 8 }
         ensures proc { result.proc ≡ proc }
@@ -49,7 +49,7 @@ impl Live {
 
     /// Sets `image` to the image of this processor after the snapshot's frame. The area of each application that the
     /// processor hosts in that frame is the result of one call of the processor's rack. The other words are those of
-    /// the processor's image in the snapshot. If the snapshot is that of a frame of a script, the image is the
+    /// the processor's image in the snapshot. If the snapshot belongs to a frame of a script, the image is the
     /// processor's draft in that frame of the one-thread trace.
     pub fn draft(&mut self, spec: &Spec, snap: &Snapshot, image: &mut Image)
         requires proc { self.old.proc.0 < 8 }

@@ -36,7 +36,7 @@ module _ {A B C : Type 0} (made : A → B → C) (bs : List B) where
       omega (arith, rest, row, both)
 
   -- The element at column `k` of row `i` is the value of `made` for element `i` of the first list and element `k` of
-  -- the second.
+  -- the second list.
   pub cell : (xs : List A) (i k : ℕ) (x : A) (b : B) → slice_get xs i ≡ Some x → slice_get bs k ≡ Some b → slice_get (rows xs) (i * length bs + k) ≡ Some (made x b)
   unfolding rows
   cell [] i k x b there column = absurd cc

@@ -16,7 +16,7 @@ use Rattle.fault_script.specs.Environments.{env_at}
 use Rattle.fault_script.proofs.Assuming.{upto_grows}
 use Rattle.fault_family.specs.Scripts.{is_within}
 
--- The greatest bound is at most any number that no bound exceeds.
+-- If no bound exceeds `most`, then the greatest bound is at most `most`.
 pub greatest_within : (bounds : List Bound) (most : ℕ) → Each (λ (bound : Bound). bound.frames ≤ most) bounds → greatest_bound bounds ≤ most
 greatest_within [] most each = omega arith
 greatest_within (bound ∷ bounds) most each =
@@ -24,13 +24,14 @@ greatest_within (bound ∷ bounds) most each =
     let rest = greatest_within bounds most (λ i b there. each (suc i) b there) in
     omega (arith, first, rest)
 
--- A frame after the first is a change frame if and only if its environment differs from that of the previous frame.
+-- A frame after the first is a change frame if and only if its environment differs from the environment of the
+-- previous frame.
 pub change_after_first : (spec : Parts) (script : ScriptParts) (f : ℕ) → f ≢ 0 → is_change_frame spec script f ≡ not (is_same_env (env_at spec script (f - 1)) (env_at spec script f))
 change_after_first spec script zero some = absurd (some refl)
 change_after_first spec script (suc f) some = let back : suc f - 1 ≡ f = omega arith in rw back refl
 
--- The count of change frames up to a frame is one more than that of the previous frame if the frame is a change
--- frame, and the same otherwise.
+-- If a frame is a change frame, then the count of change frames up to the frame is one more than the count up to the
+-- previous frame. Otherwise both counts are the same.
 pub counted : (spec : Parts) (script : ScriptParts) (f : ℕ) → is_change_frame spec script f ≡ true → changes_upto spec script (f - 1) + 1 ≡ changes_upto spec script f
 counted spec script zero is = absurd cc
 counted spec script (suc f) is = let back : suc f - 1 ≡ f = omega arith in rw (back, is) refl
@@ -45,7 +46,7 @@ shown_by true b x y = refl
 shown_by false true x y = refl
 shown_by false false x y = refl
 
--- The count of change frames up to a frame is at least that of any earlier frame.
+-- The count of change frames up to a frame is at least the count up to any earlier frame.
 pub upto_before : (spec : Parts) (script : ScriptParts) (e f : ℕ) → e ≤ f → changes_upto spec script e ≤ changes_upto spec script f
 upto_before spec script e zero before = let none : e ≡ 0 = omega (arith, before) in rw none (omega arith)
 upto_before spec script e (suc f) before = elim (at_or_below e f before) [

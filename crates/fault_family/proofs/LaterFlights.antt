@@ -1,4 +1,4 @@
--- A script in which everything comes later has the same flight, later by that number of frames.
+-- A script in which everything comes some frames later has the same flight, later by that number of frames.
 use Rattle.std.proofs.Common.{◌≡◌, ◌∙◌, ℕ, zero, suc, ◌+◌, ◌-◌, ◌<◌, ◌≤◌, Bool, true, false, List, [], ◌∷◌, ◌++◌, length, map, append_assoc, append-nil, arith, ap, refl, sym, subst, nat_lt}
 use Rattle.std.specs.Prelude.{◌&&◌, ◌==◌, nat_le, if◌then◌else◌, Option, Some, None}
 use Rattle.std.specs.List.{list_any}
@@ -148,8 +148,8 @@ module _ (spec : Parts) (d : ℕ) (script : ScriptParts) (accepts : Accepts spec
       ∙ ap (λ (settled : Bool). decision spec (d + n) (mode_later d state.mode) settled state.arrived (env_at spec script n)) (settled_before n)
       ∙ decision_later spec d state.mode n (is_settled spec state.mode (n - 1)) state.arrived (env_at spec script n)
 
-  -- The row of frame `d + n` in the later script has the acts of the script's row of frame `n`, and the mode of that
-  -- row `d` frames later.
+  -- The row of frame `d + n` in the later script has the acts of row `n` of the script. Its mode is the mode of row
+  -- `n`, `d` frames later.
   record IsRowLater (n : ℕ) : Type 0 where
     mode : (row_at spec (later_by d script) (d + n)).mode ≡ mode_later d (row_at spec script n).mode
     acts : (row_at spec (later_by d script) (d + n)).acts ≡ (row_at spec script n).acts

@@ -26,7 +26,7 @@ use Rattle.fault_family.specs.Laws.{Follow, IsKind, IsNear, IsNextFault, Members
 use Rattle.fault_family.specs.Scripts.{change_fault_in, change_of_fault, frames_of_faults, halt_fault_in, halt_of_fault, last_fault_frame, restart_fault_in, restart_of_fault, script_of_faults}
 use Rattle.fault_family.proofs.Counting.{greatest_within}
 
--- Lemmas on the list of the values of a function that returns an optional value for each element.
+-- Lemmas on `filter_map`, which lists the values of a function that returns an optional value for each element.
 
 each_more : {B : Type 0} (P : B → Type 0) (o : Option B) (ys : List B) → ((b : B) → o ≡ Some b → P b) → Each P ys → Each P (cons_option o ys)
 each_more P None ys first each = each
@@ -81,9 +81,9 @@ next_later R xs each i x y p q = each i (i + 1) x y (omega arith) p q
 abbrev Later : Fault → Fault → Type 0
 Later fault next = may_come_after next fault ≡ true
 
--- Facts about the faults of a script. Each kind is one of the specification, and each fault may come after the
--- earlier ones. No fault comes before frame 1 or after the frame of the last fault. That frame is at most 1001 times
--- the number of faults. Each restart comes two frames or more after a halt of its processor.
+-- Facts about the faults of a script. Each fault is of a kind of the specification and may come after the earlier
+-- faults. No fault comes before frame 1 or after the frame of the last fault. The frame of the last fault is at most
+-- 1001 times the number of faults. Each restart comes two frames or more after a halt of its processor.
 record Keeps (spec : Parts) (faults : List Fault) : Type 0 where
   kinds : Each (λ (fault : Fault). IsKind spec fault.kind) faults
   later : EachLater Later faults
@@ -213,7 +213,8 @@ changes_in_order f g (kind.Change x v) (kind.Restart r) a b p q later = absurd c
 changes_in_order f g (kind.Halt r s) l a b p q later = absurd cc
 changes_in_order f g (kind.Restart r) l a b p q later = absurd cc
 
--- The halt or restart of processor `p` in frame `f` comes before that of another processor `q` in frame `g`.
+-- The halt or restart of processor `p` in frame `f` comes before the halt or restart of another processor `q` in
+-- frame `g`.
 record AreApart (f p g q : ℕ) : Type 0 where
   order : Before f p g q
   other : p ≡ q → ⊥
@@ -242,7 +243,7 @@ restarts_apart f g (kind.Restart x) (kind.Halt r s) a b p q later = absurd cc
 restarts_apart f g (kind.Change r s) l a b p q later = absurd cc
 restarts_apart f g (kind.Halt r s) l a b p q later = absurd cc
 
--- A fault of a script with `frames` frames may come in this frame: the frame is at least 1 and below `frames`.
+-- A fault of a script with `frames` frames may come in frame `frame`: the frame is at least 1 and below `frames`.
 record LiesIn (frames frame : ℕ) : Type 0 where
   first : 1 ≤ frame
   last : frame < frames

@@ -152,7 +152,7 @@ module _ (spec : Parts) where
   is_within_is : (faults : List Fault) → IsWithin spec (script_of_faults spec faults) → is_within spec (script_of_faults spec faults) ≡ true
   is_within_is faults within = rw ((leaves_nowhere spec (script_of_faults spec faults)).nowhere within) refl
 
-  -- `faults` continues `before` with `more` further faults, each of which may follow the preceding ones. The script
+  -- `faults` continues `before` with `more` further faults, each of which may follow the preceding faults. The script
   -- of `faults` keeps the failure assumption.
   pub record GoesOn (more : ℕ) (before faults : List Fault) : Type 0 where
     pub rest : List Fault

@@ -17,7 +17,7 @@ use Rattle.fault_script.proofs.Halts.{up_by_lists}
 use Rattle.fault_family.specs.Rests.{later_from, later_frame}
 use Rattle.fault_family.proofs.Mapped.{any_mapped}
 
--- Lemmas on the order of frames after the move of `later_frame`.
+-- Lemmas on the order of frames that `later_frame` moves.
 
 module _ (b d : ℕ) where
   le_moved : (x f : ℕ) → b ≤ f → nat_le (later_frame b d x) (d + f) ≡ nat_le x f
@@ -50,7 +50,7 @@ module _ (b d : ℕ) where
       by_side false true is also = grind (arith, nat_tests, is, also)
       by_side false false is also = grind (arith, nat_tests)
 
-  -- The moved frame of `x` is at most a frame `g` of the rest if and only if `x` is before frame `b`.
+  -- Frame `later_frame b d x` is at most a frame `g` of the rest if and only if `x` is before frame `b`.
   le_resting : (x g : ℕ) → 1 ≤ b → b ≤ g → g < d + b → nat_le (later_frame b d x) g ≡ nat_le x (b - 1)
   le_resting x g some after before = by_side (nat_lt x b) refl
     where
@@ -58,7 +58,7 @@ module _ (b d : ℕ) where
       by_side true is = grind (arith, nat_tests, is, after, some)
       by_side false is = grind (arith, nat_tests, is, before, after, some)
 
-  -- The moved frame of `x` is at most a frame before `b` if and only if `x` is at most that frame.
+  -- Frame `later_frame b d x` is at most a frame before `b` if and only if `x` is at most that frame.
   le_before : (x f : ℕ) → f < b → nat_le (later_frame b d x) f ≡ nat_le x f
   le_before x f early = by_side (nat_lt x b) refl
     where

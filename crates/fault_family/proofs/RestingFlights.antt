@@ -194,8 +194,8 @@ module _ (spec : Parts) (b d : ℕ) (c : ConfId) (script : ScriptParts) (rest : 
             ∙ ap (acts_in spec (phase_at spec (row_at spec script f).mode f)) (fun_ext shows.committing);
       }
 
-  -- The flight of the script is at rest at the start of frame `b`, and that of the later script at the start of frame
-  -- `d + b`. Therefore `IsRowLater` holds for frame `b`.
+  -- The flight of the script is at rest at the start of frame `b`, and the flight of the later script is at rest at
+  -- the start of frame `d + b`. Therefore `IsRowLater` holds for frame `b`.
   row_first : IsRowLater b
   unfolding IsResting
   row_first =

@@ -1,4 +1,5 @@
--- A script in which everything comes later has the same environments and commits, later by that number of frames.
+-- A script in which everything comes some frames later has the same environments and commits, later by that number of
+-- frames.
 use Rattle.std.proofs.Common.{◌≡◌, ◌∙◌, ℕ, zero, suc, ◌+◌, ◌-◌, ◌<◌, ◌≤◌, Bool, true, false, List, [], ◌∷◌, length, map, arith, ap, refl, sym, nat_lt}
 use mathlib.Core.Logic.{inl, inr}
 use Rattle.std.specs.Prelude.{◌&&◌, ◌==◌, not, nat_le, if◌then◌else◌}
@@ -85,7 +86,7 @@ module _ (spec : Parts) (d : ℕ) (script : ScriptParts) where
       ap (λ up. env_of up (factors_at (later_by d script) (d + f))) (fun_ext (λ p. up_later p f))
       ∙ ap (env_of (λ p. is_up script p f)) (factors_later f)
 
-  -- Lemmas on the frames up to frame `d`, before anything of the later script has come.
+  -- Lemmas on the frames up to frame `d`, in which no change, halt or restart of the later script has come yet.
 
   nothing_yet : (x f : ℕ) (changes : List Change) (value : ℕ) → Each (λ (change : Change). f < d + change.frame) changes
       → value_after (map (λ (change : Change). record { frame = d + change.frame; factor = change.factor; value = change.value }) changes) x f value ≡ value

@@ -54,8 +54,8 @@ abbrev pub Follow : Parts → List Fault → List Fault → Type 0
 Follow spec before [] = ⊤
 Follow spec before (fault ∷ faults) = IsNextFault spec before fault × Follow spec (before ++ fault ∷ []) faults
 
--- The faults make a script of the family. There are `count` faults. Each fault may be the next after the preceding
--- ones. The script of the faults keeps the failure assumption.
+-- The list of faults is a member of the family. It contains `count` faults, each of which may be the next after the
+-- preceding faults. The script of the faults keeps the failure assumption.
 pub record IsMember (spec : Parts) (count : ℕ) (faults : List Fault) : Type 0 where
   pub many : length faults ≡ count
   pub follow : Follow spec [] faults
@@ -81,7 +81,7 @@ MembersFit = (spec : Parts) (count : ℕ) (faults : List Fault) → IsSpec spec 
     → Fits spec (script_of_faults spec faults)
 
 -- The first list of faults comes before the second. At the first position at which the lists differ, the fault of the
--- first list precedes the fault of the second.
+-- first list precedes the fault of the second list.
 pub data ComesFirst : List Fault → List Fault → Type 0 where
   here : (fault next : Fault) (faults others : List Fault) → precedes fault next ≡ true → ComesFirst (fault ∷ faults) (next ∷ others)
   further : (fault : Fault) (faults others : List Fault) → ComesFirst faults others → ComesFirst (fault ∷ faults) (fault ∷ others)

@@ -24,8 +24,8 @@ later_by d script = record {
   restarts = map (λ (restart : RestartAt). record { proc = restart.proc; frame = d + restart.frame }) script.restarts;
 }
 
--- The script `later` has the environments and commits of `script`, `d` frames later. Before frame `d`, it has the
--- environment of frame 0 of `script`. It keeps the failure assumption if `script` does.
+-- The script `later` has the environments and commits of `script`, `d` frames later. Before frame `d`, `later` has
+-- the environment of frame 0 of `script`. If `script` keeps the failure assumption, then so does `later`.
 pub record ShowsLater (spec : Parts) (d : ℕ) (script later : ScriptParts) : Type 0 where
   pub environment : (f : ℕ) → env_at spec later (d + f) ≡ env_at spec script f
   pub commits : (p f : ℕ) → commits spec later p (d + f) ≡ commits spec script p f
@@ -33,7 +33,7 @@ pub record ShowsLater (spec : Parts) (d : ℕ) (script later : ScriptParts) : Ty
   pub within : IsWithin spec script → IsWithin spec later
 
 -- A script in which everything comes some frames later has the same environments and commits, later by that number of
--- frames. It keeps the failure assumption if the original script does.
+-- frames. The later script keeps the failure assumption if the original script does.
 abbrev pub LaterScriptsShowTheSame : Type 0
 LaterScriptsShowTheSame = (spec : Parts) (d : ℕ) (script : ScriptParts) → Fits spec script → ShowsLater spec d script (later_by d script)
 

@@ -166,7 +166,7 @@ fn frame_count(spec: &Spec, before: &[Fault]) -> u32
     }
 }
 
-// Returns entry `i` of the list of the frames in which a fault may come after the faults `before`.
+// Returns the frame with index `i` among the frames in which a fault may come after the faults `before`.
 fn frame_after(spec: &Spec, before: &[Fault], i: u32) -> u32
     requires i { i < length (frames_after spec.now before.now) }
     requires before { last_fault_frame before.now ≤ 4000 }
@@ -179,7 +179,7 @@ fn frame_after(spec: &Spec, before: &[Fault], i: u32) -> u32
     }
 }
 
-// Returns entry `i` of the list of the numbers of frames by which a fault may come after the previous one.
+// Returns the gap with index `i`. A gap is a number of frames by which a fault may come after the previous fault.
 fn gap(spec: &Spec, i: u32) -> u32
     requires { i < greatest_bound spec.now.bounds + 3 }
     ensures value { slice_get (gaps spec.now) i ≡ Some result }
@@ -192,12 +192,12 @@ fn gap(spec: &Spec, i: u32) -> u32
     }
 }
 
-/// Returns `true` if a fault may follow the faults `before`: it may come after each of them, and it makes a
-/// difference to their script.
+/// Returns `true` if a fault may follow the faults `before`: the fault may come after each of them, and it makes a
+/// difference to the script of `before`.
 pub fn may_follow(spec: &Spec, before: &[Fault], fault: &Fault) -> bool
     ensures { result ≡ may_follow spec.now before.now fault.now }
 {
-    // The use of a field of the specification proves that the specification keeps its invariant.
+    // From the use of a field, the prover knows that the specification satisfies its invariant.
     let _ = &spec.procs;
     may_come_after_all(before, fault) && differs_in(before, fault)
 }

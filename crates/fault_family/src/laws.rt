@@ -5,8 +5,8 @@ ghost use Rattle.fault_family.specs.Rests.{RestsMayBeLonger};
 ghost use Rattle.fault_family.specs.Shifts.{LaterScriptsFlyTheSame, LaterScriptsShowTheSame};
 ghost use Rattle.fault_family.specs.Standing.{ListedStepsStand};
 
-/// States that the family contains exactly the lists of faults each of which may follow the preceding ones and whose
-/// script keeps the failure assumption.
+/// States that the family contains exactly the lists of faults that satisfy two conditions. Each fault may be the
+/// next after the preceding faults, and the script of the list keeps the failure assumption.
 pub fn families_have_members()
     ensures { FamiliesHaveMembers }
 {}
@@ -23,7 +23,8 @@ pub fn members_fit()
 {}
 
 /// States that the rows and reconfigurations of a flight depend only on whether each halt comes before its
-/// processor's mark or after it. Therefore the two steps in the family represent all other steps.
+/// processor's mark or after it. Therefore the halts before all stores and after the mark, which are in the family,
+/// represent all other halts.
 pub fn listed_steps_stand()
     ensures { ListedStepsStand }
 {}

@@ -94,7 +94,7 @@ pub fn greatest(spec: &Spec) -> u32
     ensures value { result ≡ greatest_bound spec.now.bounds }
     ensures few { result ≤ 1000 }
 {
-    // The use of a field of the specification proves that the specification keeps its invariant.
+    // From the use of a field, the prover knows that the specification satisfies its invariant.
     let _ = &spec.bounds;
     greatest_bound(spec)
 }
@@ -110,7 +110,7 @@ pub fn value_at(faults: &[Fault], factor: FactorId, frame: u32) -> u8
     value
 }
 
-// Returns the value of a factor in a frame of a script with one fault more, given its value `value` without that
+// Returns the value of a factor in a frame of a script with one more fault, given its value `value` without that
 // fault.
 fn newest(fault: &Fault, factor: FactorId, frame: u32, value: u8) -> u8
     ensures { result ≡ value_after (filter_map change_of_fault (fault.now ∷ [])) factor.0 frame value }
@@ -180,7 +180,7 @@ fn is_restart_between(fault: &Fault, p: u8, after: u32, frame: u32) -> bool
     }
 }
 
-/// Returns `true` if a processor has a halt at least two frames before a frame.
+/// Returns `true` if a processor halts at least two frames before a frame.
 pub fn has_halted_before(faults: &[Fault], proc: ProcId, frame: u32) -> bool
     ensures { result ≡ list_any (is_halt_before proc.0 frame) (filter_map halt_of_fault faults.now) }
 {

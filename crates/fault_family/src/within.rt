@@ -11,9 +11,9 @@ ghost use Rattle.fault_family.specs.Scripts.{is_within, script_in_frames};
 use crate::scripts::{FaultScript, is_up, value_at};
 use scram_types::{Env, FactorId, Spec};
 
-/// Returns `true` if a script keeps the failure assumption. In no frame, including the frame after the last, are more
-/// than `halts` processors down. Any `window` consecutive frames contain at most `changes + 1` frames whose
-/// environment differs from that of the previous frame.
+/// Returns `true` if a script keeps the failure assumption. The assumption requires that no frame, including the
+/// frame after the last, has more than `halts` processors down. It also requires that any `window` consecutive frames
+/// contain at most `changes + 1` frames whose environment differs from the environment of the previous frame.
 pub fn is_within(spec: &Spec, script: &FaultScript<'_>) -> bool
     requires { script.now.frames ≤ 5003 }
     ensures { result ≡ is_within spec.now (script_in_frames script.now.frames script.now.faults.now) }
@@ -36,7 +36,7 @@ struct Counts {
     past: u32,
 }
 
-// Returns the counts of a frame, given those of the previous frame.
+// Returns the counts of a frame, given the counts of the previous frame.
 fn counts_with(spec: &Spec, script: &FaultScript<'_>, counts: &Counts, frame: u32) -> Counts
     requires frame { frame ≤ 5003 }
     requires counts { AreChangeFrameCounts spec.now (script_in_frames script.now.frames script.now.faults.now) (frame - 1) counts.now }

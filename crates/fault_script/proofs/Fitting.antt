@@ -314,7 +314,7 @@ script_values_ok spec version m script e =
 pub script_in_fits : (spec : Parts) (d : Data) (script : ScriptParts) → script_in spec d ≡ Ok script → Fits spec script
 script_in_fits spec d script e = chain_ok (find_members (version_of d) d) _ script e (λ m _ rest. script_values_ok spec _ m script rest)
 
--- Whatever the bytes are, a script that is read from them fits the specification.
+-- A script that is read from any bytes fits the specification.
 pub script_of_fits : (spec : Parts) (bytes : List ℕ) (script : ScriptParts) → script_of spec bytes ≡ Ok script → Fits spec script
 script_of_fits spec bytes script e =
     chain_ok (parsed bytes) _ script (if_ok (nat_le (length bytes) MAX_SCRIPT_BYTES) _ _ _ script e) (λ d _ rest. script_in_fits spec d script rest)

@@ -1,4 +1,4 @@
--- The processors that are up after halts.
+-- Lemmas on the processors that are up after halts.
 use Rattle.std.proofs.Common.{◌≡◌, ℕ, zero, suc, ◌<◌, ◌≤◌, Bool, true, false, not, refl, arith, ap, sym, ◌∙◌}
 use mathlib.Core.Logic.{inl, inr}
 use Rattle.std.specs.Prelude.{◌&&◌, ◌==◌, Some, if◌then◌else◌, nat_le, nat_lt}
@@ -36,7 +36,7 @@ pub between_test : (p h f : ℕ) (restart : RestartAt) → IsBetween p h f resta
 between_test p h f restart b =
     rw (equal_test restart.proc.0 p b.proc, below_test h restart.frame b.after, at_most_test restart.frame f b.by) refl
 
--- A processor that has restarted since a frame has restarted since each earlier one.
+-- A processor that has restarted since a frame has restarted since each earlier frame.
 restarted_earlier : (script : ScriptParts) (p h g f : ℕ) → h ≤ g → restarted script p g f ≡ true → restarted script p h f ≡ true
 restarted_earlier script p h g f earlier t =
     let found = any_found (is_restart_between p g f) script.restarts t in

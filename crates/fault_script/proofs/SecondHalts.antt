@@ -21,7 +21,7 @@ one_at : {P : Type 0} (p : ℕ) (here : Bool) (x : HaltAt) (xs : List HaltAt) �
 one_at p true x xs is many later first = first (grind (arith, nat_tests, is))
 one_at p false x xs is many later first = later (omega (arith, many))
 
--- A processor that has a halt in a list has one at some index.
+-- If a list has a halt of processor `p`, there is an index of such a halt.
 one_there : {P : Type 0} (p : ℕ) (xs : List HaltAt) → 1 ≤ halts_of p xs → ((i : ℕ) (x : HaltAt) → slice_get xs i ≡ Some x → x.proc.0 ≡ p → P) → P
 one_there p [] many then = absurd (omega (arith, many))
 one_there p (x ∷ xs) many then =

@@ -58,7 +58,7 @@ small p0 p1 app conf x0 x1 = record {
   window = 40;
 }
 
--- If the items have names, the small specification satisfies `HasNames`.
+-- If the items have valid names, the small specification satisfies `HasNames`.
 pub small_names : (p0 p1 : Proc) (app : AppSpec) (conf : Conf) (x0 x1 : Factor) → IsTrue (is_name p0.name) → IsTrue (is_name p1.name) → IsTrue (is_name app.name) → IsTrue (is_name conf.name)
     → IsTrue (is_name x0.name) → IsTrue (is_name x1.name) → HasValueNames x0 → HasValueNames x1 → HasNames (small p0 p1 app conf x0 x1)
 small_names p0 p1 app conf x0 x1 named0 named1 named_app named_conf named_x0 named_x1 values0 values1 = record {

@@ -1,4 +1,4 @@
--- Relations between the items of a list, for an item and the preceding ones.
+-- Lemmas on relations between an item of a list and the preceding items.
 use Rattle.std.proofs.Common.{◌≡◌, ◌+◌, ◌-◌, ℕ, zero, suc, Bool, true, false, ◌||◌, List, [], ◌∷◌, ◌++◌, length, arith, refl, ap, sym, ◌∙◌, inl, inr}
 use Rattle.std.specs.Prelude.{Option, Some, None, slice_get}
 use Rattle.std.specs.List.{list_any}

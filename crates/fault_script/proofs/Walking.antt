@@ -128,7 +128,7 @@ values_are script f n next taken whole =
 pub taken_later : (changes : List Change) (f n : ℕ) → HaveCome changes f n → HaveCome changes (f + 1) n
 taken_later changes f n taken = λ k change less there. (let by = taken k change less there in omega arith)
 
--- At frame 0 no change has been taken, since each change is in a frame after the first.
+-- Lemmas on frame 0, at which no change has been taken.
 pub none_taken : (changes : List Change) (f : ℕ) → HaveCome changes f 0
 none_taken changes f = λ k change less there. absurd (omega arith)
 
@@ -169,7 +169,7 @@ walk_moves spec script fits f after at taken values whole up = record {
   env = env_whole spec script (f + 1) after.env up (values ∙ values_are script (f + 1) after.taken fits.changes_ordered taken whole);
 }
 
--- A walk at frame `f` is at the frame in its field `frame`.
+-- If `IsWalk` holds for a walk and some frame, then it holds for the frame in the walk's field `frame`.
 pub stands_there : (spec : Parts) (script : ScriptParts) (f : ℕ) (walk : Walk) → IsWalk spec script f walk → IsWalk spec script walk.frame walk
 stands_there spec script f walk is = subst (λ g. IsWalk spec script g walk) (sym is.frame) is
 

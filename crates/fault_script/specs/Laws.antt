@@ -56,8 +56,8 @@ abbrev pub LaterIsUnseen : Type 0
 LaterIsUnseen = (spec : Parts) (one other : ScriptParts) (f : ℕ) → AgreeUpTo f one other
     → (env_at spec one f ≡ env_at spec other f) × ((p : ℕ) → commits spec one p f ≡ commits spec other p f)
 
--- If the first frame that leaves the failure assumption has the kind `Halts`, a processor halts in that frame.
--- Without restarts, the frame is that of halt number `halts + 1` in the script's order.
+-- If the first frame that leaves the failure assumption has the kind `Halts`, a processor halts in that frame. If the
+-- script has no restarts, this frame is the frame of the script's halt at index `spec.halts`.
 abbrev pub TooManyDownShowsAHalt : Type 0
 TooManyDownShowsAHalt = (spec : Parts) (script : ScriptParts) → Fits spec script
     → (f : ℕ) → first_outside spec script ≡ Some (record { frame = f; kind = kind.Halts })

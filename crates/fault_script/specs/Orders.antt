@@ -62,8 +62,8 @@ halts_of p (halt ∷ halts) = (if halt.proc.0 == p then 1 else 0) + halts_of p h
 abbrev pub is_restart_by : ℕ → ℕ → RestartAt → Bool
 is_restart_by p f restart = restart.proc.0 == p && nat_le restart.frame f
 
--- Whether a processor may have a halt after the halts `before`. It may if it has no halt in `before`. It also may if
--- it has one there and restarts in the frame of the new halt or an earlier one.
+-- Whether the processor of `halt` may have this halt after the halts `before`. Either the processor has no halt in
+-- `before`, or it has one halt in `before` and restarts in the frame of `halt` or an earlier frame.
 abbrev pub may_halt : List RestartAt → List HaltAt → HaltAt → Bool
 may_halt restarts before halt =
     halts_of halt.proc.0 before == 0

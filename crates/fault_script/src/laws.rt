@@ -32,7 +32,8 @@ pub fn later_is_unseen()
 {}
 
 /// States that if [`within`](crate::within) returns a frame after which too many processors are down, a processor
-/// halts in that frame. Without restarts, the frame is that of halt number `halts + 1` in the script's order.
+/// halts in that frame. If the script has no restarts, this frame is the frame of the script's halt at index
+/// `Spec::halts`.
 pub fn too_many_down_shows_a_halt()
     ensures { TooManyDownShowsAHalt }
 {}

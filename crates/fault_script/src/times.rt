@@ -1,4 +1,5 @@
-//! Queries of a script about a processor and about a frame.
+//! Lookups in a script: the values of the factors, the halts and restarts of a processor, and whether a processor is
+//! up.
 
 ghost use Rattle.std.specs.Prelude.{◌≡◌};
 ghost use Rattle.std.specs.List.{list_all};
@@ -6,8 +7,8 @@ ghost use Rattle.fault_script.specs.Times.{factors_at, halt_in, halt_of, is_over
 
 use scram_types::{HaltAt, ProcId, Script};
 
-/// Returns the values of the six factors in a frame, by number. The value of a factor is that of its last change up to
-/// the frame, or 0 if there is none.
+/// Returns the values of the six factors in a frame, by number. The value of a factor is the value of its last change
+/// up to the frame, or 0 if there is no such change.
 pub fn factors_at(script: &Script, frame: u32) -> [u8; 6]
     ensures { result ≡ factors_at script.now frame }
 {

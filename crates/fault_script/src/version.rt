@@ -5,7 +5,7 @@ ghost use Rattle.fault_script.specs.Versions.{halts_limit, member_count, version
 use scram_doc::field;
 use serde_json::Value;
 
-/// The versions of the script document. The second one has restarts.
+/// The versions of the script document. Only the second version has restarts.
 #[derive(Clone, Copy, Debug, PartialEq, Eq)]
 pub enum Version {
     First,

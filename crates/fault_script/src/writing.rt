@@ -94,7 +94,7 @@ pub fn write_script(alloc: Global, script: &Script, spec: &Spec) -> Result<Vec<u
     ensures value { IfOk result (λ text. read text.items ≡ Some (script_data spec.now script.now)) }
     ensures back { IfOk result (λ text. Fits spec.now script.now → script_of spec.now text.items ≡ Ok script.now) }
 {
-    // The use of a field of the specification proves that the specification keeps its invariant.
+    // From the use of a field, the prover knows that the specification satisfies its invariant.
     let _ = &spec.procs;
     let Ok(value) = make_script(alloc, spec, script) else {
         return Err(NoMemory);

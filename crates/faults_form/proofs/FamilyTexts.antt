@@ -51,8 +51,8 @@ module _ (spec : Parts) where
       let back : suc more - 1 ≡ more = omega arith in
       rw back (texts_of_items (branch_text spec more before) (candidates spec before) ∙ sym (extended_branches more before))
 
-  -- If a candidate may follow the faults `before`, its lines are those of the scripts that begin with `before` and
-  -- the candidate. Otherwise, its text is empty.
+  -- If a candidate may follow the faults `before`, its text consists of the lines of the scripts that begin with
+  -- `before` and the candidate. Otherwise, its text is empty.
   pub branch_followed : (more : ℕ) (before : List Fault) (k : ℕ) (fault : Fault) → slice_get (candidates spec before) k ≡ Some fault → may_follow spec before fault ≡ true
       → item_text (branch_text spec more before) (candidates spec before) k ≡ extended_text spec more (before ++ fault ∷ [])
   branch_followed more before k fault there follows = rw (there, follows) refl
@@ -66,6 +66,6 @@ module _ (spec : Parts) where
   line_where false faults = refl
 
   -- If no further fault follows, the text is the line of the script of these faults, or the empty text if the script
-  -- breaks the failure assumption.
+  -- violates the failure assumption.
   pub within_is : (faults : List Fault) → extended_text spec 0 faults ≡ within_text spec faults
   within_is faults = line_where (is_within spec (script_of_faults spec faults)) faults

@@ -28,7 +28,7 @@ use Rattle.fault_family.specs.declared.faults.FaultKind.TheVariants as kind
 use Rattle.fault_family.specs.Scripts.{change_fault_in, change_of_fault, halt_fault_in, halt_of_fault, restart_fault_in, restart_of_fault}
 use Rattle.faults_form.specs.Lines.{spelled_change, spelled_halt, listed_text, spelled_restart, spelled_script, version_text}
 
--- The number of changes, halts and restarts of a list of faults is the number of the faults.
+-- The numbers of changes, halts and restarts in a list of faults add up to the number of faults.
 
 counted_by : (frame : ℕ) (kind : FaultKind) (changes : List Change) (halts : List HaltAt) (restarts : List RestartAt)
     → length (cons_option (change_fault_in frame kind) changes) + length (cons_option (halt_fault_in frame kind) halts) + length (cons_option (restart_fault_in frame kind) restarts)

@@ -1,9 +1,9 @@
--- The number of faults of the scripts of a family.
+-- The number of faults in each script of a family.
 use Rattle.std.specs.Prelude.{ℕ, List, Option, Some, None, bytes_eq, codes, if◌then◌else◌}
 use Rattle.faults_form.specs.declared.counts.FaultCount.{FaultCount}
 use Rattle.faults_form.specs.declared.counts.FaultCount.TheVariants.{One, Two, Three}
 
--- The number for a count of faults, from 1 to 3.
+-- The number of faults, from 1 to 3.
 abbrev pub number : FaultCount → ℕ
 number One = 1
 number Two = 2

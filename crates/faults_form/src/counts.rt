@@ -1,9 +1,9 @@
-//! The number of faults of the scripts of a family.
+//! The number of faults in each script of a family.
 
 ghost use Rattle.std.specs.Prelude.{◌≡◌, ◌≤◌, option_map};
 ghost use Rattle.faults_form.specs.Counts.{fault_count, number};
 
-/// The number of faults of each script of a family.
+/// The number of faults in each script of a family.
 #[derive(Clone, Copy, Debug, PartialEq, Eq)]
 pub enum FaultCount {
     One,

@@ -29,14 +29,14 @@ use scram_io::{Files, Sink, SinkFault};
 use scram_types::Spec;
 use std::alloc::Global;
 
-/// The words of `faults`: the name of a specification's file, and the number of faults of each script.
+/// The words of `faults`: the name of a specification's file, and the number of faults in each script.
 #[derive(Clone, Copy)]
 pub struct FaultsQuestion<'a> {
     pub specification: &'a str,
     pub count: FaultCount,
 }
 
-/// An accepted specification, and the number of faults of each script of its family.
+/// An accepted specification, and the number of faults in each script of its family.
 #[derive(Drop)]
 struct Family {
     spec: Accepted,
@@ -64,7 +64,8 @@ pub fn faults<F: Files, K: Sink>(
     }
 }
 
-/// Reads the specification, and returns its family, or the refusal if it cannot be read or is not accepted.
+/// Reads the specification and returns its family. Returns the refusal if the specification cannot be read or is not
+/// accepted.
 fn read_family<F: Files>(
     alloc: Global,
     question: FaultsQuestion<'_>,
@@ -133,7 +134,7 @@ fn put_extended<K: Sink>(
     Ok(())
 }
 
-// Writes the line of the script of these faults, unless the script breaks the failure assumption.
+// Writes the line of the script of these faults, unless the script violates the failure assumption.
 fn put_within<K: Sink>(out: &mut K, spec: &Spec, faults: &[Fault]) -> Result<(), SinkFault>
     requires few { length faults.now ≤ 3 }
     requires frame { last_fault_frame faults.now ≤ 4000 }

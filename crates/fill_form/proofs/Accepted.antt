@@ -31,7 +31,7 @@ use Rattle.fill_form.proofs.Apart.{all_append, all_of_each, gives, gives_append,
 use Rattle.fill_form.proofs.Filled.{all_raised, filled_is_spec, filled_is_writable, gives_raised}
 use Rattle.fill_form.proofs.Missing.{all_missing, gives_missing}
 
--- If two tests agree on every number, then both pass for all numbers below `n`, or neither does.
+-- If two tests agree on every number, `all_below` has the same value for both tests.
 
 same_all : (one two : ℕ → Bool) (n : ℕ) → ((k : ℕ) → one k ≡ two k) → all_below one n ≡ all_below two n
 same_all one two zero same = refl

@@ -14,11 +14,11 @@ use Rattle.scram_types.proofs.Options.{same_some}
 use Rattle.reconf_spec.specs.Writable.{lists_pair}
 use Rattle.spec_members.specs.Kept.{NoDuplicates}
 
--- The bound is for the pair of configurations `i` and `j`.
+-- Whether a bound is for the pair of configurations `i` and `j`.
 abbrev pub is_for : ℕ → ℕ → Bound → Bool
 is_for i j bound = bound.from.0 == i && bound.to.0 == j
 
--- Some bound of the list is for the pair of configurations `i` and `j`.
+-- Whether some bound of a list is for the pair of configurations `i` and `j`.
 abbrev pub gives : List Bound → ℕ → ℕ → Bool
 gives bounds i j = is_some (bound_in bounds i j)
 
@@ -121,7 +121,7 @@ new_of_apart (x ∷ xs) apart (suc i) y there =
 
 -- Lemmas that a list of bounds for different pairs of configurations has at most 144 bounds.
 
--- Both configurations of the bound have indices below 12.
+-- Both configurations of a bound have indices below 12.
 abbrev pub IsNear : Bound → Type 0
 IsNear x = (x.from.0 < 12) × (x.to.0 < 12)
 

@@ -57,7 +57,7 @@ none_missing spec i j some = none_of (missing_bounds spec) i j (all_missing spec
     (λ f. f)))
 
 module _ (spec : Parts) (made : IsSpec spec) (writable : IsWritable spec) (free : length_refusal spec ≡ None) where
-  -- The smallest sufficient bound for each pair that requires one is at most 1000 frames.
+  -- The smallest sufficient bound for each pair that requires a bound is at most 1000 frames.
   pub least_fits : (i j : ConfId) → i.0 < length spec.confs → j.0 < length spec.confs → is_bound_asked spec i j.0 ≡ true → least spec i j ≤ 1000
   least_fits i j left right asked =
       let row : long_refusal_of spec i.0 ≡ None = below_none (long_refusal_of spec) (length spec.confs) i.0 (none_left (long_refusal spec) (wide_refusal (greatest_bound (filled_bounds spec))) free) left in

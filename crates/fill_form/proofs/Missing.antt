@@ -1,4 +1,4 @@
--- Lemmas on the bounds that are required and not given.
+-- Lemmas on the bounds that are required but not given.
 use Rattle.std.proofs.Common.{◌≡◌, ◌∙◌, ℕ, zero, suc, ◌+◌, ◌<◌, Bool, true, false, refl, arith, ap, subst, List, [], ◌∷◌, ◌++◌, length}
 use Rattle.std.specs.Prelude.{◌==◌, if◌then◌else◌}
 use Rattle.std.specs.List.{AllByRecursion}
@@ -47,7 +47,7 @@ other_source x y less = rw (differ_test y.from.0 x.from.0 (λ e. omega (arith, l
 other_target : Separates (λ (x : Bound). x.to.0)
 other_target x y less = right_false (y.from.0 == x.from.0) (y.to.0 == x.to.0) (differ_test y.to.0 x.to.0 (λ e. omega (arith, less, e)))
 
--- Lemmas on a list of one bound or none.
+-- Lemmas on a list of at most one bound.
 
 apart_one : (b : Bool) (x : Bound) → Apart (if b then x ∷ [] else [])
 apart_one true x = (refl, tt)

@@ -21,12 +21,12 @@ fill_answer spec None = (ANSWERED, filled_text spec)
 abbrev pub GivesText : {A : Type 0} → Vec ℕ A → ℕ → List ℕ → Type 0
 GivesText printed = Gives (ANSWERED, printed.items)
 
--- The answer to `fill` about the specification in the file of this name.
+-- The answer to `fill` about the specification in the file `specification`.
 abbrev pub FillAnswers : List ℕ → Answer
 FillAnswers specification = AsksSpecification specification (λ (spec : Parts). WithoutFiles (Gives (fill_answer spec (fill_refusal spec))))
 
 -- If `fill` ends with status 0, it has read only the file of the specification, and filling in is not refused. The
--- text is that of the filled-in specification.
+-- text is the line of the filled-in specification.
 abbrev pub AssuresFill : List ℕ → History → List ℕ → Type 0
 AssuresFill specification =
     OfSpecification specification (λ (spec : Parts) (reads : History) (text : List ℕ). (reads ≡ []) × (fill_refusal spec ≡ None) × (text ≡ filled_text spec))

@@ -6,8 +6,7 @@ use Rattle.scram_types.specs.Specification.{Parts, bound_in}
 use Rattle.coverage_check.specs.Timing.{greatest_bound, is_bound_asked, least}
 use Rattle.spec_text.specs.Texts.{spec_text}
 
--- A given bound. If the bound is required and shorter than the smallest sufficient length, it is raised to this
--- length.
+-- A given bound, raised to the smallest sufficient length if the bound is required and shorter than this length.
 abbrev pub raised : Parts → Bound → Bound
 raised spec bound = record {
   from = bound.from;
@@ -15,7 +14,7 @@ raised spec bound = record {
   frames = if is_bound_asked spec bound.from bound.to.0 then max bound.frames (least spec bound.from bound.to) else bound.frames;
 }
 
--- A bound from `i` to `j` is required and not given.
+-- Whether a bound from `i` to `j` is required but not given.
 abbrev pub is_bound_missing : Parts → ℕ → ℕ → Bool
 is_bound_missing spec i j = is_bound_asked spec (conf_id i) j && not (is_some (bound_in spec.bounds i j))
 
@@ -23,7 +22,8 @@ is_bound_missing spec i j = is_bound_asked spec (conf_id i) j && not (is_some (b
 abbrev pub least_bound : Parts → ℕ → ℕ → Bound
 least_bound spec i j = record { from = conf_id i; to = conf_id j; frames = least spec (conf_id i) (conf_id j) }
 
--- The smallest sufficient bound from `i` to `j` if a bound is required and not given, or the empty list otherwise.
+-- A list of the smallest sufficient bound from `i` to `j` if a bound is required but not given, or the empty list
+-- otherwise.
 abbrev pub missing_bound : Parts → ℕ → ℕ → List Bound
 missing_bound spec i j = if is_bound_missing spec i j then least_bound spec i j ∷ [] else []
 
@@ -32,11 +32,11 @@ abbrev pub bounds_below : (ℕ → List Bound) → ℕ → List Bound
 bounds_below bounds zero = []
 bounds_below bounds (suc n) = bounds_below bounds n ++ bounds n
 
--- The smallest sufficient bounds from `i` that are required and not given, in the order of their targets.
+-- The smallest sufficient bounds from `i` that are required but not given, in the order of their targets.
 abbrev pub missing_from : Parts → ℕ → List Bound
 missing_from spec i = bounds_below (missing_bound spec i) (length spec.confs)
 
--- The smallest sufficient bounds that are required and not given, in the order of their sources. Those with the same
+-- The smallest sufficient bounds that are required but not given, in the order of their sources. Bounds with the same
 -- source are in the order of their targets.
 abbrev pub missing_bounds : Parts → List Bound
 missing_bounds spec = bounds_below (missing_from spec) (length spec.confs)

@@ -1,4 +1,4 @@
--- A theorem about filled-in specifications.
+-- The law of filled-in specifications.
 use Rattle.std.specs.Prelude.{◌≡◌, None}
 use Rattle.scram_types.specs.Specification.{IsSpec, Parts}
 use Rattle.coverage_check.specs.Acceptance.{Accepts, choice_refusal, form_refusal, range_refusal}

@@ -14,26 +14,28 @@ use Rattle.coverage_check.specs.Timing.{greatest_bound, is_bound_asked, least}
 use Rattle.fill_form.specs.declared.filling.Filling.{Filling}
 use Rattle.fill_form.specs.Filling.{filled_bounds}
 
--- A bound from `i` to `j` is required, and the smallest sufficient bound is above the maximum length of a bound. In
--- this case, no bound that can be given is sufficient.
+-- Whether a bound from `i` to `j` is required and the smallest sufficient bound is above the maximum length of a
+-- bound. In this case, no bound that can be given is sufficient.
 abbrev pub asks_too_long : Parts → ℕ → ℕ → Bool
 asks_too_long spec i j = is_bound_asked spec (conf_id i) j && nat_lt MAX_BOUND (least spec (conf_id i) (conf_id j))
 
--- The refusal of A9 for the first bound from configuration `i` that would be too long, or `None` if there is none.
+-- The refusal by condition A9 for the first required bound from configuration `i` that would be too long, or `None`
+-- if there is no such bound.
 abbrev pub long_refusal_of : Parts → ℕ → Option Shown
 long_refusal_of spec i =
     first_below (λ j. shown_if (asks_too_long spec i j) (shown_at 9 i (other.Least (conf_id j) (least spec (conf_id i) (conf_id j))))) (length spec.confs)
 
--- The refusal of A9 for the first bound that would be too long, or `None` if there is none.
+-- The refusal by condition A9 for the first required bound that would be too long, or `None` if there is no such
+-- bound.
 abbrev pub long_refusal : Parts → Option Shown
 long_refusal spec = first_below (long_refusal_of spec) (length spec.confs)
 
--- The refusal of A10 if the window for a greatest bound of `greatest` frames would be above the maximum length of a
--- window, or `None` otherwise.
+-- The refusal by condition A10 if the window for a greatest bound of `greatest` frames would be above the maximum
+-- length of a window, or `None` otherwise.
 abbrev pub wide_refusal : ℕ → Option Shown
 wide_refusal greatest = shown_if (nat_lt MAX_WINDOW (greatest + 1)) (shown_nowhere 10 (other.Count greatest))
 
--- The refusal of a bound or a window that would be too long, or `None` if there is none.
+-- The refusal of a bound or a window that would be too long, or `None` if no bound and no window would be too long.
 abbrev pub length_refusal : Parts → Option Shown
 length_refusal spec = option_or (long_refusal spec) (wide_refusal (greatest_bound (filled_bounds spec)))
 

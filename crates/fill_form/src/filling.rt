@@ -82,8 +82,8 @@ fn raise_bounds(alloc: Global, spec: &Spec, sets: &[u16; 12]) -> Result<Vec<Boun
     Ok(bounds)
 }
 
-// Returns a given bound. If the bound is required and shorter than the smallest sufficient length, it is raised to
-// this length. `set` contains the configurations to which a bound from the source of `bound` is required.
+// Returns a given bound, raised to the smallest sufficient length if the bound is required and shorter than this
+// length. `set` contains the configurations to which a bound from the source of `bound` is required.
 fn raised(spec: &Spec, set: u16, bound: &Bound) -> Bound
     requires set { set ≡ asked_bounds spec.now bound.now.from }
     requires to { bound.now.to.0 < length spec.now.confs }
@@ -99,7 +99,7 @@ fn raised(spec: &Spec, set: u16, bound: &Bound) -> Bound
     Bound { from, to, frames }
 }
 
-// Appends the smallest sufficient bounds that are required and not given.
+// Appends the smallest sufficient bounds that are required but not given.
 fn add_missing(bounds: &mut Vec<Bound>, spec: &Spec, sets: &[u16; 12]) -> Result<(), AllocError>
     requires { AreAskedBounds spec.now sets.now }
     ensures { OnOk result (bounds.new.items ≡ bounds.old.items ++ missing_bounds spec.now) }

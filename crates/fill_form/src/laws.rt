@@ -1,4 +1,4 @@
-//! A theorem about filled-in specifications. The function states it by its contract.
+//! The law of filled-in specifications. The contract of the function is the law.
 
 ghost use Rattle.fill_form.specs.Laws.{FilledIsAccepted};
 

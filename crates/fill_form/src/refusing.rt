@@ -12,7 +12,8 @@ use scram_types::limits::{MAX_BOUND, MAX_WINDOW};
 use scram_types::{ConfId, Spec};
 use spec_forms::is_asked;
 
-/// Returns the refusal of A9 for the first required bound that would be too long, or `None` if there is none.
+/// Returns the refusal by condition A9 for the first required bound that would be too long, or `None` if there is no
+/// such bound.
 pub(crate) fn refuse_long(spec: &Spec, sets: &[u16; 12]) -> Option<Shown>
     requires { AreAskedBounds spec.now sets.now }
     ensures { result ≡ long_refusal spec.now }
@@ -26,8 +27,8 @@ pub(crate) fn refuse_long(spec: &Spec, sets: &[u16; 12]) -> Option<Shown>
     None
 }
 
-// Returns the refusal of A9 for the first required bound from configuration `i` that would be too long, or `None` if
-// there is none. `set` contains the configurations to which a bound from `i` is required.
+// Returns the refusal by condition A9 for the first required bound from configuration `i` that would be too long, or
+// `None` if there is no such bound. `set` contains the configurations to which a bound from `i` is required.
 fn refuse_long_of(spec: &Spec, set: u16, i: u8) -> Option<Shown>
     requires { set ≡ asked_bounds spec.now (conf_id i) }
     ensures { result ≡ long_refusal_of spec.now i }
@@ -46,7 +47,8 @@ fn refuse_long_of(spec: &Spec, set: u16, i: u8) -> Option<Shown>
     None
 }
 
-/// Returns the refusal of A10 if the window that the greatest bound requires would be too long, or `None` otherwise.
+/// Returns the refusal by condition A10 if the window that the greatest bound requires would be too long, or `None`
+/// otherwise.
 pub(crate) fn refuse_wide(greatest: u32) -> Option<Shown>
     ensures { result ≡ wide_refusal greatest }
 {

@@ -1,4 +1,4 @@
-//! The flight control as an application in a box. Whatever the box remembers, its answer is the law of its kind.
+//! The flight control as an application in a box. Whatever the box remembers, it answers by the law of its kind.
 #![tactic(auto)]
 
 pub mod unit;

@@ -9,8 +9,8 @@ further_both [] ys = refl
 further_both (x ∷ xs) ys =
     ap (λ (tail : List ℕ). codes "," ++ x ++ tail) (further_both xs ys) ∙ sym (append_assoc (codes "," ++ x) (further_joined xs) (further_joined ys))
 
--- The joined text of two concatenated lists is the joined text of the first, then that of the second, or a dash if
--- both lists are empty.
+-- The joined text of two concatenated lists is the joined text of the first list, then the joined text of the second
+-- list, or a dash if both lists are empty.
 pub joined_both : (xs ys : List (List ℕ)) →
     joined (xs ++ ys) ≡ (comma_joined xs ++ comma_joined_after (is_any xs) ys) ++ (if is_any xs || is_any ys then [] else codes "-")
 joined_both [] [] = refl

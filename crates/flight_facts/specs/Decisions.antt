@@ -10,7 +10,7 @@ use Rattle.scram_types.specs.declared.orders.KMode.{KMode}
 use Rattle.scram_types.specs.declared.orders.KMode.TheVariants.{Stable, Moving}
 use Rattle.flight_facts.specs.Differences.{difference_text, have_changed}
 
--- Whether a mode of the kernel is that of a reconfiguration under way.
+-- Whether a reconfiguration is under way in a mode of the kernel.
 abbrev pub is_under_way : KMode → Bool
 is_under_way (Stable c) = false
 is_under_way (Moving from halting to since) = true
@@ -33,8 +33,8 @@ difference_or_dash spec None after = codes "-"
 difference_or_dash spec (Some before) None = codes "-"
 difference_or_dash spec (Some before) (Some after) = difference_text spec before after
 
--- The row in which the reconfiguration `earlier` is decided, or `None` if there is no such reconfiguration, if it is
--- unfinished, or if it did not end in the row preceding `begin`.
+-- The row in which the reconfiguration `earlier` is decided. The value is `None` if there is no such reconfiguration,
+-- or if the reconfiguration is unfinished or did not end in the row preceding `begin`.
 abbrev pub put_off_in : List Row → Option Report → ℕ → Option ℕ
 put_off_in rows None begin = None
 put_off_in rows (Some earlier) begin =

@@ -53,7 +53,7 @@ abbrev pub comma_joined : List (List ℕ) → List ℕ
 comma_joined [] = []
 comma_joined (text ∷ texts) = text ++ further_joined texts
 
--- The texts of a list joined by commas, with a comma before the first if the flag is `true`, which means that other
--- texts precede them.
+-- The texts of a list joined by commas. If `others` is `true`, other texts precede the list, and a comma also comes
+-- before the first text.
 abbrev pub comma_joined_after : Bool → List (List ℕ) → List ℕ
 comma_joined_after others texts = if others then further_joined texts else comma_joined texts

@@ -32,8 +32,8 @@ longer None later = later
 longer (Some gap) None = Some gap
 longer (Some gap) (Some later) = if nat_lt gap.frames later.frames then Some later else Some gap
 
--- The longest gap of application `a`, or `None` if there is no gap. Of several longest gaps it is the first. `k` is
--- the number of the first row of the list.
+-- The longest gap of application `a`, or `None` if there is no gap. If several gaps are the longest, the value is the
+-- first of them. `k` is the number of the first row of the list.
 abbrev pub longest_gap : ℕ → ℕ → List Row → Option Gap
 longest_gap a k [] = None
 longest_gap a k (row ∷ rows) = longer (gap_of k (missing_rows a (row ∷ rows))) (longest_gap a (k + 1) rows)

@@ -53,9 +53,9 @@ pub fn add_difference_or_dash(line: &mut Line, spec: &Spec, before: Option<Env>,
     }
 }
 
-/// Appends the cause of a reconfiguration that begins in row `begin`: the change in the row in which it is decided. If
-/// nothing changed there and the reconfiguration `earlier` ended in the preceding row, the cause is the change since
-/// `earlier` was decided. Otherwise `-` is appended.
+/// Appends the cause of a reconfiguration that begins in row `begin`: the change in the row in which the
+/// reconfiguration is decided. If nothing changed there and the reconfiguration `earlier` ended in the preceding row,
+/// the cause is the change since `earlier` was decided. Otherwise the text is `-`.
 pub fn add_cause(line: &mut Line, spec: &Spec, rows: &[Row], earlier: Option<Report>, begin: u32)
     requires { length line.old + 348 ≤ MAX_LINE_BYTES }
     ensures text { line.new ≡ line.old ++ cause_text spec.now rows.now earlier begin }

@@ -8,8 +8,9 @@ use scram_types::{Env, Factor, Proc, Spec};
 use trace_text::lines::Line;
 
 /// Appends the difference between two environments, at most 348 bytes. Each factor whose value differs is written as
-/// `FACTOR=VALUE` with the second value. Each processor whose state differs follows as `-PROC` if it is down in the
-/// second environment, or as `+PROC` if it is up. The parts are joined by commas. If nothing differs, `-` is written.
+/// `FACTOR=VALUE` with the second value. Each processor whose state differs follows as `-PROC` if the processor is
+/// down in the second environment, or as `+PROC` if the processor is up. The parts are joined by commas. If nothing
+/// differs, `-` is written.
 pub fn add_difference(line: &mut Line, spec: &Spec, before: &Env, after: &Env)
     requires { length line.old + 348 ≤ MAX_LINE_BYTES }
     ensures text { line.new ≡ line.old ++ difference_text spec.now before.now after.now }
@@ -57,7 +58,7 @@ fn has_proc_changed(spec: &Spec, before: u8, after: u8) -> bool
     false
 }
 
-// Appends the factors whose values differ, and returns whether there are any.
+// Appends the factors whose values differ. Returns `true` if there is such a factor.
 fn add_values(line: &mut Line, spec: &Spec, before: &[u8; 6], after: &[u8; 6]) -> bool
     requires { length line.old + 204 ≤ MAX_LINE_BYTES }
     ensures text { line.new ≡ line.old ++ comma_joined (values_changed spec.now.factors 0 before.now after.now) }
@@ -75,7 +76,7 @@ fn add_values(line: &mut Line, spec: &Spec, before: &[u8; 6], after: &[u8; 6]) -
 }
 
 // Appends the processors whose states differ, after the factors. `values` is `true` if a factor differs. Returns
-// whether a factor or a processor differs.
+// `true` if a factor or a processor differs.
 fn add_procs(line: &mut Line, spec: &Spec, values: bool, before: u8, after: u8) -> bool
     requires { length line.old + 144 ≤ MAX_LINE_BYTES }
     ensures text { line.new ≡ line.old ++ comma_joined_after values (procs_changed spec.now.procs before after) }
@@ -109,8 +110,8 @@ fn add_value(line: &mut Line, is_further: bool, factor: &Factor, value: u8)
     line.text(factor.value_name(value).as_bytes());
 }
 
-// Appends a processor whose state differs. If `is_further` is `true`, a part precedes it and a comma comes first. The
-// lowest bit of `later` is 1 if the processor is up.
+// Appends a processor whose state differs. If `is_further` is `true`, another part precedes the processor, and a
+// comma is appended first. The lowest bit of `later` is 1 if the processor is up in the second environment.
 fn add_proc(line: &mut Line, is_further: bool, proc: &Proc, later: u8)
     requires { length line.old + 18 ≤ MAX_LINE_BYTES }
     ensures text { line.new ≡ line.old ++ (if is_further then codes "," else []) ++ proc_change proc.now later }

@@ -16,7 +16,8 @@ pub struct Gap {
     pub at: u32,
 }
 
-/// Returns the longest gap of an application, or `None` if there is no gap. Of several longest gaps it is the first.
+/// Returns the longest gap of an application, or `None` if there is no gap. If several gaps are the longest, returns
+/// the first of them.
 pub fn longest_gap(rows: &[Row], app: usize) -> Option<Gap>
     requires app { app < 8 }
     requires rows { length rows.now < 2 ^ 32 }

@@ -73,8 +73,8 @@ files_assure law told specification script before after reads text is = specific
     (no_broken_script spec))
     before after reads text is
 
--- If the status of a replay is 0, the list is a whole schedule of the flight, and the text is that of the one-thread
--- flight.
+-- If the status of a replay is 0, the list is a whole schedule of the flight, and the text is the trace of the
+-- one-thread flight.
 
 replayed_zero : (spec : Parts) (script : ScriptParts) (list : List Event) (flown : Result Flown ReplayError) (text : List ℕ) → AnswersReplay spec script list flown
     → Gives (replay_answer spec script flown) ANSWERED text → IsWholeSchedule (flight_of spec script) list × Gives (ANSWERED, flight_text Trace (mission_of spec script)) ANSWERED text

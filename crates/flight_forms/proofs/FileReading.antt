@@ -31,8 +31,7 @@ pub script_unread : (spec : Parts) (name : List ℕ) (names : List (List ℕ)) (
 script_unread spec name names Then before after refusal is steady unread =
     refused_reads (SaysScript spec) (BreaksScript spec) MAX_SCRIPT_BYTES long_script name names Then before after refusal is steady unread
 
--- If file `name` was read as the schedule `value`, and the result prepares the answer `Then` to that schedule, the
--- result prepares the answer to the file.
+-- If the schedule was read and the answer to it was prepared, the answer to its file is prepared.
 pub schedule_reads : {U : Type 0} (spec : Parts) (name : List ℕ) (names : List (List ℕ)) (Then : List Event → Answer) (Rest : U → ℕ → List ℕ → Type 0) (value : List Event) (before mid after : FilesState) (result : Result U Refusal)
     → HasRead MAX_SCHEDULE_BYTES name (SaysSchedule spec value) before mid → StaysSteady before mid name → Prepares (Then value) Rest names mid after result
     → Prepares (AsksSchedule spec name Then) Rest (name ∷ names) before after result

@@ -33,7 +33,7 @@ refused_settles : (refusal : Option (ℕ × List ℕ)) (A : ℕ → List ℕ →
 refused_settles refusal A told (inl some) = inl (unless_some refusal A told some)
 refused_settles refusal A told (inr is) = inr (memory_refusal told is)
 
--- If the result is a mission or its refusal, the answer to the mission is prepared.
+-- If the result satisfies `MakesMission`, the answer to the mission is prepared.
 pub mission_settles : (spec : Parts) (script : ScriptParts) (A : MissionParts → ℕ → List ℕ → Type 0) (result : Result MissionParts Refusal) → MakesMission spec script result
     → PreparesWithoutFiles (UnlessRefused (mission_refusal spec script) (A (mission_of spec script))) A result
 mission_settles spec script A (Ok mission) makes = λ status text is.
@@ -47,8 +47,7 @@ replay_told spec script list replay status text mission_is list_is is =
     subst (λ (m : MissionParts). IsReplayAnswer m.spec m.script list status text) mission_is
     (subst (λ (l : List Event). IsReplayAnswer replay.mission.spec replay.mission.script l status text) list_is is)
 
--- If the result is a mission with the list by which it is flown, or its refusal, the answer to the replay is
--- prepared.
+-- If the result satisfies `MakesReplay`, the answer to the replay is prepared.
 pub replay_settles : (spec : Parts) (script : ScriptParts) (list : List Event) (result : Result Replay Refusal) → MakesReplay spec script list result
     → PreparesWithoutFiles (UnlessRefused (mission_refusal spec script) (IsReplayAnswer spec script list)) GivesReplay result
 replay_settles spec script list (Ok replay) makes = λ status text is.
@@ -56,7 +55,7 @@ replay_settles spec script list (Ok replay) makes = λ status text is.
 replay_settles spec script list (Err refusal) makes =
     (refused_settles (mission_refusal spec script) (IsReplayAnswer spec script list) (answer_of refusal) makes.0, makes.1)
 
--- If a replay ends with an error and its refusal was printed, the answer to the replay was printed.
+-- If a replay ends with an error and the refusal for this error was printed, the answer to the replay was printed.
 pub replay_refused : (spec : Parts) (script : ScriptParts) (list : List Event) (error : ReplayError) (answer : ℕ × List ℕ) (old new : SinkState) (code : ℕ)
     → AnswersReplay spec script list (Err error) → answer ≡ replay_refusal spec error → IsTaken old new code answer.0 answer.1 → Tells (IsReplayAnswer spec script list) old new code
 replay_refused spec script list (replay_error.Illegal index given next) answer old new code answers is taken =

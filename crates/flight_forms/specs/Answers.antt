@@ -32,7 +32,7 @@ abbrev pub ScriptAnswers : (MissionParts → List ℕ) → Parts → ScriptParts
 ScriptAnswers text spec script = WithoutFiles (UnlessRefused (mission_refusal spec script) (GivesFlight text (mission_of spec script)))
 
 -- The answer if `specification` and `script` are the names of the files of a mission: the value of `text` for the
--- mission, or a report of why the files do not contain one.
+-- mission, or a report of why the files do not contain a mission.
 abbrev pub FlightAnswers : (MissionParts → List ℕ) → List ℕ → List ℕ → Answer
 FlightAnswers text specification script = AsksSpecification specification (λ (spec : Parts). AsksScript spec script (ScriptAnswers text spec))
 
@@ -82,7 +82,8 @@ abbrev pub ReplayAnswers : List ℕ → List ℕ → List ℕ → Answer
 ReplayAnswers specification script schedule =
     AsksSpecification specification (λ (spec : Parts). AsksScript spec script (ScheduleAnswers schedule spec))
 
--- The specification is that of all generated missions, and the script generated from `number` fits it.
+-- All generated missions have the specification `spec`, and the script generated from `number` fits this
+-- specification.
 pub record IsGenerated (number : ℕ) (spec : Parts) : Type 0 where
   pub reads : spec_of generated_text ≡ Ok spec
   pub sound : IsSpec spec

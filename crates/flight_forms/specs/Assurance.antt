@@ -51,7 +51,8 @@ AssuresReplay specification script schedule =
     OfDocument (SaysSchedule spec) schedule (λ (list : List Event) (reads : History) (text : List ℕ).
     (reads ≡ []) × IsWholeSchedule (flight_of spec script) list × IsAssured (flight_text Trace) spec script text)))
 
--- If `gen` ends with status 0, the text is that of the mission generated from `number`, and no file was read.
+-- If `gen` ends with status 0, the text has the specification and the script of the mission generated from `number`,
+-- and no file was read.
 pub record AssuresGen (number : ℕ) (reads : History) (text : List ℕ) : Type 0 where
   pub none : reads ≡ []
   pub spec : Parts

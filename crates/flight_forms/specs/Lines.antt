@@ -19,12 +19,12 @@ use Rattle.flight_forms.specs.Summaries.{last_run, longest_duration}
 abbrev pub script_line : DocFault → List ℕ
 script_line fault = codes "refused: script" ++ rule_text fault.rule fault.path ++ codes "\n"
 
--- The word for the way in which a script leaves the failure assumption.
+-- The word for the way in which a script violates the failure assumption.
 abbrev pub outside_kind_text : OutsideKind → List ℕ
 outside_kind_text Halts = codes "halts"
 outside_kind_text Changes = codes "changes"
 
--- The line for a script that leaves the failure assumption.
+-- The line for a script that violates the failure assumption.
 abbrev pub outside_line : Outside → List ℕ
 outside_line outside = codes "refused: outside at frame " ++ decimal outside.frame ++ codes ": " ++ outside_kind_text outside.kind ++ codes "\n"
 

@@ -15,14 +15,14 @@ use Rattle.form_base.specs.Loads.{IsOutOfMemory}
 use Rattle.form_base.specs.Refusals.{answer_of}
 use Rattle.flight_forms.specs.Lines.{outside_line}
 
--- The refusal of a script, given the way in which it leaves the failure assumption, or `None` if the script keeps to
--- it.
+-- The refusal of a script, given the way in which the script violates the failure assumption, or `None` if the script
+-- keeps to the assumption.
 abbrev pub script_refusal : Option Outside → Option (ℕ × List ℕ)
 script_refusal None = None
 script_refusal (Some outside) = Some (UNASSUMED_SCRIPT, outside_line outside)
 
--- The refusal of a specification and a script for it, given the first refusal of the specification if there is one.
--- The value is `None` if neither the specification nor the script is refused.
+-- The refusal of a specification and a script for it, given the first refusal of the specification, or `None` if the
+-- specification is accepted. The value is `None` if neither the specification nor the script is refused.
 abbrev pub refusal_by : Parts → ScriptParts → Option Shown → Option (ℕ × List ℕ)
 refusal_by spec script (Some shown) = Some (NOT_ACCEPTED, shown_line spec shown)
 refusal_by spec script None = script_refusal (first_outside spec script)
@@ -36,7 +36,7 @@ abbrev pub UnlessRefused : Option (ℕ × List ℕ) → (ℕ → List ℕ → Ty
 UnlessRefused (Some refusal) Answers = Gives refusal
 UnlessRefused None Answers = Answers
 
--- The result is the mission of a specification and a script, or their refusal, or out of memory.
+-- The result is the mission of a specification and a script, their refusal, or the out-of-memory refusal.
 abbrev pub MakesMission : Parts → ScriptParts → Result MissionParts Refusal → Type 0
 MakesMission spec script (Ok mission) = (mission ≡ mission_of spec script) × (mission_refusal spec script ≡ None)
 MakesMission spec script (Err refusal) =

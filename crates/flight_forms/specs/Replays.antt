@@ -1,4 +1,4 @@
--- A mission with the schedule by which it is flown.
+-- A mission with the schedule by which the mission is flown.
 use Rattle.std.specs.Prelude.{◌≡◌, ◌≢◌, ◌⊎◌, ℕ, List, Some, None, Result, Ok, Err}
 use Rattle.scram_types.specs.Scripts.{ScriptParts}
 use Rattle.scram_types.specs.Specification.{Parts}
@@ -16,7 +16,8 @@ use Rattle.flight_forms.specs.Missions.{mission_refusal}
 abbrev pub GivesReplay : Replay → ℕ → List ℕ → Type 0
 GivesReplay replay = IsReplayAnswer replay.mission.spec replay.mission.script replay.list
 
--- The result is a mission with the list by which it is flown, or the mission's refusal, or out of memory.
+-- The result is a mission with the list by which the mission is flown, the mission's refusal, or the out-of-memory
+-- refusal.
 abbrev pub MakesReplay : Parts → ScriptParts → List Event → Result Replay Refusal → Type 0
 MakesReplay spec script list (Ok replay) = (replay.mission ≡ mission_of spec script) × (replay.list ≡ list) × (mission_refusal spec script ≡ None)
 MakesReplay spec script list (Err refusal) =

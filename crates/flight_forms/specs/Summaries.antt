@@ -7,7 +7,7 @@ use Rattle.scram_types.specs.Specification.{Parts}
 use Rattle.frame_model.specs.Runs.{running}
 
 -- The number of frames from the start to the end of a reconfiguration, given its target. The number is 0 if the
--- target is `None`, since the reconfiguration is unfinished.
+-- target is `None`, which means that the reconfiguration is unfinished.
 abbrev pub duration_to : Option ConfId → Report → ℕ
 duration_to None report = 0
 duration_to (Some to) report = report.end - report.begin

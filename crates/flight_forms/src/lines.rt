@@ -23,8 +23,8 @@ pub fn make_script_line(fault: &ScriptFault) -> Line
     line
 }
 
-/// Returns the line for a script that leaves the failure assumption. It has the frame in which the script leaves the
-/// assumption, and the reason.
+/// Returns the line for a script that violates the failure assumption. The line has the frame in which the script
+/// violates the assumption, and the way in which it does so.
 pub fn make_outside_line(outside: &Outside) -> Line
     ensures { result ≡ outside_line outside.now }
 {

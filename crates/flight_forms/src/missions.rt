@@ -31,8 +31,8 @@ pub struct MissionFiles<'a> {
 /// # Errors
 ///
 /// Returns the refusal of the first file that is not read, is too long or breaks a rule. Returns a refusal if the
-/// specification is not accepted or the script leaves the failure assumption, and the out-of-memory refusal if memory
-/// runs out.
+/// specification is not accepted or the script violates the failure assumption, and the out-of-memory refusal if
+/// memory runs out.
 pub fn read_mission<F: Files>(
     alloc: Global,
     named: MissionFiles<'_>,
@@ -69,7 +69,7 @@ fn read_script<F: Files>(
 ///
 /// # Errors
 ///
-/// Returns a refusal if the specification is not accepted or the script leaves the failure assumption, and the
+/// Returns a refusal if the specification is not accepted or the script violates the failure assumption, and the
 /// out-of-memory refusal if memory runs out.
 pub fn make_mission(alloc: Global, spec: Spec, script: Script) -> Result<Mission, Refusal>
     requires { Fits spec script }

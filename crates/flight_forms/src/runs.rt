@@ -29,7 +29,7 @@ use word_deck::WordFlight;
 pub enum FlightText {
     /// The whole trace of the flight.
     Trace,
-    /// The summary line of the mission with this number.
+    /// The summary line of the mission generated from this number.
     Summary(u32),
 }
 

@@ -26,7 +26,7 @@ use std::thread::Threads;
 use telemetry_tap::{Publisher, Reader, Summary, Tap, Watch};
 use word_deck::WordFlight;
 
-/// The number of reads after which a reader gives up.
+/// The maximum number of summaries that a reader reads.
 const MAX_READS: u32 = 1_000_000;
 
 /// Flies the mission of a specification and a script with a thread for each processor, while two readers read the
@@ -146,7 +146,7 @@ fn last_summary(publisher: Publisher) -> Summary
     tap.read(&mut reader)
 }
 
-// Reads summaries until one is of all frames, or gives up after `MAX_READS` reads.
+// Reads summaries until a summary is of all frames, but at most `MAX_READS` summaries.
 fn read_to_the_end(tap: &Tap, mut reader: Reader)
     requires { IsReaderOf tap.now reader }
 {

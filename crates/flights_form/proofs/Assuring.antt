@@ -35,7 +35,7 @@ use Rattle.flights_form.proofs.Kept.{gap_kept, gap_total_kept, margin_kept, marg
 use Rattle.flights_form.specs.Outcomes.{AreOutcomes, IsOutcome, outcome_read, outcome_within}
 use Rattle.flights_form.specs.Scripts.{BreaksScripts, SaysScripts, lines_of}
 
--- If the outcomes are those of the lines, outcome `k` is the outcome of line `k`.
+-- If the outcomes satisfy `AreOutcomes` for the lines, outcome `k` is the outcome of line `k`.
 outcome_at : (spec : Parts) (lines : List (List ℕ)) (outcomes : List Outcome) (k : ℕ) (line : List ℕ) (outcome : Outcome) → AreOutcomes spec lines outcomes
     → slice_get lines k ≡ Some line → slice_get outcomes k ≡ Some outcome → IsOutcome spec line outcome
 outcome_at spec [] [] k line outcome are there that = absurd (let e = there in cc)
@@ -47,8 +47,7 @@ outcome_at spec (l ∷ lines) (o ∷ outcomes) zero line outcome are there that 
     subst (λ (x : List ℕ). IsOutcome spec x outcome) same_line (subst (λ (x : Outcome). IsOutcome spec l x) same are.0)
 outcome_at spec (l ∷ lines) (o ∷ outcomes) (suc k) line outcome are there that = outcome_at spec lines outcomes k line outcome are.1 there that
 
--- The facts of a mission bound the margin of each of its finished reconfigurations and the gap of each of its
--- applications.
+-- The facts of a mission bound the margins of its finished reconfigurations and the gaps of its applications.
 
 margin_of_finished : (spec : Parts) (reports : List Report) (k : ℕ) (report : Report) (to : ConfId) → slice_get reports k ≡ Some report → report.to ≡ Some to → KeepsSp3 spec report
     → KeepsMargin spec (least_margin spec reports) report to

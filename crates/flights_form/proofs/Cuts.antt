@@ -8,6 +8,7 @@ piece_then : (piece : List ℕ) (pieces : List (List ℕ)) → 0 < length pieces
 piece_then piece [] some = absurd (omega (arith, some))
 piece_then piece (next ∷ pieces) some = refl
 
--- If the first line of a file ends before a line feed, the other lines are those of the bytes after the line feed.
+-- If the first line of a file ends before a line feed, the other lines are the lines of the bytes after the line
+-- feed.
 pub line_then : (bytes line behind : List ℕ) → pieces_of 10 bytes ≡ line ∷ pieces_of 10 behind → lines_of bytes ≡ line ∷ lines_of behind
 line_then bytes line behind split = rw split (piece_then line (pieces_of 10 behind) (some_piece 10 behind))

@@ -1,4 +1,4 @@
--- The outcome of a line sums up the answer of `run` to the bytes of the line.
+-- The outcome of a line agrees with the answer of `run` to the bytes of the line.
 use Rattle.std.proofs.Common.{◌≡◌, ◌<◌, ℕ, List, length, refl, sym, ap, inl, inr}
 use Rattle.std.specs.Prelude.{Option, Some, None}
 use Rattle.std.proofs.lemmas.Bool.{lt-leb}

@@ -10,8 +10,8 @@ use Rattle.flights_form.specs.declared.totals.FlightMargin.{FlightMargin}
 use Rattle.flights_form.specs.declared.totals.Totals.{Totals}
 use Rattle.flights_form.specs.Totals.{gap_in_flight, greater_in_flight, greatest_in_flights, is_refused, least_in_flights, lesser_in_flight, margin_in_flight, totals_of, with_outcome}
 
--- Lemmas on outcomes that are followed by a further outcome. The minimum margin of all of them is the smaller of the
--- minimum margin of the preceding outcomes and the margin of the further outcome.
+-- Lemmas on outcomes that are followed by a further outcome. Their minimum margin is the smaller of the preceding
+-- outcomes' minimum margin and the further outcome's margin.
 
 lesser_none : (a : Option FlightMargin) → lesser_in_flight a None ≡ a
 lesser_none None = refl
@@ -46,8 +46,8 @@ least_more k (first ∷ outcomes) outcome =
     ∙ sym (lesser_assoc (margin_in_flight k first) (least_in_flights (k + 1) outcomes) (margin_in_flight (k + 1 + length outcomes) outcome))
     ∙ ap (λ (n : ℕ). lesser_in_flight (least_in_flights k (first ∷ outcomes)) (margin_in_flight n outcome)) same
 
--- Lemmas on outcomes that are followed by a further outcome. The longest gap of all of them is the longer of the
--- longest gap of the preceding outcomes and the gap of the further outcome.
+-- Lemmas on outcomes that are followed by a further outcome. Their longest gap is the longer of the preceding
+-- outcomes' longest gap and the further outcome's gap.
 
 greater_none : (a : Option FlightGap) → greater_in_flight a None ≡ a
 greater_none None = refl
@@ -82,8 +82,8 @@ greatest_more k (first ∷ outcomes) outcome =
     ∙ sym (greater_assoc (gap_in_flight k first) (greatest_in_flights (k + 1) outcomes) (gap_in_flight (k + 1 + length outcomes) outcome))
     ∙ ap (λ (n : ℕ). greater_in_flight (greatest_in_flights k (first ∷ outcomes)) (gap_in_flight n outcome)) same
 
--- Lemmas that a further outcome adds one to the number of lines, and one to the number of refused lines if it is a
--- refusal.
+-- Lemmas that a further outcome adds one to the number of lines, and one to the number of refused lines if the
+-- outcome is a refusal.
 
 one_refused : (b : Bool) (n m : ℕ) → m ≡ n + (0 + (if b then 1 else 0)) → m ≡ n + (if b then 1 else 0)
 one_refused true n m same = omega (arith, same)

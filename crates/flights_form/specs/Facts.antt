@@ -14,34 +14,36 @@ use Rattle.flights_form.specs.declared.facts.AppGap.{AppGap}
 use Rattle.flights_form.specs.declared.facts.FlightFacts.{FlightFacts}
 use Rattle.flights_form.specs.declared.facts.Margin.{Margin}
 
--- The longest gap of application `a`, or `None` if it has no gap.
+-- The longest gap of application `a`, or `None` if the application has no gap.
 abbrev pub gap_of_app : List Row → ℕ → Option AppGap
 gap_of_app rows a = option_map (λ (gap : Gap). record { app = app_id a; gap = gap }) (longest_gap a 0 rows)
 
--- The longer of two gaps, or the first if they are equally long. If one of them is `None`, the other is taken.
+-- The longer of two gaps, or the first if they are equally long. If only one gap is present, the value is that gap.
+-- If neither is present, the value is `None`.
 abbrev pub greater_gap : Option AppGap → Option AppGap → Option AppGap
 greater_gap None later = later
 greater_gap (Some gap) None = Some gap
 greater_gap (Some gap) (Some later) = if nat_lt gap.gap.frames later.gap.frames then Some later else Some gap
 
--- The longest gap of the applications, the first of which is application `a`, or `None` if they have no gap. If
--- several gaps are the longest, the gap of the first of their applications is taken.
+-- The longest gap of the applications in a list, the first of which is application `a`, or `None` if no application
+-- has a gap. If several gaps are equally long, the value is the gap of the first of their applications.
 abbrev pub greatest_gap : List Row → ℕ → List AppSpec → Option AppGap
 greatest_gap rows a [] = None
 greatest_gap rows a (app ∷ apps) = greater_gap (gap_of_app rows a) (greatest_gap rows (a + 1) apps)
 
--- The margin of a reconfiguration with this target and this bound, which is the bound minus the number of frames that
--- the reconfiguration took. There is no margin without a target or a bound.
+-- The margin of a reconfiguration, given its target and its bound: the bound minus the number of frames that the
+-- reconfiguration took. The margin is `None` if there is no target or no bound.
 abbrev pub margin_to : Report → Option ConfId → Option ℕ → Option Margin
 margin_to report None bound = None
 margin_to report (Some to) None = None
 margin_to report (Some to) (Some bound) = Some (record { frames = pos bound -ℤ pos (report.end - report.begin); report = report })
 
--- The margin of a reconfiguration, or `None` if it is unfinished or no bound is given for it.
+-- The margin of a reconfiguration, or `None` if the reconfiguration is unfinished or no bound is given for it.
 abbrev pub margin_in : Parts → Report → Option Margin
 margin_in spec report = margin_to report report.to (bound_of spec report)
 
--- The smaller of two margins, or the first if they are equal. If one of them is `None`, the other is taken.
+-- The smaller of two margins, or the first if they are equal. If only one margin is present, the value is that
+-- margin. If neither is present, the value is `None`.
 abbrev pub lesser_margin : Option Margin → Option Margin → Option Margin
 lesser_margin None later = later
 lesser_margin (Some margin) None = Some margin

@@ -26,14 +26,15 @@ pub record SumsUp (spec : Parts) (text : List ℕ) (facts : FlightFacts) : Type 
   pub trace : text ≡ text_of spec rows reports
   pub facts_are : facts ≡ facts_of spec rows reports
 
--- The outcome of a line sums up a status and a text. If the line was flown, the status is 0 and the text is a trace
--- with the facts of the outcome. Otherwise the status and the text are the refusal of a script.
+-- The outcome of a line agrees with a status and a text. If the line was flown, the status is 0 and the text is a
+-- trace with the facts of the outcome. Otherwise the status and the text are the refusal of a script.
 abbrev pub IsSummed : Parts → ℕ → List ℕ → Outcome → Type 0
 IsSummed spec status text (Flown facts) = (status ≡ ANSWERED) × SumsUp spec text facts
 IsSummed spec status text (Refused line) = ((status ≡ BROKEN_SCRIPT) ⊎ (status ≡ UNASSUMED_SCRIPT)) × (text ≡ line)
 
--- If the specification is accepted, the outcome of a line sums up the answer of `run` to a script of the same bytes. If
--- the bytes are too many for a script, the line and `run` are refused with the same text.
+-- If the specification is accepted, the outcome of a line agrees with the answer of `run` to a script with the same
+-- bytes. If there are too many bytes for a script, the line is refused with the text with which `run` refuses the
+-- script.
 pub record LinesAreRuns : Type 0 where
   pub fitting : (spec : Parts) → first_refusal spec ≡ None → (bytes : List ℕ) (before after : FilesState) (reads : History) (status : ℕ) (text : List ℕ)
       → AnswersDocument (SaysScript spec) (BreaksScript spec) (ScriptAnswers (flight_text Trace) spec) bytes before after reads status text

@@ -11,7 +11,7 @@ use Rattle.flights_form.specs.declared.totals.FlightGap.{FlightGap}
 use Rattle.flights_form.specs.declared.totals.FlightMargin.{FlightMargin}
 use Rattle.flights_form.specs.declared.totals.Totals.{Totals}
 
--- The longest gap in frames, its application and its first frame, or 0 if there is no gap.
+-- The length of the longest gap in frames, the application of the gap and its first frame, or 0 if there is no gap.
 abbrev pub greatest_text : Parts → Option AppGap → List ℕ
 greatest_text spec None = codes " gap 0"
 greatest_text spec (Some gap) = codes " gap " ++ decimal gap.gap.frames ++ codes " " ++ app_name spec gap.app.0 ++ codes " at " ++ decimal gap.gap.at
@@ -33,13 +33,13 @@ flown_line spec k facts =
 abbrev pub refused_start : ℕ → List ℕ
 refused_start k = codes "flight " ++ decimal k ++ codes " "
 
--- The text of the minimum margin of all flights and of the first flight that has this margin, or the empty text if
+-- The text with the minimum margin of all flights and the first flight that has this margin, or the empty text if
 -- there is no margin.
 abbrev pub margin_total : Option FlightMargin → List ℕ
 margin_total None = []
 margin_total (Some margin) = codes " margin " ++ signed_decimal margin.frames ++ codes " in flight " ++ decimal margin.flight
 
--- The text of the longest gap of all flights and of the first flight that has a gap of this length, or the empty text
+-- The text with the longest gap of all flights and the first flight that has a gap of this length, or the empty text
 -- if there is no gap.
 abbrev pub gap_total : Option FlightGap → List ℕ
 gap_total None = []

@@ -33,11 +33,11 @@ outcome_of spec line = outcome_read spec (script_of spec line)
 abbrev pub memory_outcome : Outcome
 memory_outcome = Refused memory_line
 
--- The outcome is that of the line, or the refusal because the allocator is out of memory.
+-- The outcome is the outcome of the line, or the refusal because the allocator is out of memory.
 abbrev pub IsOutcome : Parts → List ℕ → Outcome → Type 0
 IsOutcome spec line outcome = (outcome ≡ outcome_of spec line) ⊎ (outcome ≡ memory_outcome)
 
--- The outcomes are those of the lines, one for each, in order.
+-- There is one outcome for each line, in the order of the lines.
 abbrev pub AreOutcomes : Parts → List (List ℕ) → List Outcome → Type 0
 AreOutcomes spec [] [] = ⊤
 AreOutcomes spec [] (outcome ∷ outcomes) = ⊥

@@ -5,7 +5,7 @@ use Rattle.form_base.specs.Answers.{Answer, AnswersDocument, AnswersFile}
 use Rattle.flight_forms.specs.Documents.{long_script}
 use Rattle.flights_form.specs.declared.limits.TheConstants.{MAX_SCRIPTS_BYTES}
 
--- The pieces without the last one if it is empty, and all pieces otherwise.
+-- The pieces without the last piece if the last piece is empty, and all pieces otherwise.
 abbrev pub without_empty_last : List (List ℕ) → List (List ℕ)
 without_empty_last [] = []
 without_empty_last (piece ∷ []) = if is_filled piece then piece ∷ [] else []
@@ -16,7 +16,7 @@ without_empty_last (piece ∷ next ∷ pieces) = piece ∷ without_empty_last (n
 abbrev pub lines_of : List ℕ → List (List ℕ)
 lines_of bytes = without_empty_last (pieces_of 10 bytes)
 
--- Any bytes are a file of scripts.
+-- The bytes are the file of scripts `scripts`. Any bytes are a file of scripts.
 abbrev pub SaysScripts : List ℕ → List ℕ → Type 0
 SaysScripts scripts bytes = scripts ≡ bytes
 

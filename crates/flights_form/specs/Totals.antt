@@ -14,43 +14,44 @@ abbrev pub is_refused : Outcome → Bool
 is_refused (Flown facts) = false
 is_refused (Refused line) = true
 
--- The minimum margin of flight `k`, or `None` if it has no margin.
+-- The minimum margin of flight `k`, or `None` if the flight has no margin.
 abbrev pub margin_in_flight : ℕ → Outcome → Option FlightMargin
 margin_in_flight k (Flown facts) = option_map (λ (margin : Margin). record { frames = margin.frames; flight = k }) facts.margin
 margin_in_flight k (Refused line) = None
 
--- The smaller of the margins of two flights, or the first if they are equal. If one of them is `None`, the other is
--- taken.
+-- The smaller of the margins of two flights, or the first if they are equal. If only one margin is present, the value
+-- is that margin. If neither is present, the value is `None`.
 abbrev pub lesser_in_flight : Option FlightMargin → Option FlightMargin → Option FlightMargin
 lesser_in_flight None later = later
 lesser_in_flight (Some margin) None = Some margin
 lesser_in_flight (Some margin) (Some later) = if int_lt later.frames margin.frames then Some later else Some margin
 
--- The minimum margin of these flights, the first of which is flight `k`, with the first flight that has this margin,
--- or `None` if no flight has a margin.
+-- The minimum margin of the flights with the given outcomes, the first of which is flight `k`, with the first flight
+-- that has this margin, or `None` if no flight has a margin.
 abbrev pub least_in_flights : ℕ → List Outcome → Option FlightMargin
 least_in_flights k [] = None
 least_in_flights k (outcome ∷ outcomes) = lesser_in_flight (margin_in_flight k outcome) (least_in_flights (k + 1) outcomes)
 
--- The longest gap of flight `k`, or `None` if it has no gap.
+-- The longest gap of flight `k`, or `None` if the flight has no gap.
 abbrev pub gap_in_flight : ℕ → Outcome → Option FlightGap
 gap_in_flight k (Flown facts) = option_map (λ (gap : AppGap). record { frames = gap.gap.frames; flight = k }) facts.gap
 gap_in_flight k (Refused line) = None
 
--- The longer of the gaps of two flights, or the first if they are equally long. If one of them is `None`, the other
--- is taken.
+-- The longer of the gaps of two flights, or the first if they are equally long. If only one gap is present, the value
+-- is that gap. If neither is present, the value is `None`.
 abbrev pub greater_in_flight : Option FlightGap → Option FlightGap → Option FlightGap
 greater_in_flight None later = later
 greater_in_flight (Some gap) None = Some gap
 greater_in_flight (Some gap) (Some later) = if nat_lt gap.frames later.frames then Some later else Some gap
 
--- The longest gap of these flights, the first of which is flight `k`, with the first flight that has a gap of this
--- length, or `None` if no flight has a gap.
+-- The longest gap of the flights with the given outcomes, the first of which is flight `k`, with the first flight
+-- that has a gap of this length, or `None` if no flight has a gap.
 abbrev pub greatest_in_flights : ℕ → List Outcome → Option FlightGap
 greatest_in_flights k [] = None
 greatest_in_flights k (outcome ∷ outcomes) = greater_in_flight (gap_in_flight k outcome) (greatest_in_flights (k + 1) outcomes)
 
--- The totals of these outcomes: the numbers of lines and of refused lines, the minimum margin and the longest gap.
+-- The totals of a list of outcomes: the numbers of lines and of refused lines, the minimum margin and the longest
+-- gap.
 abbrev pub totals_of : List Outcome → Totals
 totals_of outcomes = record {
   lines = length outcomes;
@@ -59,7 +60,7 @@ totals_of outcomes = record {
   gap = greatest_in_flights 0 outcomes;
 }
 
--- The totals of some lines after the outcome of the next line has been included.
+-- The totals of some lines, with the outcome of the next line included.
 abbrev pub with_outcome : Totals → Outcome → Totals
 with_outcome totals outcome = record {
   lines = totals.lines + 1;

@@ -16,15 +16,15 @@ pub struct AppGap {
     pub gap: Gap,
 }
 
-/// The margin of a finished reconfiguration: its bound minus the number of frames that it took.
+/// The margin of a finished reconfiguration: its bound minus the number of frames that the reconfiguration took.
 #[derive(Clone, Copy, Debug, PartialEq, Eq)]
 pub struct Margin {
     pub frames: i64,
     pub report: Report,
 }
 
-/// The facts of a flight: the numbers of its frames, its reconfigurations and its unfinished reconfigurations, its
-/// longest gap and its minimum margin.
+/// The facts of a flight: the numbers of frames, reconfigurations and unfinished reconfigurations, the longest gap,
+/// and the minimum margin.
 #[derive(Clone, Copy, Debug, PartialEq, Eq)]
 pub struct FlightFacts {
     pub frames: u32,

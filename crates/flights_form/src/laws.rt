@@ -1,11 +1,12 @@
-//! The laws of the lines of a file of scripts. The contract of each function is a law.
+//! The laws of the form `flights`. The contract of each function is a law.
 
 ghost use Rattle.flights_form.specs.Assurance.{SeriesAreAssured};
 ghost use Rattle.flights_form.specs.Laws.{LinesAreRuns};
 
 use trace_props::missions::reconfigurations_are_assured;
 
-/// States that the outcome of a line sums up the answer of `run` to a file with the same bytes.
+/// States that, for an accepted specification, the outcome of a line agrees with the answer of `run` to a file with
+/// the same bytes. The outcome has the facts of the trace that `run` prints, or the refusal that `run` prints.
 pub fn lines_are_runs()
     ensures { LinesAreRuns }
 {}

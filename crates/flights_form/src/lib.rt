@@ -1,5 +1,5 @@
-//! The form `flights`, which flies each line of a file as a script and prints one line for each. The output of the
-//! form depends only on the bytes of the files that the command's words name.
+//! The form `flights`, which flies the script on each line of a file. It prints a line for each script, and a line of
+//! totals. The output of the form depends only on the bytes of the files that the command's words name.
 #![tactic(auto)]
 
 mod facts;

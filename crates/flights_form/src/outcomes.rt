@@ -26,8 +26,8 @@ pub enum Outcome {
     Refused(Line),
 }
 
-/// Reads the script in a line, flies the script on the caller's thread if it satisfies the failure assumption, and
-/// returns the outcome.
+/// Reads the script in a line and returns the outcome. If the script satisfies the failure assumption, it is flown on
+/// the caller's thread.
 pub fn fly_line(alloc: Global, spec: &Spec, line: &[u8]) -> Outcome
     ensures { IsOutcome spec.now line.now result }
 {

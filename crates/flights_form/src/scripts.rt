@@ -20,7 +20,7 @@ use scram_types::List;
 use std::alloc::Global;
 use trace_text::pieces::split_once;
 
-/// Loads the file of scripts with this name.
+/// Loads the file of scripts `name`.
 ///
 /// # Errors
 ///
@@ -58,8 +58,8 @@ pub fn next_line(bytes: &[u8]) -> Option<(&[u8], &[u8])>
     }
 }
 
-// Returns the last line of a file, which does not end with a line feed, and no further bytes, or `None` if there are
-// no bytes.
+// Returns the bytes as the last line of a file, with no bytes after the line, or `None` if there are no bytes. The
+// bytes must not contain a line feed.
 fn last_line(bytes: &[u8]) -> Option<(&[u8], &[u8])>
     requires { pieces_of 10 bytes.now ≡ bytes.now ∷ [] }
     ensures lines { MatchOption result (lines_of bytes.now ≡ []) (λ parts. lines_of bytes.now ≡ parts.0.now ∷ lines_of parts.1.now) }

@@ -18,7 +18,8 @@ use scram_io::Files;
 use scram_types::{List, Spec};
 use std::alloc::Global;
 
-/// The names of the files of a series of flights: a specification, and a file with a script on each line.
+/// The names of the two files for a series of flights: the file of a specification, and a file with a script on each
+/// line.
 #[derive(Clone, Copy)]
 pub struct ScriptsFiles<'a> {
     pub specification: &'a str,

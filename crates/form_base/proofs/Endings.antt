@@ -11,11 +11,11 @@ use Rattle.form_base.specs.Endings.{AreInTurn, AreThere, Completes, Decides, End
 use Rattle.form_base.specs.Refusals.{code_of, memory_line}
 use Rattle.form_base.specs.Telling.{status_after}
 
--- If a text was printed whole, the sink took it, and the code is its status.
+-- If a text was printed whole, the sink took the text, and the code is the status of the text.
 pub printed_taken : (status : ℕ) (text : List ℕ) (old new : SinkState) → Printed old new text → IsTaken old new status status text
 printed_taken status text old new printed = record { shown = inl (refl, printed.whole); surely = printed.surely; count = printed.count }
 
--- If a text was cut off, the sink took a prefix of it, and the code is the status of unwritten output.
+-- If a text was cut off, the sink took a prefix of the text, and the code is the status of unwritten output.
 pub cut_taken : (status : ℕ) (text : List ℕ) (old new : SinkState) → CutOff old new text → IsTaken old new UNWRITTEN_OUTPUT status text
 cut_taken status text old new cut = record { shown = inr (refl, cut.prefix, cut.rose); surely = cut.surely; count = cut.count }
 
@@ -32,7 +32,7 @@ answered_tells text old new code taken =
     record { status = ANSWERED; text = text; answer = inl refl; read = λ same. absurd (omega (arith, same)); written = λ same. absurd (omega (arith, same)); taken = taken }
 
 -- If the sink took a text or a prefix of it, the result is correct for the answer with this status and text. The
--- status must be neither that of an unread file nor that of unwritten output.
+-- status must be neither `UNREAD_FILE` nor `UNWRITTEN_OUTPUT`.
 pub given_tells : (status : ℕ) (text : List ℕ) (old new : SinkState) (code : ℕ) → status ≢ UNREAD_FILE → status ≢ UNWRITTEN_OUTPUT
     → IsTaken old new code status text → Tells (Gives (status, text)) old new code
 given_tells status text old new code read written taken =
@@ -133,8 +133,8 @@ went_out old mid new text flushed empty took = record {
 stopped_whole : (old mid new : SinkState) (text : List ℕ) → Took old mid text → Flushed mid new → Rose mid.faults new.faults → old.faults ≤ mid.faults → StoppedIn old new text
 stopped_whole old mid new text took flushed rose count = record { rest = new.held; parts = sym took ∙ sym flushed.same; rose = omega (arith, rose, count) }
 
--- If the sink took a prefix of the text, then after the flush a prefix of the text was sent. Some of what the sink
--- took may be held back.
+-- If the sink took a prefix of the text, then after the flush a prefix of the text was sent. The sink may hold back
+-- some of the bytes that it took.
 stopped_part : (old mid new : SinkState) (text : List ℕ) → TookPrefix old mid text → Flushed mid new → Rose old.faults mid.faults → StoppedIn old new text
 stopped_part old mid new text cut flushed rose = record {
   rest = new.held ++ cut.rest;
@@ -183,7 +183,7 @@ pub failed_ends : (A : Answer) (names : List (List ℕ)) (before after : FilesSt
 failed_ends A names before after old mid new code flushed rose ends =
     shown_ends A names before after (IsTaken old mid code) (IsSent old new UNWRITTEN_OUTPUT) (λ status text is. failed_sent old mid new code status text flushed rose is) ends
 
--- If neither the files nor the sink can fail, neither fault count rises.
+-- If neither the files nor the sink can fail, no fault count rises.
 
 room_for : (A : Answer) (map : FileMap) (names : List (List ℕ)) (before after : FilesState) (old : SinkState) (room : HasRoom A map before old) (reads : History) (status : ℕ) (text : List ℕ)
     → Agrees map reads → Unrisen before.faults after.faults → A before after reads status text ⊎ (IsMemoryRefusal status text × AreInTurn names reads) → length text ≤ room.room
@@ -207,8 +207,8 @@ completes A names before after old new code ends =
     let decides = ends.decides in
     completes_by A names before.known_map before after old new decides.reads ends.status ends.text decides.grew.agrees decides.answer ends.shown.surely decides.quiet
 
--- If the code is that of an unread file, the fault count of the files rose. If it is that of unwritten output, the
--- fault count of the sink rose.
+-- If the code is `UNREAD_FILE`, the fault count of the files rose. If the code is `UNWRITTEN_OUTPUT`, the fault count
+-- of the sink rose.
 
 sent_unread : (A : Answer) (names : List (List ℕ)) (before after : FilesState) (old new : SinkState) (code : ℕ) (ends : Ends A names before after (IsSent old new code)) → code ≡ UNREAD_FILE
     → ((code ≡ ends.status) × WentOut old new ends.text) ⊎ ((code ≡ UNWRITTEN_OUTPUT) × StoppedIn old new ends.text) → Rose before.faults after.faults

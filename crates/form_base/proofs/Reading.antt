@@ -41,8 +41,8 @@ quiet_since_by (Some map) name names still again before between now first second
     let two : Unrisen between now = second one.1 there.1 in
     record { same = two.same ∙ one.0.same; below = one.0.below }
 
--- If reading one file and then reading the other named files raised no fault count, then reading all of them raised
--- none.
+-- If neither reading the first named file nor reading the other named files raised a fault count, reading all named
+-- files raised no fault count.
 quiet_since : (name : List ℕ) (names : List (List ℕ)) (before mid after : FilesState) (reads : History) → Grew before mid reads
     → StaysSteady before mid name → StaysQuiet names mid after → StaysQuiet (name ∷ names) before after
 quiet_since name names before mid after reads grew steady quiet =
@@ -55,7 +55,7 @@ settled_answer : (A : ℕ → List ℕ → Type 0) (status : ℕ) (text : List �
 settled_answer A status text files (inl is) = inl (refl, is)
 settled_answer A status text files (inr is) = inr (is, ([], refl))
 
--- If a decision was made without reading a file, the list of the files that were read for it is empty.
+-- If a decision was made without reading a file, the answer is prepared without reading a file.
 pub settled : {T : Type 0} (A : ℕ → List ℕ → Type 0) (Rest : T → ℕ → List ℕ → Type 0) (files : FilesState) (result : Result T Refusal)
     → (IsTrue files.steady → files.faults < greatest_count) → PreparesWithoutFiles A Rest result → Prepares (WithoutFiles A) Rest [] files files result
 settled {T} A Rest files (Ok value) below answers = record {

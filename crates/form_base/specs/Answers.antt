@@ -4,7 +4,7 @@ use Rattle.scram_io.specs.Outside.{FilesState, Grew, History, Rose}
 use Rattle.form_base.specs.declared.status.TheConstants.{UNREAD_FILE}
 use Rattle.form_base.specs.Refusals.{read_line}
 
--- The status and the text are those of the answer `answered`.
+-- The answer `answered` has the status `status` and the text `text`.
 abbrev pub Gives : ℕ × List ℕ → ℕ → List ℕ → Type 0
 Gives answered status text = answered ≡ (status, text)
 
@@ -17,8 +17,8 @@ Answer = FilesState → FilesState → History → ℕ → List ℕ → Type 0
 abbrev pub WithoutFiles : (ℕ → List ℕ → Type 0) → Answer
 WithoutFiles Answers before after reads status text = (reads ≡ []) × Answers status text
 
--- The file of this name was read first and has at most `limit` bytes. The answer depends on these bytes and on the
--- later reads.
+-- The file `name` was read first and has at most `limit` bytes. The answer depends on these bytes and on the later
+-- reads.
 pub record AnswersBytes (limit : ℕ) (name : List ℕ) (Answers : List ℕ → Answer) (before after : FilesState)
     (reads : History) (status : ℕ) (text : List ℕ) : Type 0 where
   pub bytes : List ℕ
@@ -29,8 +29,8 @@ pub record AnswersBytes (limit : ℕ) (name : List ℕ) (Answers : List ℕ → 
   pub grew : Grew before between ((name, bytes) ∷ [])
   pub answers : Answers bytes between after rest status text
 
--- Only the file of this name was read. It has more than `limit` bytes, and the answer is `long`. If the map of the
--- files is not known, the fault count of the files rose.
+-- Only the file `name` was read. It has more than `limit` bytes, and the answer is `long`. If the map of the files is
+-- not known, the fault count of the files rose.
 pub record AnswersLonger (limit : ℕ) (long : ℕ × List ℕ) (name : List ℕ) (before after : FilesState)
     (reads : History) (status : ℕ) (text : List ℕ) : Type 0 where
   pub bytes : List ℕ
@@ -39,23 +39,23 @@ pub record AnswersLonger (limit : ℕ) (long : ℕ × List ℕ) (name : List ℕ
   pub counted : IfNone before.known_map (Rose before.faults after.faults)
   pub gives : Gives long status text
 
--- Reading the file of this name failed, and the answer reports that.
+-- Reading the file `name` failed, and the answer reports this failure.
 abbrev pub AnswersFailed : List ℕ → Answer
 AnswersFailed name before after reads status text = (reads ≡ []) × Rose before.faults after.faults × Gives (UNREAD_FILE, read_line name) status text
 
--- The file of this name was not read or has more than `limit` bytes, and the answer reports which is the case.
+-- The file `name` was not read or has more than `limit` bytes, and the answer reports which is the case.
 abbrev pub AnswersUnread : ℕ → ℕ × List ℕ → List ℕ → Answer
 AnswersUnread limit long name before after reads status text =
     AnswersLonger limit long name before after reads status text ⊎ AnswersFailed name before after reads status text
 
--- The answer if `name` is the name of a file of at most `limit` bytes: the answer to these bytes. If the file was not
--- read or is longer, the answer reports that.
+-- The answer to the bytes of the file `name`. If the file was not read or has more than `limit` bytes, the answer
+-- reports which is the case.
 abbrev pub AnswersFile : ℕ → ℕ × List ℕ → List ℕ → (List ℕ → Answer) → Answer
 AnswersFile limit long name Answers before after reads status text =
     AnswersBytes limit name Answers before after reads status text ⊎ AnswersUnread limit long name before after reads status text
 
--- The bytes encode a value, and the answer is the one for that value. Otherwise they break a rule, and the answer
--- reports it.
+-- Either the bytes encode a value and the answer is the answer to this value, or the bytes break a rule and the
+-- answer reports the rule.
 abbrev pub AnswersDocument : {T : Type 0} → (T → List ℕ → Type 0) → (ℕ × List ℕ → List ℕ → Type 0) → (T → Answer) → List ℕ → Answer
 AnswersDocument {T} Says Breaks Then bytes before after reads status text =
     ((value : T) × Says value bytes × Then value before after reads status text) ⊎ ((reads ≡ []) × Breaks (status, text) bytes)

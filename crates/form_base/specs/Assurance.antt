@@ -18,7 +18,7 @@ pub record Assured (Assures : History → List ℕ → Type 0) (before after : F
   pub assures : Assures reads text
   pub shown : Shown text
 
--- The file of this name was read first, its bytes encode a value, and the assurance holds for that value.
+-- The file `name` was read first, its bytes encode a value, and the assurance holds for this value.
 pub record OfDocument {T : Type 0} (Says : T → List ℕ → Type 0) (name : List ℕ) (Assures : T → History → List ℕ → Type 0)
     (reads : History) (text : List ℕ) : Type 0 where
   pub bytes : List ℕ
@@ -28,7 +28,6 @@ pub record OfDocument {T : Type 0} (Says : T → List ℕ → Type 0) (name : Li
   pub says : Says value bytes
   pub assured : Assures value rest text
 
--- The file of this name was read first, its bytes encode a specification, and the assurance holds for that
--- specification.
+-- The file `name` was read first, its bytes encode a specification, and the assurance holds for this specification.
 abbrev pub OfSpecification : List ℕ → (Parts → History → List ℕ → Type 0) → History → List ℕ → Type 0
 OfSpecification name Assures reads text = OfDocument SaysSpecification name Assures reads text

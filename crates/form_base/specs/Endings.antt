@@ -1,4 +1,4 @@
--- The result of a form: the files that it read, its answer, and what the sink took of its text.
+-- The result of a form: the files that the form read, its answer, and the part of its text that the sink took.
 use Rattle.std.specs.Prelude.{◌≡◌, ◌≢◌, ◌⊎◌, ℕ, ◌≤◌, List, [], ◌∷◌, ◌++◌, length, map, IsTrue, Some, IsSome, IfSome, Result, Ok, Err, ⊤}
 use Rattle.scram_io.specs.Outside.{Agrees, FileMap, FilesState, Grew, History, Rose, SinkState, TakesSurely, Took, TookPrefix, Unrisen, file_at, taken}
 use Rattle.form_base.specs.declared.refusals.Refusal.{Refusal}
@@ -42,27 +42,27 @@ pub record IsPrepared (Answers : Answer) (Rest : ℕ → List ℕ → Type 0) (n
   pub answers : (status : ℕ) (text : List ℕ) → Rest status text → Answers before after reads status text
 
 -- The files of an answer were read. If the result is a value, every status and text that `Rest` allows for the value
--- is an answer. If the result is a refusal, it is the answer.
+-- is an answer. If the result is a refusal, the refusal is the answer.
 abbrev pub Prepares : {T : Type 0} → Answer → (T → ℕ → List ℕ → Type 0) → List (List ℕ) → FilesState → FilesState → Result T Refusal → Type 0
 Prepares Answers Rest names before after (Ok value) = IsPrepared Answers (Rest value) names before after
 Prepares Answers Rest names before after (Err refusal) = Decides Answers names before after (answer_of refusal).0 (answer_of refusal).1
 
 -- A decision was made without reading a file. If the result is a value, every status and text that `Rest` allows for
--- the value is an answer. If the result is a refusal, it is an answer or reports that the allocator was out of
--- memory.
+-- the value is an answer. If the result is a refusal, the refusal is an answer or reports that the allocator was out
+-- of memory.
 abbrev pub PreparesWithoutFiles : {T : Type 0} → (ℕ → List ℕ → Type 0) → (T → ℕ → List ℕ → Type 0) → Result T Refusal → Type 0
 PreparesWithoutFiles Answers Rest (Ok value) = (status : ℕ) (text : List ℕ) → Rest value status text → Answers status text
 PreparesWithoutFiles Answers Rest (Err refusal) =
     (Answers (answer_of refusal).0 (answer_of refusal).1 ⊎ IsMemoryRefusal (answer_of refusal).0 (answer_of refusal).1) × ((answer_of refusal).0 ≢ UNREAD_FILE)
 
--- The sink took the text, and the code is the status of the text. If the sink failed, it took a prefix, and the code is
--- 4.
+-- The sink took the text, and the code is the status of the text. If the sink failed, it took a prefix of the text,
+-- and the code is `UNWRITTEN_OUTPUT`.
 pub record IsTaken (old new : SinkState) (code status : ℕ) (text : List ℕ) : Type 0 where
   pub shown : ((code ≡ status) × Took old new text) ⊎ ((code ≡ UNWRITTEN_OUTPUT) × TookPrefix old new text × Rose old.faults new.faults)
   pub surely : TakesSurely old new text
   pub count : old.faults ≤ new.faults
 
--- The text was sent after all bytes that the sink had taken, and nothing is held back.
+-- The text was sent after all bytes that the sink had taken before, and no bytes are held back.
 pub record WentOut (old new : SinkState) (text : List ℕ) : Type 0 where
   pub sent : new.sent ≡ taken old ++ text
   pub held : new.held ≡ []
@@ -78,13 +78,13 @@ abbrev pub IsQuietFor : List ℕ → SinkState → SinkState → Type 0
 IsQuietFor text old new = IfSome old.surely (λ room. length text ≤ room → Unrisen old.faults new.faults)
 
 -- The text was sent, and the code is the status of the text. If the sending stopped before the end of the text, the
--- code is 4.
+-- code is `UNWRITTEN_OUTPUT`.
 pub record IsSent (old new : SinkState) (code status : ℕ) (text : List ℕ) : Type 0 where
   pub shown : ((code ≡ status) × WentOut old new text) ⊎ ((code ≡ UNWRITTEN_OUTPUT) × StoppedIn old new text)
   pub surely : IsQuietFor text old new
 
--- The sink took a text or a prefix of it. The text is that of an answer that needs no file, or the out-of-memory
--- line. The status is neither that of an unread file nor that of unwritten output.
+-- The sink took a text or a prefix of it. The text is the text of an answer that needs no file, or the out-of-memory
+-- line. The status is neither `UNREAD_FILE` nor `UNWRITTEN_OUTPUT`.
 pub record Tells (Answers : ℕ → List ℕ → Type 0) (old new : SinkState) (code : ℕ) : Type 0 where
   pub status : ℕ
   pub text : List ℕ
@@ -111,8 +111,8 @@ pub record HasRoom (Answers : Answer) (map : FileMap) (files : FilesState) (sink
       → (status : ℕ) (text : List ℕ) → Answers files after reads status text → length text ≤ room
   pub memory : length memory_line ≤ room
 
--- If the map is known, the files are steady, the named files exist and the sink has room, neither the fault count of
--- the files nor that of the sink rose.
+-- If the map is known, the files are steady, the named files exist and the sink has room, the fault counts of the
+-- files and of the sink did not rise.
 abbrev pub Completes : Answer → List (List ℕ) → FilesState → FilesState → SinkState → SinkState → Type 0
 Completes Answers names before after old new = IfSome before.known_map (λ map. IsTrue before.steady → AreThere map names
     → HasRoom Answers map before old → Unrisen before.faults after.faults × Unrisen old.faults new.faults)

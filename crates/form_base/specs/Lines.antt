@@ -36,7 +36,7 @@ factors_text [] i values = []
 factors_text (factor ∷ factors) i values =
     factor.name ++ codes "=" ++ value_name factor (slice_index values i) ++ codes "," ++ factors_text factors (i + 1) values
 
--- The names of the processors whose bits are clear in `up`. The lowest bit is that of the first processor.
+-- The names of the processors whose bits are clear in `up`. The lowest bit belongs to the first processor.
 abbrev pub names_down : List Proc → ℕ → List (List ℕ)
 names_down [] up = []
 names_down (proc ∷ procs) up = if up % 2 == 1 then names_down procs (up / 2) else proc.name ∷ names_down procs (up / 2)

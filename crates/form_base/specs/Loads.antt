@@ -5,7 +5,7 @@ use Rattle.form_base.specs.declared.refusals.Refusal.{Refusal}
 use Rattle.form_base.specs.declared.status.TheConstants.{OUT_OF_MEMORY, UNREAD_FILE}
 use Rattle.form_base.specs.Refusals.{memory_line, read_line, answer_of}
 
--- Only the file of this name was read. It has at most `limit` bytes, and `Fact` holds for them.
+-- Only the file `name` was read. It has at most `limit` bytes, and `Fact` holds for the bytes.
 pub record HasRead (limit : ℕ) (name : List ℕ) (Fact : List ℕ → Type 0) (before after : FilesState) : Type 0 where
   pub bytes : List ℕ
   pub grew : Grew before after ((name, bytes) ∷ [])
@@ -16,7 +16,8 @@ pub record HasRead (limit : ℕ) (name : List ℕ) (Fact : List ℕ → Type 0) 
 abbrev pub IsOutOfMemory : ℕ × List ℕ → Type 0
 IsOutOfMemory refusal = refusal ≡ (OUT_OF_MEMORY, memory_line)
 
--- The result of reading bytes is a value that they encode, or a refusal that reports a broken rule or out of memory.
+-- The result of reading bytes is a value that the bytes encode, or a refusal. The refusal reports a broken rule, or
+-- that the allocator was out of memory.
 abbrev pub ReadsAs : {T : Type 0} → (T → List ℕ → Type 0) → (ℕ × List ℕ → List ℕ → Type 0) → List ℕ → Result T Refusal → Type 0
 ReadsAs Says Breaks bytes (Ok value) = Says value bytes
 ReadsAs Says Breaks bytes (Err refusal) = Breaks (answer_of refusal) bytes ⊎ IsOutOfMemory (answer_of refusal)
@@ -30,8 +31,8 @@ IsUnloaded Breaks limit long name before after refusal =
     ⊎ (Grew before after [] × Rose before.faults after.faults × (refusal ≡ (UNREAD_FILE, read_line name)))
     ⊎ ((Grew before after [] ⊎ HasRead limit name (λ (bytes : List ℕ). ⊤) before after) × IsOutOfMemory refusal)
 
--- The result of loading a file is a value that its bytes encode, or the refusal with the reason why the file was not
--- loaded.
+-- The result of loading a file is a value that the bytes of the file encode, or the refusal with the reason why the
+-- file was not loaded.
 abbrev pub Loads : {T : Type 0} → (T → List ℕ → Type 0) → (ℕ × List ℕ → List ℕ → Type 0) → ℕ → ℕ × List ℕ → List ℕ
     → FilesState → FilesState → Result T Refusal → Type 0
 Loads Says Breaks limit long name before after (Ok value) = HasRead limit name (Says value) before after

@@ -37,6 +37,6 @@ memory_line = codes "refused: memory\n"
 abbrev pub read_line : List ℕ → List ℕ
 read_line name = codes "refused: read " ++ name ++ codes "\n"
 
--- The status and the line report that the file of this name was not read, or that there was no memory for that line.
+-- The status and the line report that the file `name` was not read, or that there was no memory for this line.
 abbrev pub IsUnread : List ℕ → ℕ × List ℕ → Type 0
 IsUnread name refusal = (refusal ≡ (UNREAD_FILE, read_line name)) ⊎ (refusal ≡ (OUT_OF_MEMORY, memory_line))

@@ -14,8 +14,8 @@ use Rattle.form_base.specs.declared.status.TheConstants.{BROKEN_SPECIFICATION}
 use Rattle.form_base.specs.Answers.{Answer, AnswersDocument, AnswersFile}
 use Rattle.form_base.specs.Lines.{specification_line}
 
--- The bytes encode this specification. The specification satisfies its invariant, and none of its lists has a name
--- twice.
+-- The bytes encode the specification `spec`. The specification satisfies its invariant, and none of its lists has a
+-- name twice.
 pub record SaysSpecification (spec : Parts) (bytes : List ℕ) : Type 0 where
   pub is : spec_of bytes ≡ Ok spec
   pub sound : IsSpec spec
@@ -25,7 +25,8 @@ pub record SaysSpecification (spec : Parts) (bytes : List ℕ) : Type 0 where
 abbrev pub showing : List (List ℕ) → DocFault → SpecFault
 showing cycle fault = record { rule = fault.rule; path = fault.path; cycle = record { items = [] }; names = record { items = cycle } }
 
--- If the needs that were read have a cycle, these are the names of the applications in one of the cycles.
+-- The names are the names of the applications in a cycle of the needs that were read. The list is empty if the needs
+-- have no cycle or were not read.
 abbrev pub NamesCycle : Result (List AppSpec) DocFault → List (List ℕ) → Type 0
 NamesCycle unranked names = (cycle : List AppId) × CycleAmong unranked cycle × NamedAmong unranked cycle names
 

@@ -182,8 +182,7 @@ fn add_other(line: &mut Line, spec: &Spec, other: &Other)
     }
 }
 
-/// Returns the name of the demand of this index, which has at most 16 bytes, or the empty text if there is no such
-/// demand.
+/// Returns the name of demand `place`, which has at most 16 bytes, or the empty text if there is no such demand.
 pub fn demand_name(spec: &Spec, place: u32) -> &str
     ensures name { result.now ≡ demand_name spec.now place }
     ensures short { length result.now ≤ 16 }

@@ -39,7 +39,7 @@ pub trait Document<T> {
         ensures other { (answer_of result).0 ≢ UNREAD_FILE };
 }
 
-/// Reads the file of this name and returns the value that it encodes.
+/// Reads the file `name` and returns the value that the file encodes.
 ///
 /// # Errors
 ///

@@ -1,4 +1,4 @@
-//! Refusals, which are the answers to requests that are not carried out. Each has a status and a line.
+//! Refusals, which are the answers to requests that are not carried out. Each refusal has a status and a line.
 
 ghost use Rattle.std.specs.Prelude.{◌≡◌};
 ghost use Rattle.form_base.specs.Refusals.{IsUnread, code_of, line_text, memory_line, answer_of};
@@ -70,7 +70,7 @@ pub struct Refusal {
 }
 
 impl Refusal {
-    /// Returns a refusal of this kind, with a line that is made without allocation.
+    /// Returns a refusal of the kind `refused`, with a line that is made without allocation.
     pub fn new(refused: Refused, line: Line) -> Refusal
         ensures { answer_of result ≡ (code_of refused, line) }
     {

@@ -9,7 +9,7 @@ use crate::refusals::Refusal;
 use crate::status::{Status, UNWRITTEN_OUTPUT};
 use scram_io::{Sink, SinkFault};
 
-/// Returns the status after a text was written, which is `code`, or 4 if the sink failed.
+/// Returns the status after a text was written: `code`, or `UNWRITTEN_OUTPUT` if the sink failed.
 pub fn status_after(put: Result<(), SinkFault>, code: u8) -> Status
     ensures { result.code ≡ status_after put code }
 {
@@ -21,14 +21,15 @@ pub fn status_after(put: Result<(), SinkFault>, code: u8) -> Status
     }
 }
 
-/// Writes a text in one piece as the whole output, and returns the status `code`, or 4 if the sink fails.
+/// Writes a text in one piece as the whole output. Returns the status `code`, or `UNWRITTEN_OUTPUT` if the sink
+/// fails.
 pub fn tell<K: Sink>(out: &mut K, code: u8, text: &[u8]) -> Status
     ensures { IsTaken (K.state out.old) (K.state out.new) result.code code text.now }
 {
     status_after(out.put(text), code)
 }
 
-/// Writes the line of a refusal, and returns the refusal's status, or 4 if the sink fails.
+/// Writes the line of a refusal. Returns the refusal's status, or `UNWRITTEN_OUTPUT` if the sink fails.
 pub fn tell_refusal<K: Sink>(out: &mut K, refusal: &Refusal) -> Status
     ensures { IsTaken (K.state out.old) (K.state out.new) result.code (answer_of refusal.now).0 (answer_of refusal.now).1 }
 {

@@ -19,8 +19,8 @@ use Rattle.frame_model.proofs.ReadLaws.{ended_append, reading_append}
 abbrev below : ℕ → List Report → List (ConfId × ℕ)
 below m reports = map beginning (filter (begins_below m) reports)
 
--- If two reports have the same source and the same first frame, a list of the one and a list of the other have the
--- same beginnings.
+-- If two reports have the same source and the same first frame, a list of only the first report and a list of only
+-- the second report have the same beginnings.
 open_same : (b : Bool) (x y : Report) → beginning x ≡ beginning y → map beginning (if b then x ∷ [] else []) ≡ map beginning (if b then y ∷ [] else [])
 open_same true x y same = ap (λ z. z ∷ []) same
 open_same false x y same = refl
@@ -33,7 +33,8 @@ first_kept : (b : Bool) (x y : Report) (rest : List Report) → beginning x ≡ 
 first_kept true x y rest same none = rw (same, none) refl
 first_kept false x y rest same none = none
 
--- The reconfigurations that end in rows from frame `g` on, and the reconfiguration that is cut off after `n` frames.
+-- The reconfigurations that end in rows from frame `g` on, and the reconfiguration that is cut off after `n` frames,
+-- if any.
 abbrev shown_from : Parts → ℕ → ℕ → Reading → List Row → List Report
 shown_from spec g n r rows = ended_in spec r g rows ++ as_list (close (reading_after spec r g rows) n)
 

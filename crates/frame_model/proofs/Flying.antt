@@ -1,4 +1,4 @@
--- If a system is before frame `f` of a script, the frame that it flies has the row of frame `f`, and the system is
+-- If a system is before frame `f` of a script, the next row of the system is the row of frame `f`, and the system is
 -- then before frame `f + 1`.
 use Rattle.std.proofs.Common.{◌≡◌, ◌∙◌, ℕ, suc, ◌+◌, ◌-◌, ◌^◌, refl, ap, arith, length, List, [], ◌∷◌, ◌++◌}
 use Rattle.std.specs.Prelude.{bit_and, bit_or}

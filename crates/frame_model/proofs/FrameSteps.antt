@@ -1,5 +1,4 @@
--- The acts, areas and keepers that a frame computes equal those of the definitions, and so do the row and the system
--- after the frame.
+-- The acts, areas, keepers and row that a frame computes, and the system after the frame, are as defined.
 use Rattle.std.proofs.Common.{◌≡◌, ◌∙◌, ℕ, suc, ◌+◌, refl, ap, arith, List}
 use Rattle.std.specs.Prelude.{ℤ, Bool, Option}
 use Rattle.scram_types.specs.declared.ids.ProcId.{ProcId}

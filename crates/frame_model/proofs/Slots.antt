@@ -60,7 +60,7 @@ eight_words (a ∷ b ∷ c ∷ d ∷ e ∷ f ∷ g ∷ []) is = absurd (omega ar
 eight_words (a ∷ b ∷ c ∷ d ∷ e ∷ f ∷ g ∷ h ∷ []) is = refl
 eight_words (a ∷ b ∷ c ∷ d ∷ e ∷ f ∷ g ∷ h ∷ i ∷ more) is = absurd (omega arith)
 
--- The first `n` slots, one after another.
+-- The concatenation of the first `n` slots.
 joined : (ℕ → List ℤ) → ℕ → List ℤ
 joined slot zero = []
 joined slot (suc n) = joined slot n ++ slot n

@@ -79,7 +79,7 @@ pub record RunsFirst (spec : Parts) (j : ConfId) (row : Row) : Type 0 where
   pub here : runs spec row.acts j ≡ true
   pub least : (c : ℕ) → c < j.0 → runs spec row.acts (conf_id c) ≡ false
 
--- Rows from frame `f` on, before which configuration `c` runs, are read in the following way.
+-- Rules for reading the rows from frame `f` on if configuration `c` runs before these rows.
 pub record ReadsAsTold (spec : Parts) (c : ConfId) (f : ℕ) : Type 0 where
   -- If each row runs `c`, no reconfiguration is read.
   pub quiet : (rows : List Row) → All (Runs spec c) rows → (ended_in spec (Steady c) f rows ≡ []) × (reading_after spec (Steady c) f rows ≡ Steady c)
@@ -102,8 +102,7 @@ pub record ReadsAsTold (spec : Parts) (c : ConfId) (f : ℕ) : Type 0 where
 abbrev pub ReadsReconfigurations : Type 0
 ReadsReconfigurations = (spec : Parts) (c : ConfId) (f : ℕ) → ReadsAsTold spec c f
 
--- The reading after a further row, and the reconfigurations that have ended, follow from those after the rows before
--- it.
+-- The reading and the ended reconfigurations after a further row follow from those after the preceding rows.
 abbrev pub ReadsRowByRow : Type 0
 ReadsRowByRow = (spec : Parts) (rows : List Row) (row : Row)
     → (reading_of spec (rows ++ row ∷ []) ≡ read_row spec (reading_of spec rows) (length rows) row.acts)
@@ -117,8 +116,8 @@ begins_below m report = nat_lt report.begin m
 abbrev pub beginning : Report → ConfId × ℕ
 beginning report = (report.from, report.begin)
 
--- The reconfigurations of a flight that began in its first rows have the sources and the first frames of the
--- reconfigurations that are read off these rows alone.
+-- The later rows of a flight do not change the sources and the first frames of the reconfigurations that began in its
+-- first rows.
 abbrev pub BeginningsAreRead : Type 0
 BeginningsAreRead = (spec : Parts) (front back : List Row)
     → map beginning (filter (begins_below (length front)) (reports spec (front ++ back))) ≡ map beginning (reports spec front)

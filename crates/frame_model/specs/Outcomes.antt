@@ -29,7 +29,7 @@ abbrev pub area_made : Parts → Sys → Phase → ℕ → Seen → ℕ → List
 area_made spec sys phase committing seen a =
     area_on (has_bit committing) (law_made spec sys seen a (task_in spec phase a)) (area_at sys.areas a) (task_in spec phase a).proc
 
--- The processor that keeps the area of application `a` after a frame, or `None` if none keeps it.
+-- The processor that keeps the area of application `a` after a frame, or `None` if no processor keeps it.
 abbrev pub keeper_made : Parts → Sys → Phase → ℕ → ℕ → Option ProcId
 keeper_made spec sys phase committing a = keeper_on (has_bit committing) (keeper_at sys.keepers a) (task_in spec phase a).proc
 

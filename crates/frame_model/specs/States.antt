@@ -120,8 +120,8 @@ act_after commits task = act_on commits task task.proc
 abbrev pub area_after : Parts → Env → (ℕ → Bool) → State → Task → ℕ → List ℤ
 area_after spec v commits state task a = area_on commits (law_of spec v state task a) (area_at state.areas a) task.proc
 
--- The processor that keeps the area of application `a` after a frame in which it has a task, or `None` if none keeps
--- it.
+-- The processor that keeps the area of application `a` after a frame in which it has a task, or `None` if no
+-- processor keeps the area.
 abbrev pub keeper_after : (ℕ → Bool) → State → Task → ℕ → Option ProcId
 keeper_after commits state task a = keeper_on commits (keeper_at state.keepers a) task.proc
 

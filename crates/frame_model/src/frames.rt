@@ -21,9 +21,9 @@ use fault_script::Input;
 use scram_types::{Area, Env, KMode, Row, Spec, World};
 
 /// Flies one frame and returns its row. Afterwards, `sys` is the state after the frame. A processor that restarts in
-/// the frame is up. The kernel decides by the frame's environment. An application carries out its order if its
-/// processor commits. Its act is `Lost` if the processor is not up or halts before its mark. At the end, the airframe
-/// makes a step.
+/// the frame is up. The kernel's decision depends on the frame's environment. An application carries out its order if
+/// its processor commits. Its act is `Lost` if the processor is not up or halts before its mark. At the end, the
+/// airframe makes a step.
 pub fn frame(spec: &Spec, sys: &mut Sys, input: &Input, racks: &mut [Rack]) -> Row
     requires frame { sys.old.frame < MAX_FRAMES }
     ensures row { result ≡ row_given spec.now sys.old input.now }

@@ -38,14 +38,14 @@ pub fn reads_reconfigurations()
     ensures { ReadsReconfigurations }
 {}
 
-/// States that the reading after a further row, and the reconfigurations that have ended, follow from those after the
-/// rows before it.
+/// States that the reading and the ended reconfigurations after a further row follow from those after the preceding
+/// rows.
 pub fn reads_row_by_row()
     ensures { ReadsRowByRow }
 {}
 
-/// States that the reconfigurations of a flight that began in its first rows have the sources and the first frames of
-/// the reconfigurations that are read off these rows alone, whatever rows follow.
+/// States that the later rows of a flight do not change the sources and the first frames of the reconfigurations that
+/// began in its first rows.
 pub fn beginnings_are_read()
     ensures { BeginningsAreRead }
 {}

@@ -15,8 +15,8 @@ use app_model::racks::racks_frame;
 use app_model::{Rack, Seen};
 use scram_types::{Act, AppId, Area, Mode, Order, ProcId, Spec};
 
-/// What all applications share in a frame: the phase, the processors that commit the frame, as bits, and what the
-/// applications see, without their modes and their own areas.
+/// The data that all applications share in a frame: the phase, the set of processors that commit the frame, as bits,
+/// and what the applications see, without their modes and their own areas.
 #[derive(Clone, Copy)]
 pub(crate) struct Setting {
     pub(crate) seen: Seen,

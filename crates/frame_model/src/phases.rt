@@ -7,8 +7,8 @@ ghost use Rattle.frame_model.specs.Phases.{after_halting, halting_frames, is_pas
 use dep_order::timetable;
 use scram_types::{ConfId, KMode, Spec};
 
-/// The phase of a mode in a frame, with the configuration of the phase. The number is that of the frame in the phase,
-/// counted from 0.
+/// The phase of a mode in a frame, with the configuration of the phase. The number is the index of the frame in the
+/// phase, counted from 0.
 #[derive(Clone, Copy, Debug, PartialEq, Eq)]
 pub enum Phase {
     /// The configuration is to run.

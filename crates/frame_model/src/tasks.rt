@@ -20,8 +20,8 @@ pub struct Task {
 
 /// Returns the task of an application in a frame, given the kernel's mode in that frame. In a stable mode, the
 /// applications of the configuration run. In a moving mode, a configuration halts first, if any, and each application
-/// runs until its halt offset. Then the target prepares, and then it initialises, each application from its init
-/// offset on. At last the target runs. An application that has nothing to do in a phase holds.
+/// runs until its halt offset. Then the target prepares. Then the target initialises, each application from its init
+/// offset on. Finally the target runs. An application that has nothing to do in a phase holds.
 pub fn order_of(spec: &Spec, mode: &KMode, frame: u32, app: AppId) -> Task
     requires { app.0 < 8 }
     ensures { result ≡ task_of spec.now mode.now frame app.0 }

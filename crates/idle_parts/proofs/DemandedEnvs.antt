@@ -1,5 +1,5 @@
--- Lemmas on `demanded_env`, the environment of a demand. If the demand applies to any environment in scope, it
--- applies to this environment, which is then in scope.
+-- Lemmas on `demanded_env`, the environment of a demand. If the demand applies to any environment in scope, then the
+-- demand applies to `demanded_env`, and `demanded_env` is in scope.
 use Rattle.std.proofs.Common.{◌≡◌, ◌∙◌, ℕ, zero, suc, ◌<◌, ◌≤◌, ◌^◌, ap, arith, length, refl, sym, List, [], ◌∷◌, Bool, true, false, subst}
 use mathlib.Core.Logic.{inl, inr}
 use Rattle.std.specs.Prelude.{◌&&◌, ◌==◌, not, slice_get, Some, bit_and}
@@ -74,7 +74,7 @@ value_past factors x past (want ∷ wants) each = by_bool (want.factor.0 == x)
     (λ other. rw (other) (value_past factors x past wants (each_rest (IsWant factors) want wants each)))
 
 -- If some environment has each value that a demand requires, all requirements for one factor have the value of the
--- first of them.
+-- first requirement for that factor.
 value_same : (v : Env) (wants : List Want) (i : ℕ) (want : Want) → list_all (has_wanted v) wants ≡ true → slice_get wants i ≡ Some want
     → demanded_value wants want.factor.0 ≡ want.value
 value_same v [] i want all there = absurd (cc)
@@ -141,8 +141,8 @@ module _ (spec : Parts) (made : IsSpec spec) (demand : Demand) (is : IsDemand sp
     ];
   }
 
-  -- In the environment of a demand, the processors that the demand requires to be up are up, and those that it
-  -- requires to be down are down.
+  -- In the environment of a demand, the processors that the demand requires to be up are up, and the processors that
+  -- the demand requires to be down are down.
   ups : all_up demand.up spoken ≡ true
   ups = (sets_by_members demand.up spoken).1 (λ p bit. elim (low_or_high p (length spec.procs)) [
     | inl low ↦ up_is p low ∙ ap not (is.apart p bit)

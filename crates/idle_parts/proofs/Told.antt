@@ -1,4 +1,4 @@
--- The rules, configurations and demands that are shown as idle are exactly those that have no use.
+-- A rule, a configuration or a demand is shown as idle if and only if it has no use.
 use Rattle.std.proofs.Common.{◌≡◌, ap, length, refl, Bool, true, false}
 use mathlib.Core.Logic.{inl, inr}
 use Rattle.std.specs.Prelude.{◌==◌, not}

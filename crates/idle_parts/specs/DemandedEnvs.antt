@@ -6,7 +6,7 @@ use Rattle.scram_types.specs.declared.rows.Env.{Env}
 use Rattle.scram_types.specs.declared.specification.Demand.{Demand}
 use Rattle.scram_types.specs.declared.specification.Want.{Want}
 
--- The value that the first of the requirements for factor `x` has, or 0 if there is none.
+-- The value in the first requirement for factor `x`, or 0 if there is no such requirement.
 abbrev pub demanded_value : List Want → ℕ → ℕ
 demanded_value [] x = 0
 demanded_value (want ∷ wants) x = if want.factor.0 == x then want.value else demanded_value wants x

@@ -25,8 +25,8 @@ pub record IsFirstSomewhere (spec : Parts) (k : ℕ) (rule : Choice) : Type 0 wh
   pub scope : in_scope spec v ≡ true
   pub first : IsFirstFit spec k rule c v
 
--- Rule `k` is idle if and only if there is no configuration and no environment in scope for which it is the first that
--- fits.
+-- Rule `k` is idle if and only if there is no configuration and no environment in scope for which the rule is the
+-- first that fits.
 pub record IdleRuleIsExact (spec : Parts) (k : ℕ) (rule : Choice) : Type 0 where
   pub idle : is_rule_idle spec k ≡ true
       → (c : ConfId) (v : Env) → c.0 < length spec.confs → IsEnv spec v → in_scope spec v ≡ true → IsFirstFit spec k rule c v → ⊥

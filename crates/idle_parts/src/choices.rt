@@ -118,8 +118,8 @@ fn is_target_of_other(spec: &Spec, set: u16, c: u8, i: u8) -> bool
     i != c && is_asked(spec, set, ConfId(i), ConfId(c))
 }
 
-// Returns `true` if acceptance does not require a bound. `set` has the targets to which acceptance requires a bound
-// from the bound's source.
+// Returns `true` if acceptance does not require a bound from the source of `bound` to its target. `set` has the
+// targets to which acceptance requires a bound from that source.
 pub(crate) fn is_bound_idle(spec: &Spec, set: u16, bound: &Bound) -> bool
     requires set { set ≡ asked_bounds spec.now bound.now.from }
     requires to { bound.now.to.0 < length spec.now.confs }

@@ -12,7 +12,7 @@ pub(crate) enum PartKind {
     Conf,
     Factor,
     Bound,
-    // The kind of the modes of applications.
+    // The modes of applications.
     Mode,
     App,
     Proc,

@@ -1,4 +1,4 @@
--- After an event the kernels of both units and the processors in flight are those of the new state.
+-- After an event, the kernels of both units and the processors in flight satisfy `PairCoreKeeps` for the new state.
 use Rattle.std.proofs.Common.{◌≡◌, ◌∙◌, ℕ, suc, ◌<◌, ◌≤◌, refl, ap, sym, subst, arith, List, length}
 use Rattle.std.specs.Prelude.{Option}
 use Rattle.scram_types.specs.declared.ids.ProcId.{ProcId}
@@ -64,7 +64,8 @@ module _ {X : Type 0} {Y : X → Type 0} (old new : PairParts) where
     flyers = flyers_go old new (Fly p u) step flyers2 are;
   }
 
-  -- After a note of unit 0, the kernel of unit 0 agrees with the unit, and the kernel of unit 1 is unchanged.
+  -- If unit 0 makes a note, and its new kernel satisfies `IsKernelOf`, then `PairCoreKeeps` holds for this kernel and
+  -- the unchanged kernel of unit 1.
   pub first_notes : (u : ℕ) (p : ProcId) → u ≡ 0 → IsPairStep old (Note u p) new → (first first2 second : KernelParts) (flyers : List (Flyer X Y)) → PairCoreKeeps old first second flyers → IsKernelOf new u first2 → PairCoreKeeps new first2 second flyers
   first_notes u p zero step first first2 second flyers k is =
       let own : IsPairStep old (Note 0 p) new = subst (λ (v : ℕ). IsPairStep old (Note v p) new) zero step in record {

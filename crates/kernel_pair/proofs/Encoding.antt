@@ -1,4 +1,4 @@
--- If the words of a list are written one by one, the list contains the words of an image.
+-- Lemmas that a list contains the words of an image after they have been written to it one by one.
 use Rattle.std.proofs.Common.{◌≡◌, ◌∙◌, ℕ, zero, suc, ℤ, pos, ◌+◌, ◌<◌, ◌≤◌, refl, sym, ap, arith, Bool, true, false, List, [], ◌∷◌, length}
 use Rattle.std.specs.Prelude.{nat_eq, slice_index_or, slice_set, if◌then◌else◌}
 use Rattle.std.proofs.lemmas.Bool.Decides.{nat_tests}
@@ -9,8 +9,8 @@ use Rattle.fail_stop.specs.Flights.{word_in}
 use Rattle.fail_stop.specs.ScriptFlights.{image_words}
 use Rattle.fail_stop.proofs.OpeningLists.{encoded_at}
 
--- If the first `n` words of a list are those of `v`, and `v n` is set at index `n`, then the first `n + 1` words are
--- those of `v`.
+-- If each word of a list before index `n` is the value of `v` at its index, and `v n` is set at index `n`, then each
+-- word before index `n + 1` is the value of `v` at its index.
 pub word_more : (words : List ℕ) (n : ℕ) (v : ℕ → ℕ) (x : ℕ) → n < length words → x ≡ v n → ((j : ℕ) → j < n → slice_index_or words j 0 ≡ v j) → (j : ℕ) → j < n + 1 → slice_index_or (slice_set words n x) j 0 ≡ v j
 word_more words n v x low is before j small = by_place (nat_eq j n) refl where
   set_at : slice_index_or (slice_set words n x) j 0 ≡ (if nat_eq j n then x else slice_index_or words j 0)
@@ -25,8 +25,7 @@ past_end [] i d l = refl
 past_end (x ∷ xs) zero d l = absurd (omega (arith, l))
 past_end (x ∷ xs) (suc i) d l = past_end xs i d (omega (arith, l))
 
--- If each of 64 words is the encoding of the number of an image at the same index, then the words are those of the
--- image.
+-- If each of 64 words encodes the number at the same index of an image, then they are the words of the image.
 pub words_at : (words : List ℕ) (image : List ℤ) → length words ≡ 64 → length image ≡ 64 → ((i : ℕ) → i < 64 → slice_index_or words i 0 ≡ encode (slice_index_or image i (pos 0)))
     → (i : ℕ) → slice_index_or words i 0 ≡ word_in (image_words image) i
 words_at words image long wide each i = by_place (dec_le (suc i) 64)

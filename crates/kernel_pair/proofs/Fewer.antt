@@ -44,7 +44,7 @@ one_less m halt s zero x l less = omega arith
 one_less m halt s (suc zero) x l less = omega arith
 one_less m halt s (suc (suc u)) x l less = absurd (omega arith)
 
--- A further step, or a further frame, reduces the number of steps left.
+-- A further step reduces the number of steps left, also if it begins the next frame.
 step_less : (w d j h : ℕ) → 0 < d → j < w → (d * w - suc j) + h < (d * w - j) + h
 step_less w zero j h l n = absurd (omega arith)
 step_less w (suc d) j h l n = let a : suc d * w ≡ d * w + w = mul_suc w d in rw a (omega arith)

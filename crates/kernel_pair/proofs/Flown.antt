@@ -20,7 +20,7 @@ use Rattle.kernel_pair.proofs.Frames.{restart_past_is}
 use Rattle.scram_types.specs.declared.ids.ProcId.{ProcId}
 
 module _ {X : Type 0} {Y : X → Type 0} (m : Flight) (p f : ℕ) where
-  -- A processor that has halted has a spare rack before it starts.
+  -- A processor that has halted and makes a further frame has a spare rack before it starts.
   pub has_spare : (place : Place) (flyer : Flyer X Y) → IsFlyerAt m p place flyer → frame_to_make (m.restart p) place ≡ Some f → is_halted place ≡ true → is_some flyer.spare ≡ true
   has_spare (At g n) flyer is makes halted = cc
   has_spare (Halted h) flyer is makes halted = let r = restart_past_is (m.restart p) h f makes in is.spare f r.0 r.1

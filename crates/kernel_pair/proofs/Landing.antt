@@ -48,7 +48,7 @@ all_ended k u kernel holds over l going is =
     let stays : OneUnitStays (pair_flight k) (pair_in k) = holds.one_stays in
     ap (λ (x : KernelParts). x.past) is ∙ stays.noted_all over u l going ∙ sym (ap (λ (x : KernelParts). x.script.frames) is)
 
--- If a list replaces the front of a longer list, it is the front of the result.
+-- If a list is written over the front of another list, then it is the front of the result.
 pub written_back : {A : Type 0} (xs ys : List A) (n : ℕ) → n ≡ length ys → take n (ys ++ drop (length ys) xs) ≡ ys
 written_back {A} xs ys n is = ap (λ (m : ℕ). take m (ys ++ drop (length ys) xs)) is ∙ front ys (drop (length ys) xs)
   where

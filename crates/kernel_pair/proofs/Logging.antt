@@ -1,4 +1,5 @@
--- The marks and images that a unit has noted in its frame are those after the frame.
+-- The marks and images that a unit has noted in its frame are the marks and images after the frame in the one-thread
+-- trace.
 use Rattle.std.proofs.Common.{◌≡◌, ◌∙◌, ℕ, suc, ℤ, pos, ◌+◌, ◌<◌, true, false, refl, ap, subst, arith, List, [], length}
 use Rattle.std.specs.Prelude.{nat_lt, slice_index_or}
 use Rattle.std.proofs.lemmas.Bool.Decides.{nat_tests}

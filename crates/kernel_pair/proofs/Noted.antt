@@ -62,8 +62,8 @@ module _ (m : Flight) (halt : Option UnitHalt) (s : Pair) where
       with_same m s v (released (s.unit v)) (none_noted m.procs (suc (s.unit v).frame) some ∙ sym (all_noted m.procs (s.unit v).step (s.unit v).frame (omega (arith, at)))) u
   noted_same some (Stop v) next i u = with_same m s v (halted_unit (halt_frame halt) (s.unit v)) refl u
 
-  -- What holds of a unit whose next event is a note: the unit is in a frame of the flight, and it has not yet noted
-  -- all processors in that frame.
+  -- Facts about a unit whose next event is a note. The unit is in a frame of the flight, and it has not yet noted all
+  -- processors in that frame.
   pub record Noting (u : ℕ) : Type 0 where
     pub low : (s.unit u).step < m.procs
     pub below : (s.unit u).frame < m.frames
@@ -75,7 +75,7 @@ module _ (m : Flight) (halt : Option UnitHalt) (s : Pair) where
       let x : IsUnit m halt u (s.unit u) = k.units u next.0 in
       record { low = g.at.0; below = x.below g.some; before = some_noted m.procs (s.unit u).step (s.unit u).frame g.at.0 }
 
-  -- A note changes the unit that makes it as `noted` states.
+  -- After a note, the unit that has made it is as `noted` defines.
   pub unit_after : (u : ℕ) (p : ProcId) → (pair_after m halt s (Note u p)).unit u ≡ noted p.0 (s.proc p.0) (s.unit u)
   unit_after u p = rw (nat_eq_self u) refl
 

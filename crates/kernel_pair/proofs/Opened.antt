@@ -1,4 +1,4 @@
--- A state whose actors are those of the opening is an opening. A pair in such a state, with no event and enough room,
+-- A state in which each actor is at the opening is an opening. A pair in such a state, with no event and enough room,
 -- satisfies `PairKeeps`.
 use Rattle.std.proofs.Common.{◌≡◌, ◌∙◌, ℕ, zero, suc, ◌+◌, ◌*◌, ◌<◌, ◌≤◌, refl, ap, arith, List, [], length}
 use Rattle.std.specs.Prelude.{Option, nat_eq, slice_index_or, if◌then◌else◌}

@@ -18,8 +18,8 @@ use Rattle.kernel_pair.specs.Kept.{HasMet, IsProcessor, IsStanding, IsUnit, Pair
 use Rattle.kernel_pair.proofs.Frames.{restart_past_is, restart_past_some}
 use Rattle.kernel_pair.proofs.Moving.{both, two}
 
--- If no unit is ahead of frame `k`, the place of a processor is one that `IsPlaced` allows for a single kernel in
--- frame `k`.
+-- If the frame that a processor makes next is not below frame `k`, and at most `k + 1` frames are past for the
+-- processor, then its place satisfies `IsPlaced` for a single kernel in frame `k`.
 pub placed_by : (m : Flight) (k j p : ℕ) (place : Place) → IsStanding m p place → ((f : ℕ) → frame_to_make (m.restart p) place ≡ Some f → NotBelow k j p f) → frames_past place ≤ suc k → IsPlaced m k j p place
 placed_by m k j p (At f n) w a b = record { up = w.up; low = (a f refl).0; high = b; fresh = λ g. w.fresh; within = rw w.fresh (omega arith); noted = (a f refl).1; done = λ g. w.done }
 placed_by m k j p (Halted h) d a b = record {
@@ -74,8 +74,8 @@ module _ (m : Flight) (halt : Option UnitHalt) (s : Pair) (y : Flies m) (k : Pai
       let c = readies_low m (s.unit u).frame (s.unit u).step low in
       both u l (λ (w : ℕ). (s.unit w).frame ≤ (s.unit u).frame) (omega arith) (omega (arith, a, b, c)) v lv
 
-  -- The mark and the image of processor `p` are those after the frame of unit `u`, and the frame that `p` makes next
-  -- is later.
+  -- The mark and the image of processor `p` are its mark and image after the frame of unit `u`, and the frame that
+  -- `p` makes next is later.
   pub record Told (u p : ℕ) : Type 0 where
     pub ahead : (f : ℕ) → frame_to_make (m.restart p) (s.proc p).place ≡ Some f → (s.unit u).frame < f
     pub mark : (s.proc p).mark ≡ mark_before m p (suc (s.unit u).frame)
@@ -97,7 +97,8 @@ module _ (m : Flight) (halt : Option UnitHalt) (s : Pair) (y : Flies m) (k : Pai
         image = λ i li. rw (side_of m p (suc (s.unit u).frame) (s.proc p).mark mark) (o.bank (side m p (suc (s.unit u).frame)) i (omega arith) li ∙ g.held i li);
       }
 
-  -- A processor that makes frame `f` by the words of unit `u` reads the words of that frame.
+  -- Frame `f` is the frame of unit `u`. A processor that makes this frame by the words of `u` reads the kernel image
+  -- and the images of the frame.
   pub record Read (u f : ℕ) : Type 0 where
     pub frame : f ≡ (s.unit u).frame
     pub some : 0 < m.frames

@@ -38,7 +38,8 @@ kernel_full m k j i h l = grind (arith, nat_tests)
 kernel_store : (m : Flight) (k j i d w : ℕ) → j ≡ m.procs + i → w ≡ kernel_at m k j d → (if nat_eq d i then word_in (m.kernel_image (suc k)) i else w) ≡ kernel_at m k (suc j) d
 kernel_store m k j i d w h e = grind (arith, nat_tests)
 
--- If an even ready word lets a unit meet in frame `k`, then it is the word of that frame or of a later one.
+-- If a unit in frame `k` may meet the other unit, and the ready word of the other unit is even, then the other unit
+-- has been ready in frame `k`.
 may_meet_is : (k r : ℕ) → may_meet k (2 * r) ≡ true → suc k ≤ r
 may_meet_is k r e = let even : 2 * r % 2 ≡ 0 = omega arith in grind (arith, nat_tests)
 

@@ -1,5 +1,4 @@
--- The relation between a flight on two units and the state of its pair. It concerns the kernel of each unit and the
--- processors in flight.
+-- The kernels and the processors of a flight on two units, related to the state of its pair.
 use Rattle.std.specs.Prelude.{◌≡◌, ℕ, List, Option, Some, None}
 use Rattle.scram_kernel.specs.Kernels.{KernelParts, kernel_after}
 use Rattle.fail_stop.specs.declared.flyers.Flyer.{Flyer}
@@ -19,7 +18,7 @@ places_in s p = (s.proc p).place
 abbrev pub IsKernelOf : PairParts → ℕ → KernelParts → Type 0
 IsKernelOf pair u kernel = kernel ≡ kernel_after pair.spec pair.script (noted_frames (pair_flight pair) ((pair_in pair).unit u))
 
--- The kernel `kernel` is that of unit 0, `other` is that of unit 1, and the processors in flight are at the places
+-- `kernel` is the kernel of unit 0, and `other` is the kernel of unit 1. The processors in flight are at the places
 -- that they have in the state of the pair.
 pub record PairCoreKeeps {X : Type 0} {Y : X → Type 0} (pair : PairParts) (kernel other : KernelParts) (crew : List (Flyer X Y)) : Type 0 where
   pub first : IsKernelOf pair 0 kernel

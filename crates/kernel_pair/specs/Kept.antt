@@ -26,7 +26,7 @@ abbrev pub IsStanding : Flight → ℕ → Place → Type 0
 IsStanding m p (At f n) = Waiting m p f n
 IsStanding m p (Halted h) = Down m p h
 
--- Processor `p` may be at the place of `x`, and the mark, the end word and the banks of `x` are those of that place.
+-- Processor `p` may be at the place of `x`, and the mark, the end word and the banks of `x` agree with this place.
 pub record IsProcessor (m : Flight) (p : ℕ) (x : Processor) : Type 0 where
   pub place : IsStanding m p x.place
   pub mark : x.mark ≡ mark_at m p x.place
@@ -53,8 +53,8 @@ pub record IsNamed (halt : Option UnitHalt) (u : ℕ) : Type 0 where
   pub is : halt ≡ Some named
   pub unit : u ≡ named.unit
 
--- The words of unit `u`, and the marks and images that the unit has noted, are those of the unit's frame and step.
--- Only the unit that the halt names has halted. If the flight has no frame, the unit makes no step.
+-- The words of unit `u`, and the marks and images that the unit has noted, agree with the unit's frame and step. The
+-- unit has halted only if the halt names it. If the flight has no frame, the unit has made no step.
 pub record IsUnit (m : Flight) (halt : Option UnitHalt) (u : ℕ) (x : KernelUnit) : Type 0 where
   pub below : 0 < m.frames → x.frame < m.frames
   pub still : m.frames ≡ 0 → (x.frame ≡ 0) × (x.step ≡ 0)

@@ -1,4 +1,4 @@
--- A pair with the list of its events, and the invariant of a pair with its list.
+-- A pair with the list of its events, and the invariant of such a pair.
 use Rattle.std.specs.Prelude.{◌≡◌, ℕ, suc, ◌+◌, ◌++◌, ◌≤◌, List, [], ◌∷◌, Option, Some, slice_index_or}
 use Rattle.scram_types.specs.Scripts.{ScriptParts}
 use Rattle.scram_types.specs.Specification.{IsSpec, Parts}
@@ -58,8 +58,8 @@ AreEventWords m s (Meet u) draft word = Unit {0}
 AreEventWords m s (Release u) draft word = Unit {0}
 AreEventWords m s (Stop u) draft word = Unit {0}
 
--- The state of `new` is that of `old` after the event, the event is appended to the list of events, and fewer events
--- remain.
+-- The state of `new` is the state of `old` after the event, the event is appended to the list of events, and fewer
+-- events remain.
 pub record IsPairStep (old : PairParts) (event : PairEvent) (new : PairParts) : Type 0 where
   pub spec : new.spec ≡ old.spec
   pub script : new.script ≡ old.script

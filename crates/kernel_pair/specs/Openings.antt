@@ -6,8 +6,8 @@ use Rattle.kernel_pair.specs.declared.processors.Stand.TheVariants.{Before}
 use Rattle.kernel_pair.specs.declared.processors.ProcessorState.{ProcessorState}
 use Rattle.kernel_pair.specs.declared.units.UnitState.{UnitState}
 
--- Processor `p` is at the beginning of frame 0. Its mark and its end word are 0, and its banks are those in the list
--- of all words.
+-- Processor `p` is at the beginning of frame 0. Its mark and its end word are 0, and its banks are the banks in the
+-- list of all words.
 pub record IsProcessorOpened (list : List ℕ) (p : ℕ) (x : ProcessorState) : Type 0 where
   pub stand : x.stand ≡ Before 0
   pub mark : x.mark ≡ 0

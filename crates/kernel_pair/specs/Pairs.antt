@@ -8,7 +8,8 @@ use Rattle.kernel_pair.specs.declared.events.UnitHalt.{UnitHalt}
 use Rattle.kernel_pair.specs.declared.events.PairEvent.{PairEvent}
 use Rattle.kernel_pair.specs.declared.events.PairEvent.TheVariants.{Fly, Note, Store, Ready, Meet, Release, Stop}
 
--- A processor between two of its frames: its place, its mark, its end word, and word `i` of bank `b`.
+-- A processor between two of its frames: its place, its mark, its end word and its banks. `bank b i` is word `i` of
+-- bank `b`.
 pub record Processor : Type 0 where
   pub place : Place
   pub mark : ℕ
@@ -16,7 +17,7 @@ pub record Processor : Type 0 where
   pub bank : ℕ → ℕ → ℕ
 
 -- A unit: its frame, the number of steps made in it, and the frame of its halt if it has halted. It also has its
--- release word, its ready word, its 20 words, and the marks and the words of the images that it has noted.
+-- release word, its ready word, its 20 kernel words, and the marks and the words of the images that it has noted.
 pub record KernelUnit : Type 0 where
   pub frame : ℕ
   pub step : ℕ
@@ -93,7 +94,7 @@ plan_unit m u k j ready ends =
     else (if nat_lt (suc k) m.frames then plan_noted m u k j ready else None)
 
 -- The next event of unit `u` with state `x`, which has not halted, or `None` if it waits or has made its last note.
--- `stops` is `true` if the unit halts here.
+-- `stops` is `true` if the unit halts before its next step.
 abbrev pub next_going : Flight → ℕ → KernelUnit → ℕ → (ℕ → ℕ) → Bool → Option PairEvent
 next_going m u x ready ends stops = if stops then Some (Stop u) else plan_unit m u x.frame x.step ready ends
 
@@ -104,13 +105,13 @@ next_by m halt u x ready ends =
     if nat_eq m.frames 0 then None
     else (if is_some x.stopped then None else next_going m u x ready ends (stops_at m halt u x.frame x.step))
 
--- The next event of unit `u`, or `None` if the unit waits for a processor or for the other unit, has halted or has
+-- The next event of unit `u`. It is `None` if the unit waits for a processor or for the other unit, has halted or has
 -- made its last note, or if the flight has no frame.
 abbrev pub next_unit : Flight → Option UnitHalt → Pair → ℕ → Option PairEvent
 next_unit m halt s u = next_by m halt u (s.unit u) (s.unit (other_unit u)).ready (λ p. (s.proc p).end)
 
--- An event is a next event of its actor. A processor may have two next events: its next frame by the words of unit 0,
--- and the same frame by the words of unit 1.
+-- The event is a next event of its actor in state `s`. A processor may have two next events: its next frame by the
+-- words of unit 0, and the same frame by the words of unit 1.
 abbrev pub IsPairNext : Flight → Option UnitHalt → Pair → PairEvent → Type 0
 IsPairNext m halt s (Fly p u) = (p.0 < m.procs) × (u < 2) × MakesReleased (m.restart p.0) (s.proc p.0).place (s.unit u).release
 IsPairNext m halt s (Note u p) = (u < 2) × (next_unit m halt s u ≡ Some (Note u p))

@@ -7,7 +7,7 @@ use Rattle.kernel_pair.specs.Rooms.{pair_left}
 abbrev pub left_in : PairParts → ℕ
 left_in k = pair_left (pair_flight k) k.halt (pair_in k)
 
--- The flight of a pair has gone on from `old` to `new`. Fewer events remain, or the pair is unchanged and `Stuck`
+-- The flight of a pair has continued from `old` to `new`. Fewer events remain, or the pair is unchanged and `Stuck`
 -- holds.
 pub record IsFlownOn (old new : PairParts) (Stuck : Type 0) : Type 0 where
   pub spec : new.spec ≡ old.spec

@@ -41,11 +41,11 @@ unit_of x = record {
   images = λ p i. slice_index_or (slice_index_or x.images p []) i 0;
 }
 
--- The state that a lookup past the last processor yields.
+-- The state that is read past the last processor.
 abbrev pub blank_processor : ProcessorState
 blank_processor = record { stand = stand.Before 0; mark = 0; end = 0; banks = [] }
 
--- The state that a lookup past the last unit yields.
+-- The state that is read past the last unit.
 abbrev pub blank_unit : UnitState
 blank_unit = record { frame = 0; step = 0; stopped = None; release = 0; ready = 0; words = []; marks = []; images = [] }
 
@@ -53,7 +53,7 @@ blank_unit = record { frame = 0; step = 0; stopped = None; release = 0; ready = 
 abbrev pub pair_of : PairState → Pair
 pair_of s = record { proc = λ p. processor_of (slice_index_or s.procs p blank_processor); unit = λ u. unit_of (slice_index_or s.units u blank_unit) }
 
--- Word `i` of the image that these words encode, or 0 past the words of the specification.
+-- Word `i` of the image that these words encode, or 0 if an image of the specification has no word `i`.
 abbrev pub word_decoded : Parts → List ℕ → ℕ → ℤ
 word_decoded spec words i = if nat_lt i (width_of spec) then decode (slice_index_or words i 0) else pos 0
 

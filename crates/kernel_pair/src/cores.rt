@@ -209,8 +209,8 @@ impl<'a> PairCore<'a> {
         self.machine.holds();
     }
 
-    /// Returns `true` if no further event is possible. In that case each processor has made all frames or has halted
-    /// for good, and each unit that has not halted has made its last note, or the flight has no frame.
+    /// Returns `true` if no further event is possible. In that case the flight has no frame, or each processor has
+    /// made all frames or has halted for good and each unit that has not halted has made its last note.
     pub fn over(&self) -> bool
         ensures { IsTrue result ↔ IsPairOver (pair_flight self.now) (pair_in self.now) }
     {

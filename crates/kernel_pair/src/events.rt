@@ -21,7 +21,7 @@ pub enum PairEvent {
     Note(u8, ProcId),
     /// The unit stores this word of the kernel image of the next frame.
     Store(u8, u8),
-    /// The unit, which has stored all its words, signals this to the other unit.
+    /// The unit signals to the other unit that it has stored all words of the kernel image.
     Ready(u8),
     /// The unit finds that the other unit is ready too, or has halted.
     Meet(u8),

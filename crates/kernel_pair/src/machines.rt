@@ -87,7 +87,7 @@ impl<'a> PairMachine<'a> {
         pairs_hold();
     }
 
-    /// Returns the setup of the machine.
+    /// Returns the specification, the script and the halt of the pair.
     pub(crate) fn setup(&self) -> Setup<'a>
         ensures spec { result.spec.now ≡ self.now.spec }
         ensures script { result.script.now ≡ self.now.script }
@@ -111,8 +111,8 @@ impl<'a> PairMachine<'a> {
         is_next(&self.setup, &self.state, event)
     }
 
-    /// Makes `event`, a next event of its actor. For a `Fly`, `draft` holds the words of the frame's draft. For a
-    /// `Store`, `word` is the word to store. Other events use neither.
+    /// Makes `event`, which must be a next event of its actor. For a `Fly`, `draft` holds the words of the frame's
+    /// draft. For a `Store`, `word` is the word to store. Other events use neither.
     pub(crate) fn make(&mut self, event: PairEvent, draft: &[u64; 64], word: u64)
         requires next { IsPairNext (pair_flight self.old) self.old.halt (pair_in self.old) event }
         requires words { AreEventWords (pair_flight self.old) (pair_in self.old) event draft.now word }
@@ -178,7 +178,7 @@ impl<'a> PairMachine<'a> {
         images_decoded(self.setup.spec, &self.state.units[usize::from(u)].images)
     }
 
-    /// Returns the events so far.
+    /// Returns the events so far. They are a schedule from the opening to the current state.
     pub(crate) fn events(&self) -> &[PairEvent]
         ensures events { result.now ≡ self.now.events }
         ensures replay { IsPairReplay (pair_flight self.now) self.now.halt self.now.events (pair_in self.now) }
@@ -186,7 +186,7 @@ impl<'a> PairMachine<'a> {
         &self.events
     }
 
-    /// Returns `true` if the pair is over.
+    /// Returns `true` if the pair is over, which means that no further event is possible.
     pub(crate) fn over(&self) -> bool
         ensures { IsTrue result ↔ IsPairOver (pair_flight self.now) (pair_in self.now) }
     {

@@ -18,8 +18,8 @@ use crate::states::PairState;
 use crate::units::UnitState;
 use scram_types::{ProcId, Script, Spec};
 
-/// Makes `event`, a next event of its actor. For a `Fly`, `draft` holds the words of the frame's draft. For a
-/// `Store`, `word` is the word to store. Other events use neither.
+/// Makes `event`, which must be a next event of its actor. For a `Fly`, `draft` holds the words of the frame's draft.
+/// For a `Store`, `word` is the word to store. Other events use neither.
 pub(crate) fn make(
     setup: &Setup,
     state: &mut PairState,
@@ -45,7 +45,7 @@ pub(crate) fn make(
     }
 }
 
-// Makes the next frame of a processor.
+// Makes the next frame of processor `p` with the words of `draft`.
 fn make_frame(setup: &Setup, state: &mut PairState, p: ProcId, u: u8, draft: &[u64; 64])
     requires facts { IsSpec setup.now.spec.now }
     requires fits { Fits setup.now.spec.now setup.now.script.now }

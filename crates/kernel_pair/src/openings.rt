@@ -19,8 +19,8 @@ use frame_model::Sys;
 use scram_types::{NoMemory, ProcId, Script, Spec};
 use std::alloc::Global;
 
-/// Returns the state before the first event, with the kernel's words of the first frame. It reads the banks from a list
-/// of all words, and frees the list before it returns.
+/// Returns the state before the first event, with the kernel's words of the first frame. The banks are read from a
+/// list of all words, which is freed before the function returns.
 ///
 /// # Errors
 ///

@@ -20,7 +20,7 @@ impl PairState {
     ghost use Rattle.kernel_pair.specs.States.{flight_by, pair_of};
     ghost use Rattle.kernel_pair.specs.declared.setups.Setup.{Setup};
 
-    /// Makes a frame of processor `p` with the words of `draft`.
+    /// Makes frame `frame` of processor `p` with the words of `draft`.
     #[tactic(auto, using(crate::proofs::Setting::processor_with))]
     pub(crate) fn fly(&mut self, setup: &Setup, p: ProcId, frame: u32, draft: &[u64; 64])
         requires p { p.0 < 8 }

@@ -1,5 +1,5 @@
--- If a store is next, the processor that stores has looked at all processors, and the word of the store is that of
--- the processor's draft.
+-- If a store is next, the processor that stores has looked at all processors, and the stored word is the word of the
+-- processor's draft.
 use Rattle.std.proofs.Common.{◌≡◌, ◌∙◌, ℕ, zero, suc, ℤ, pos, ◌+◌, ◌<◌, ap, sym, arith, Bool, true, false}
 use Rattle.std.specs.Prelude.{Option, Some, None, nat_lt, slice_index_or, if◌then◌else◌}
 use Rattle.std.proofs.lemmas.Bool.Decides.{nat_tests}

@@ -18,7 +18,7 @@ IsDraftOf mission p made = made.image ≡ draft mission.spec mission.script p ma
 abbrev pub IsDraftWord : MissionParts → ℕ → ℕ → ℕ → ℕ → Type 0
 IsDraftWord mission p f i word = word ≡ word_in (draft_words mission.spec mission.script p f) i
 
--- The snapshot is that of the mission in the frame of its kernel image.
+-- The snapshot is a snapshot of the mission in the frame of the snapshot's kernel image.
 abbrev pub IsSnapshotOf : MissionParts → Snapshot → Type 0
 IsSnapshotOf mission snap = IsSnapshot mission.spec mission.script snap.kernel.frame snap
 

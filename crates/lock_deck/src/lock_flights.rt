@@ -105,7 +105,7 @@ struct Roster {
     asked: [bool; 8],
 }
 
-// Returns the processors of a mission with their racks, from the last processor down. The only error is that memory
+// Returns the processors of a mission with their racks, from the last processor down. Returns an error only if memory
 // runs out.
 fn make_members(
     alloc: Global,
@@ -127,7 +127,7 @@ fn make_members(
 }
 
 // Takes the last rack and the last spare rack, and adds the processor with these racks if the mission has it. The
-// number of the processor is the number of racks that remain. The only error is that memory runs out.
+// number of the processor is the number of racks that remain. Returns an error only if memory runs out.
 fn add_next(
     mission: &Mission,
     racks: &mut Vec<Rack>,
@@ -171,7 +171,7 @@ fn take_rack(racks: &mut Vec<Rack>) -> Option<Rack>
     racks.pop()
 }
 
-// Adds a processor to the processors that wait for a thread. The only error is that memory runs out.
+// Adds a processor to the processors that wait for a thread. Returns an error only if memory runs out.
 fn add_member(members: &mut Vec<CachePadded<Member>>, member: Member) -> Result<(), NoMemory>
     ensures { OnOk result ((mission : MissionParts) → MemberFits mission member → AreMembersOf mission members.old.items
         → AreMembersOf mission members.new.items) }

@@ -64,7 +64,7 @@ impl Member {
         }
     }
 
-    // Drafts from a snapshot, unless the processor has halted.
+    // Sets the last draft to the draft of a snapshot, unless the processor has halted.
     fn draft(&mut self, mission: &Mission, snap: &Snapshot)
         requires saw { IsSnapshotOf mission.now snap.now }
         requires fits { MemberFits mission.now self.old }

@@ -49,17 +49,17 @@ impl<'a, J: FlightOf> SharedCore<'a, J> {
         self.core
     }
 
-    /// Returns `true` if the flight is over, so that no further event can come.
+    /// Returns `true` if the flight is over and no further event is possible.
     pub(crate) fn is_over(&self) -> bool {
         self.core.over()
     }
 
-    /// Returns `true` if a processor has no next step while the flight is not over.
+    /// Returns `true` if the flight is not over and a processor has no next step.
     pub(crate) fn waits(&self, p: ProcId) -> bool {
         self.core.next_of(p).is_none() && !self.core.over()
     }
 
-    /// Returns `true` if neither the kernel nor any of these processors has a next step while the flight is not over.
+    /// Returns `true` if the flight is not over and neither the kernel nor any of these processors has a next step.
     pub(crate) fn all_wait(&self, members: &[Member]) -> bool {
         if self.core.next_kernel().is_some() || self.core.over() {
             return false;

@@ -16,7 +16,8 @@ use event_core::Core;
 use fail_stop::Draft;
 use scram_types::ProcId;
 
-// Applies an event with its word if the event is the next of its actor, and returns whether it was.
+// Applies an event with its word if the event is the next event of its actor. Returns `true` if the event was
+// applied.
 fn make(core: &mut Core, event: Event, word: u64) -> bool
     requires { IsNextIn core.old event → IsWordIn core.old event word }
     ensures spec { core.new.spec ≡ core.old.spec }
@@ -42,7 +43,7 @@ fn is_plain(event: Event) -> bool
     }
 }
 
-// Applies an event that needs no word if the event is the next of its actor, and returns whether it was.
+// Applies an event if it needs no word and is the next event of its actor. Returns `true` if the event was applied.
 fn make_plain(core: &mut Core, event: Event) -> bool
     ensures spec { core.new.spec ≡ core.old.spec }
     ensures script { core.new.script ≡ core.old.script }

@@ -13,8 +13,9 @@ use Rattle.mission_gen.specs.Changes.{change_by, changes_by, count_of_values, fr
 use Rattle.mission_gen.specs.Turns.{Turn, turns_to}
 use Rattle.mission_gen.proofs.Ordering.{AreTurns, IsTurn, Precedes, Sorted, turns_kept}
 
--- The specification has the counts that a generated script requires: two processors, three applications, the failure
--- assumption, two factors with two values each, and four factors with four values each.
+-- The specification has the counts that a generated script requires: two processors, three applications, two factors
+-- with two values each, and four factors with four values each. The failure assumption allows one halt, and has one
+-- change and a window of 40 frames.
 pub record HasCounts (spec : Parts) : Type 0 where
   pub procs : length spec.procs ≡ 2
   pub apps : length spec.apps ≡ 3
@@ -93,7 +94,7 @@ changes_counted : (values : List ℕ) (ts : List Turn) → length (changes_by va
 changes_counted values [] = refl
 changes_counted values (t ∷ ts) = ap suc (changes_counted (values_by values t) ts)
 
--- A list of one item has no later item.
+-- A list of one item satisfies `EachLater` for any relation.
 later_of_one : {A : Type 0} (R : A → A → Type 0) (x : A) → EachLater R (x ∷ [])
 later_of_one R x i zero y z less p q = absurd (omega (arith, less))
 later_of_one R x i (suc j) y z less p q = absurd cc

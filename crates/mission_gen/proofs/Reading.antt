@@ -29,7 +29,7 @@ use Rattle.reconf_spec.specs.Documents.{spec_in, spec_of}
 use Rattle.mission_gen.specs.Specifications.{GivesSpecification, generated_text, uav_text, with_further_factors}
 use Rattle.mission_gen.proofs.Fitting.{HasCounts}
 
--- The result of reading a text that is known to be short and UTF-8.
+-- The result of reading a text as a specification, if the text is not too long and is UTF-8.
 abbrev pub reading : List ℕ → Result Parts DocFault
 reading text = chain (or_broken NO_JSON_TEXT [] (read text)) (λ (d : Data). spec_in d)
 

@@ -23,8 +23,8 @@ use Rattle.mission_gen.specs.Changes.{changes_by, changes_of, frames_of, generat
 use Rattle.mission_gen.specs.Turns.{Turn, turn, turns_in, turns_to}
 use Rattle.mission_gen.proofs.Fitting.{HasCounts}
 
--- The events of a mission: the frames in which its environment may change. Each block has two. The second event of
--- block 5 is the frame after the halt, and the halt comes in the frame of the first.
+-- The events of a mission: the frames in which its environment may change. Each block has two events. The halt is in
+-- the frame of block 5's first event, and the second event of block 5 is the frame after the halt.
 
 abbrev first_event : ℕ → ℕ → ℕ
 first_event n k = first_frame k (random n k)

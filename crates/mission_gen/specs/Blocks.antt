@@ -14,8 +14,8 @@ random n (suc k) = next_random (random n k)
 abbrev pub first_frame : ℕ → ℕ → ℕ
 first_frame k x = 60 * k + (x / 256) % 8
 
--- The number of frames from the change of the first alternator to that of the other, given the block's random number
--- `x`.
+-- The number of frames from the change of the first alternator to the change of the other alternator, given the
+-- block's random number `x`.
 abbrev pub delay : ℕ → ℕ
 delay x = 1 + (x / 4096) % 8
 
@@ -28,6 +28,6 @@ choice x = (x / 65536) % 4
 abbrev pub alternator : ℕ → ℕ
 alternator x = choice x % 2
 
--- The other alternator changes too in the block with random number `x`.
+-- Whether the other alternator changes too in the block with random number `x`.
 abbrev pub turns_both : ℕ → Bool
 turns_both x = nat_le 2 (choice x)

@@ -36,7 +36,7 @@ abbrev pub values_after : List ℕ → List Turn → List ℕ
 values_after values [] = values
 values_after values (turn ∷ turns) = values_after (values_by values turn) turns
 
--- The number of frames of the script of mission `n`, from 1,000 to 19,000.
+-- The number of frames in the script of mission `n`, from 1,000 to 19,000.
 abbrev pub frames_of : ℕ → ℕ
 frames_of n = 1000 + 1000 * (n % 19)
 

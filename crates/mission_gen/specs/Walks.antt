@@ -5,7 +5,7 @@ use Rattle.mission_gen.specs.Blocks.{next_random}
 use Rattle.mission_gen.specs.Changes.{changes_by, values_after}
 use Rattle.mission_gen.specs.Turns.{Turn, turns_in}
 
--- A list of turns was made, and their changes were added to the walk.
+-- The turns of a list were made, and their changes were added to the walk.
 pub record Turned (before after : Walk) (turns : List Turn) : Type 0 where
   pub random : after.random ≡ before.random
   pub values : after.values ≡ values_after before.values turns

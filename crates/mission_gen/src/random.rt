@@ -30,8 +30,8 @@ pub(crate) fn first_frame(k: u32, x: u32) -> u32
     60 * k + x / 256 % 8
 }
 
-/// Returns the number of frames, 1 to 8, from the change of the first alternator to that of the other, given the
-/// block's random number `x`.
+/// Returns the number of frames, 1 to 8, from the change of the first alternator to the change of the other
+/// alternator, given the block's random number `x`.
 pub(crate) fn delay(x: u32) -> u32
     ensures value { result ≡ delay x }
     ensures most { result ≤ 8 }

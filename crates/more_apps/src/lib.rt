@@ -1,5 +1,5 @@
 //! The navigator, the data link and an autopilot without memory as applications in boxes. Whatever the boxes
-//! remember, their answers are the laws of their kinds.
+//! remember, they answer by the laws of their kinds.
 #![tactic(auto)]
 
 pub mod data_link;

@@ -74,12 +74,12 @@ passed d least n (b ∷ text) rest h e =
     let k = leb-true least b q.0 in
     ap (λ (same : Bool). left_after d (cond same (Some n) (Some (suc n))) (text ++ rest)) (ne_eqb b d (λ same. omega (arith, same, k, h))) ∙ passed d least n text rest h p.1
 
--- If all bytes of two texts are from `least` to 126, so are all bytes of their concatenation.
+-- If all bytes of two texts are from `least` to 126, all bytes of their concatenation are from `least` to 126.
 pub both_over : (least : ℕ) (a b : List ℕ) → all_over least a ≡ true → all_over least b ≡ true → all_over least (a ++ b) ≡ true
 both_over least a b e f = list_all-append (over least) a b ∙ and_from _ _ e f
 
--- A position in a text whose lines begin with an angle bracket. It is `Broken` if a line begins with another byte, or
--- if a byte follows the bracket that may not follow it.
+-- A position in a text whose lines begin with an angle bracket. The position is `Broken` if a line begins with
+-- another byte, or if the byte after the bracket is not allowed there.
 pub data Place : Type 0 where
   Start : Place
   Opened : Place
@@ -106,7 +106,7 @@ walk_broken : (ok : ℕ → Bool) (t : List ℕ) → walk ok Broken t ≡ Broken
 walk_broken ok [] = refl
 walk_broken ok (b ∷ t) = walk_broken ok t
 
--- If each of two texts consists of whole lines, their concatenation does as well.
+-- If two texts consist of whole lines, their concatenation consists of whole lines.
 pub walk_both : (ok : ℕ → Bool) (t u : List ℕ) → walk ok Start t ≡ Start → walk ok Start u ≡ Start → walk ok Start (t ++ u) ≡ Start
 walk_both ok t u e f = walk_append ok Start t u ∙ ap (λ (at : Place). walk ok at u) e ∙ f
 
@@ -160,8 +160,8 @@ is_line ok d t good other e =
     ap (λ (b : Bool). walk ok (cond b Inside Broken) t) good
     ∙ line_inside ok t (ap (λ (b : Bool). left_after 10 (cond b (Some 0) (Some 1)) t) (sym other) ∙ e)
 
--- Tests for the byte after the angle bracket of a line: `no_name` passes for lines that do not name a lane, and
--- `a_path` for lines that are paths.
+-- Tests for the byte after the angle bracket of a line. The test `no_name` passes if the line does not name a lane,
+-- and the test `a_path` passes if the line is a path.
 abbrev pub no_name : ℕ → Bool
 no_name b = if b == 116 then false else true
 

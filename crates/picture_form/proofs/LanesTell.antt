@@ -1,4 +1,4 @@
--- If a lane has the same boxes in two flights, the rows of the flights show the same in the lane.
+-- If a lane has the same boxes in two flights, the rows of the flights look alike in the lane.
 use Rattle.std.proofs.Common.{◌≡◌, ℕ, zero, suc, ◌+◌, ◌<◌, ◌≤◌, ◌^◌, Bool, true, false, cond, List, [], ◌∷◌, ◌++◌, Option, Some, None, drop, length, refl, sym, ap, arith, append-nil, append_assoc, ◌∙◌}
 use Rattle.std.specs.Prelude.{◌&&◌, option_and_then, slice_get, if◌then◌else◌}
 use Rattle.std.specs.Option.{option_map_or}
@@ -25,8 +25,8 @@ abbrev pub begun : Parts → Sheet → Strip → ℕ → Option Row → Row → 
 begun spec sheet strip k before row rows =
     begun_text spec sheet row strip k (if is_new strip.lane before row then Some (alike_rows strip.lane row rows + 1) else None)
 
--- The texts of the spans of `rows`, the first of which is row `k`. `before` is the row that precedes them, or `None`
--- if there is none.
+-- The texts of the spans of `rows`, the first of which is row `k`. `before` is the row that precedes `rows`, or
+-- `None` if there is no such row.
 abbrev pub spans_from : Parts → Sheet → Strip → ℕ → Option Row → List Row → List ℕ
 spans_from spec sheet strip k before [] = []
 spans_from spec sheet strip k before (row ∷ rows) = begun spec sheet strip k before row rows ++ spans_from spec sheet strip (suc k) (Some row) rows
@@ -124,8 +124,8 @@ carry_nil lane (Some b) = nil_by (is_seen lane b)
     nil_by true = refl
     nil_by false = refl
 
--- The box of the preceding row also shows `row`, which shows the same in the lane as the preceding row. From `row`
--- on, the box covers one row more than after `row`.
+-- The row `row` looks like the preceding row in the lane, and the box of the preceding row also covers `row`. The box
+-- covers one row more from `row` on than after `row`.
 record GoesOn (lane : Lane) (before : Option Row) (row : Row) (rows : List Row) : Type 0 where
   pub earlier : Row
   pub is : before ≡ Some earlier
@@ -151,15 +151,15 @@ goes_on spec lane (Some b) row rows inside e seen =
           (seen_alike spec lane b row inside alike ∙ seen) alike seen (rows_alike spec lane b row rows inside alike);
     }
 
--- Lemmas on two lists of rows that show the same in a lane.
+-- Lemmas on two lists of rows that look alike in a lane.
 
 -- None of the rows has a box in the lane.
 abbrev pub NoneSeen : Lane → List Row → Type 0
 NoneSeen lane [] = Unit {0}
 NoneSeen lane (row ∷ rows) = (is_seen lane row ≡ false) × NoneSeen lane rows
 
--- Each row shows the same in the lane as the row with the same index in the other list. The rows past the end of the
--- other list have no boxes.
+-- Each row looks like the row with the same index in the other list. The rows past the end of the other list have no
+-- boxes.
 abbrev pub SameRows : Lane → List Row → List Row → Type 0
 SameRows lane [] others = NoneSeen lane others
 SameRows lane (row ∷ rows) [] = NoneSeen lane (row ∷ rows)
@@ -235,7 +235,7 @@ module _ (spec : Parts) (strip : Strip) (sound : IsSpec spec) (inside : IsShownI
       let same : SameBefore strip.lane (Some earlier) (Some other_earlier) = rw (e, f) at first in
       sym (alike_swaps spec strip.lane earlier row other inside a) ∙ alike_swaps spec strip.lane earlier other_earlier other inside same ∙ b
 
-  -- Two rows show the same in the lane, and the boxes that show them cover the same number of following rows.
+  -- Two rows look alike in the lane, and their boxes cover the same number of following rows.
   record BothGoOn (row other : Row) (rows others : List Row) : Type 0 where
     pub alike : are_alike strip.lane row other ≡ true
     pub carried : carry strip.lane (Some row) rows ≡ carry strip.lane (Some other) others
@@ -288,8 +288,8 @@ module _ (spec : Parts) (strip : Strip) (sound : IsSpec spec) (inside : IsShownI
             on.alike on.carried (sym (without sheet k before row rows a) ∙ h ∙ without other_sheet k other_before other others b),
       )))
 
-  -- If a lane has the same text in two flights, each row shows the same in both. The rows past the end of the shorter
-  -- flight have no boxes.
+  -- If a lane has the same text in two flights, each row of one flight looks like the row with the same index in the
+  -- other flight. The rows past the end of the shorter flight have no boxes.
   pub lane_tells : (sheet other_sheet : Sheet) (rows others : List Row) → Each (IsRowDrawn spec) rows → Each (IsRowDrawn spec) others → length rows < 2 ^ 32 → length others < 2 ^ 32
       → spans_text spec sheet rows strip ≡ spans_text spec other_sheet others strip → SameRows strip.lane rows others
   lane_tells sheet other_sheet rows others known drawn few fits h =

@@ -275,7 +275,8 @@ app_shown spec a line told h =
     let w = or_rule_ok NO_FORM (words_in line) (app_in spec a) told h in
     app_by (is_placed_form w.0) (is_bare_form w.0) spec a w.0 told w.2
 
--- If a row can be drawn and an application can have an act, the row with this act can be drawn.
+-- If a row can be drawn and an application can have an act, the row in which the application has this act can be
+-- drawn.
 pub app_drawn : (spec : Parts) (row : Row) (a : ℕ) (told : Done) → IsRowDrawn spec row → IsShownDone spec a told → IsRowDrawn spec (with_app row a told.act told.area)
 app_drawn spec row a told drawn shown = record {
   values = drawn.values;

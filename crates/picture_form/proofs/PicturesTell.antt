@@ -124,7 +124,7 @@ name_rest spec sheet n =
 small : (spec : Parts) (rows : List Row) → IsSpec spec → length rows < 2 ^ 32 → IsSmall (sheet_of spec rows)
 small spec rows sound few = record { rows = few; lanes = lanes_few spec rows sound }
 
--- The text of the boxes of lane `n` of a flight.
+-- The text of the boxes in lane `n` for a flight.
 abbrev boxes : Parts → List Row → ℕ → List ℕ
 boxes spec rows n = spans_text spec (sheet_of spec rows) rows (strip_of (sheet_of spec rows) n)
 
@@ -179,8 +179,8 @@ reports_same spec rows others reports reported sound mine theirs e =
     (stable_spans_walk a_path spec sheet rows refl sound mine.few) (stable_spans_walk a_path spec other_sheet others refl sound theirs.few)
     (boxes_begin spec sheet (drawn_in sheet.rows reports)) (boxes_begin spec other_sheet (drawn_in other_sheet.rows reported)) whole)
 
--- If two flights have the same number of rows and the same text below the lanes, this text is also the same if both
--- are drawn on the sheet of the first flight.
+-- If two flights have the same number of rows and the same text below the lanes, the text is also the same if both
+-- flights are drawn on the sheet of the first flight.
 foot_on : (spec : Parts) (rows others : List Row) → length rows ≡ length others → drop 2 (foot_text (sheet_of spec rows) rows) ≡ drop 2 (foot_text (sheet_of spec others) others)
     → foot_text (sheet_of spec rows) rows ≡ foot_text (sheet_of spec rows) others
 foot_on spec rows others same e =

@@ -1,4 +1,4 @@
--- If two pictures have the same boxes of reconfigurations, they draw the same reconfigurations.
+-- If two pictures have the same boxes of reconfigurations, they show reconfigurations with the same titles.
 use Rattle.std.proofs.Common.{◌≡◌, ℕ, suc, ◌+◌, ◌<◌, ◌^◌, Bool, true, false, cond, List, [], ◌∷◌, ◌++◌, Option, Some, None, drop, map, length, refl, sym, ap, arith, append-nil, append_assoc, ◌∙◌}
 use Rattle.std.specs.Prelude.{codes, nat_lt, slice_get, slice_index, if◌then◌else◌}
 use Rattle.std.specs.Option.{option_map_or}
@@ -87,8 +87,8 @@ boxes_begin spec sheet (report ∷ reports) =
       is = ap (λ (text : List ℕ). (text ++ boxes_of spec sheet reports) ++ 60 ∷ 116 ∷ []) (whole_is spec sheet report) ∙ begins.is;
     }
 
--- If two equal texts consist of lines of stable configurations and of boxes of reconfigurations after them, the boxes
--- are the same.
+-- If two equal texts consist of lines of stable configurations, followed by boxes of reconfigurations, the boxes are
+-- the same.
 pub boxes_same : (lines boxes others more : List ℕ) → walk a_path Start lines ≡ Start → walk a_path Start others ≡ Start → Begins boxes → Begins more → lines ++ boxes ≡ others ++ more → boxes ≡ more
 boxes_same lines boxes others more e f begins other_begins h =
     let whole = sym (append_assoc lines boxes (60 ∷ 116 ∷ [])) ∙ ap (λ (text : List ℕ). text ++ 60 ∷ 116 ∷ []) h ∙ append_assoc others more (60 ∷ 116 ∷ []) in
@@ -142,7 +142,8 @@ titles_same spec sheet other_sheet (report ∷ reports) (other ∷ others) sound
     let more = titles_same spec sheet other_sheet reports others sound few fits known.1 drawn.1 first.behind in
     ap (λ (title : List ℕ). title ∷ map (report_title spec) reports) first.title ∙ ap (λ (titles : List (List ℕ)). report_title spec other ∷ titles) more
 
--- If two flights have the same boxes of reconfigurations, the reconfigurations that they draw have the same titles.
+-- If two flights have the same boxes of reconfigurations, the reconfigurations that the boxes show have the same
+-- titles.
 pub reports_tell : (spec : Parts) (sheet other_sheet : Sheet) (reports others : List Report) → IsSpec spec → sheet.rows < 2 ^ 32 → other_sheet.rows < 2 ^ 32 → Each IsReportDrawn reports → Each IsReportDrawn others
     → boxes_of spec sheet (drawn_in sheet.rows reports) ≡ boxes_of spec other_sheet (drawn_in other_sheet.rows others)
     → drawn_titles spec sheet.rows reports ≡ drawn_titles spec other_sheet.rows others

@@ -73,15 +73,16 @@ word_over word.Lost = refl
 pub plain : (text : List ℕ) → all_over 48 text ≡ true → all_over 32 text ≡ true
 plain text e = all_over_less 32 48 text (omega arith) e
 
--- The lane is not that of configurations, and if it is the lane of an application, the specification has the
--- application.
+-- The lane is the lane of a factor, a processor or an application. If it is the lane of an application, the
+-- specification has the application.
 abbrev pub IsShownIn : Parts → Lane → Type 0
 IsShownIn spec Configuration = ⊥
 IsShownIn spec (InFactor i) = Unit {0}
 IsShownIn spec (InProcessor p) = Unit {0}
 IsShownIn spec (InApplication a) = a < length spec.apps
 
--- Whether a row has a box in a lane. Only a processor that is down has no box.
+-- Whether a row has a box in the lane of a factor, a processor or an application. Only a processor that is down has
+-- no box.
 abbrev pub is_seen : Lane → Row → Bool
 is_seen Configuration row = true
 is_seen (InFactor i) row = true
@@ -164,8 +165,8 @@ word_found word.Lost = refl
 words_differ : (what other : ActWord) → word_text what ≡ word_text other → word_number what ≡ word_number other
 words_differ what other e = same_some (word_number what) (word_number other) (sym (word_found what) ∙ ap (number_in word_names) e ∙ word_found other)
 
--- Two boxes show the same, begin in the same row and have the same number of rows. The boxes begin in rows `k` and
--- `j`, and have `n + 1` and `m + 1` rows.
+-- The first rows of two boxes look alike, and the boxes begin in the same row and have the same number of rows. The
+-- boxes begin in rows `k` and `j`, and have `n + 1` and `m + 1` rows.
 pub record SameEnds (k n j m : ℕ) (alike : Bool) : Type 0 where
   pub same : alike ≡ true
   pub first : k ≡ j
@@ -216,8 +217,8 @@ doing_same act other spec a app k n j m r s sound there shown seen few fits e h 
 same_bits : (p set other : ℕ) → has_bit set p ≡ true → has_bit other p ≡ true → same_bit p set other ≡ true
 same_bits p set other e f = rw (e, f) refl
 
--- If two boxes have the same class, and the texts from their words on are equal, the boxes show the same, begin in
--- the same row and have the same number of rows.
+-- If two boxes have the same class, and the texts from their words on are equal, the first rows of the boxes look
+-- alike, and the boxes begin in the same row and have the same number of rows.
 pub shown_same : (lane : Lane) (spec : Parts) (row other : Row) (k n j m : ℕ) (r s : List ℕ) → IsSpec spec → IsShownIn spec lane → IsRowDrawn spec row → IsRowDrawn spec other
     → is_seen lane row ≡ true → is_seen lane other ≡ true → k + n < 2 ^ 64 → j + m < 2 ^ 64 → class_text lane row ≡ class_text lane other
     → words_text spec lane row ++ 32 ∷ (frames_tail k n ++ 60 ∷ r) ≡ words_text spec lane other ++ 32 ∷ (frames_tail j m ++ 60 ∷ s) → SameEnds k n j m (are_alike lane row other)

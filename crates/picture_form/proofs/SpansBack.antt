@@ -71,8 +71,8 @@ pub record SameBoxes (k n j m : ℕ) (alike : Bool) (rest other_rest : List ℕ)
   pub ends : SameEnds k n j m alike
   pub behind : rest ≡ other_rest
 
--- If two equal texts begin with boxes of a lane, the boxes show the same, begin in the same row and have the same
--- number of rows. The texts after the boxes are equal.
+-- If two equal texts begin with boxes of a lane, the first rows of the boxes look alike, and the boxes begin in the
+-- same row and have the same number of rows. The texts after the boxes are equal.
 pub rects_same : (spec : Parts) (lane : Lane) (y : ℕ) (sheet other_sheet : Sheet) (row other : Row) (k n j m : ℕ) (r s : List ℕ) → IsSpec spec → IsShownIn spec lane → IsRowDrawn spec row
     → IsRowDrawn spec other → is_seen lane row ≡ true → is_seen lane other ≡ true → y ≤ 6000 → k + n < 2 ^ 32 → j + m < 2 ^ 32
     → rect_text spec sheet row (span_of lane y k n) ++ r ≡ rect_text spec other_sheet other (span_of lane y j m) ++ s → SameBoxes k n j m (are_alike lane row other) r s

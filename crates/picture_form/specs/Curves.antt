@@ -26,8 +26,8 @@ drop_of extremes number =
     if distance extremes.least extremes.greatest == 0 then 240
     else 480 - distance extremes.least number * 480 / distance extremes.least extremes.greatest
 
--- Whether a quantity crosses north between two consecutive rows, given its values in them. This interrupts the
--- quantity's curve. Only the heading can cross north.
+-- Whether a quantity crosses north between two consecutive rows, given its values in these rows. Crossing north
+-- interrupts the quantity's curve. Only the heading can cross north.
 abbrev pub crosses_north : Quantity → ℤ → ℤ → Bool
 crosses_north Altitude before number = false
 crosses_north Climb before number = false
@@ -74,7 +74,7 @@ points_text sheet rows curve = texts_below (point_text rows curve) (length rows)
 abbrev pub curve_line_text : Sheet → List Row → Curve → List ℕ
 curve_line_text sheet rows curve = curve_begin sheet curve.y ++ points_text sheet rows curve
 
--- The curve of a quantity with these extremes, or the empty text if there are none.
+-- The curve of a quantity with the given extremes, or the empty text if the extremes are `None`.
 abbrev pub line_between : Sheet → List Row → Quantity → ℕ → Option Extremes → List ℕ
 line_between sheet rows quantity y None = []
 line_between sheet rows quantity y (Some extremes) = curve_line_text sheet rows (record { quantity = quantity; y = y; extremes = extremes })

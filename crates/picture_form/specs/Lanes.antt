@@ -13,8 +13,8 @@ use Rattle.picture_form.specs.declared.spans.Strip.{Strip}
 abbrev pub spans_text : Parts → Sheet → List Row → Strip → List ℕ
 spans_text spec sheet rows strip = texts_below (span_text spec sheet rows strip) (length rows)
 
--- Lane `n` with the y-coordinate of its top. The lanes are those of the factors, the processors and the applications,
--- in this order.
+-- Lane `n` with the y-coordinate of its top. The lanes of the factors are first, followed by the lanes of the
+-- processors and the lanes of the applications.
 abbrev pub strip_of : Sheet → ℕ → Strip
 strip_of sheet n = record { lane = lane_of sheet n; y = lane_y sheet n }
 

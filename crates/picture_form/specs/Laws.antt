@@ -1,5 +1,5 @@
--- The law that two flights that can be drawn and have the same picture show the same, and the laws that every flight
--- and every trace can be drawn.
+-- The laws of pictures. If two flights can be drawn and have the same picture, they show the same. Every flight can
+-- be drawn, and every trace that can be read can be drawn.
 use Rattle.std.specs.Prelude.{◌≡◌, ◌<◌, ◌^◌, ℕ, true, List, Option, filter, length, map, nat_lt, option_map, slice_get, slice_index, Some}
 use lib.Signed.{mag}
 use Rattle.scram_types.specs.Specification.{Each, IsSpec, Parts}
@@ -20,8 +20,8 @@ use Rattle.picture_form.specs.Picture.{picture_text}
 use Rattle.picture_form.specs.Reconfigurations.{report_title}
 use Rattle.picture_form.specs.Sheets.{lane_of, lanes_of, sheet_of}
 
--- A row can be drawn. The values of its factors are bytes, each application has an act that it can have, and altitude
--- and heading are signed 64-bit numbers.
+-- A row can be drawn. The values of its factors are bytes, the act of each application is possible for the
+-- application, and altitude and heading are signed 64-bit numbers.
 pub record IsRowDrawn (spec : Parts) (row : Row) : Type 0 where
   pub values : (x : ℕ) → slice_index row.env.factors x < 2 ^ 8
   pub acts : (a : ℕ) (app : AppSpec) → slice_get spec.apps a ≡ Some app → IsActShown spec app (act_of row a)

@@ -26,13 +26,13 @@ open_line sheet =
 abbrev pub head_text : Sheet → List ℕ
 head_text sheet = open_line sheet ++ part_text Style
 
--- A vertical line at row `k`, with the row's number below.
+-- A vertical line at row `k`, with the row's number below the line.
 abbrev pub tick_line : Sheet → ℕ → List ℕ
 tick_line sheet k =
     codes "<path class=\"tick\" d=\"M" ++ decimal (x_of sheet k) ++ codes " 44V" ++ decimal (bottom_of sheet) ++ codes "\"/><text class=\"axis\" x=\""
     ++ decimal (x_of sheet k) ++ codes "\" y=\"" ++ decimal (bottom_of sheet + 14) ++ codes "\">" ++ decimal k ++ codes "</text>\n"
 
--- The line of tick `j`.
+-- The vertical line of tick `j`, with the number of the tick's row.
 abbrev pub tick_text : Sheet → ℕ → List ℕ
 tick_text sheet j = tick_line sheet (j * rows_of_tick sheet.rows)
 

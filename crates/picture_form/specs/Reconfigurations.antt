@@ -23,7 +23,8 @@ abbrev pub begin_text : Sheet → List Report → ℕ → List ℕ
 begin_text sheet reports n =
     option_map_or (λ (report : Report). if nat_lt report.begin sheet.rows then begin_line sheet report.begin else []) (slice_get reports n) []
 
--- The last frame of a reconfiguration, given its target, or `-` if it has no target, since it is unfinished.
+-- The last frame of a reconfiguration, given its target. The text is `-` if the target is `None`, which means that
+-- the reconfiguration is unfinished.
 abbrev pub end_text : Report → Option ConfId → List ℕ
 end_text report None = codes "-"
 end_text report (Some to) = decimal report.end

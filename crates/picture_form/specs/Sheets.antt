@@ -6,8 +6,8 @@ use Rattle.flight_facts.specs.declared.spans.Lane.{Lane}
 use Rattle.flight_facts.specs.declared.spans.Lane.TheVariants.{Factor, Processor, Application}
 use Rattle.picture_form.specs.declared.sheets.Sheet.{Sheet}
 
--- The sheet of a flight: the number of its rows, and the numbers of the factors, processors and applications of its
--- specification.
+-- The sheet of a flight: the number of rows of the flight, and the numbers of factors, processors and applications of
+-- the specification.
 abbrev pub sheet_of : Parts → List Row → Sheet
 sheet_of spec rows = record { rows = length rows; factors = length spec.factors; procs = length spec.procs; apps = length spec.apps }
 
@@ -17,11 +17,11 @@ pub record IsSheet (sheet : Sheet) : Type 0 where
   pub procs : sheet.procs ≤ 8
   pub apps : sheet.apps ≤ 8
 
--- The width of a row in a picture of this number of rows.
+-- The width of a row in a picture with `rows` rows.
 abbrev pub scale_of : ℕ → ℕ
 scale_of rows = if nat_lt 8000 rows then 1 else (if nat_lt 4000 rows then 2 else (if nat_lt 2000 rows then 4 else 8))
 
--- The number of rows from one tick to the next in a picture of this number of rows.
+-- The number of rows from one tick to the next in a picture with `rows` rows.
 abbrev pub rows_of_tick : ℕ → ℕ
 rows_of_tick rows = if nat_lt 8000 rows then 100 else (if nat_lt 4000 rows then 50 else (if nat_lt 2000 rows then 25 else 10))
 
@@ -41,7 +41,8 @@ width_of sheet rows = scale_of sheet.rows * rows
 abbrev pub lanes_of : Sheet → ℕ
 lanes_of sheet = sheet.factors + sheet.procs + sheet.apps
 
--- Lane `n`. The lanes are those of the factors, the processors and the applications, in this order.
+-- Lane `n`. The lanes of the factors are first, followed by the lanes of the processors and the lanes of the
+-- applications.
 abbrev pub lane_of : Sheet → ℕ → Lane
 lane_of sheet n =
     if nat_lt n sheet.factors then Factor n

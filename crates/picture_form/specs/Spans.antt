@@ -57,7 +57,7 @@ words_text spec (lane.Factor i) row = value_in spec i row
 words_text spec (lane.Processor p) row = codes "up"
 words_text spec (lane.Application a) row = word_text (act_word (act_of row a)) ++ mode_and_proc spec (kind_of_app spec a) (act_of row a)
 
--- The label of an act. For a run it is the mode and the processor, and otherwise the name of the act.
+-- The label of an act: the mode and the processor of a run, or the name of any other act.
 abbrev pub act_label : Parts → ℕ → Act → List ℕ
 act_label spec kind (act.Ran mode proc) = mode_text kind mode.0 ++ codes " " ++ proc_name spec proc.0
 act_label spec kind (act.Halting k n proc) = codes "halting"

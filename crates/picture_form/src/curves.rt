@@ -12,7 +12,8 @@ use flight_facts::spans::row_before;
 use scram_types::Row;
 use trace_text::lines::Line;
 
-/// The curve of a quantity, with the position of its top in pixels and the quantity's extremes.
+/// The curve of a quantity. `y` is the y-coordinate of the curve's top in pixels, and `extremes` are the quantity's
+/// extremes.
 #[derive(Clone, Copy)]
 pub struct Curve {
     pub quantity: Quantity,

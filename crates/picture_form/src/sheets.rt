@@ -16,8 +16,8 @@ pub struct Sheet {
     pub apps: u8,
 }
 
-/// Returns the sheet of a flight: the number of its rows, and the numbers of the factors, processors and applications
-/// of its specification.
+/// Returns the sheet of a flight: the number of rows of the flight, and the numbers of factors, processors and
+/// applications of the specification.
 pub fn sheet_of(spec: &Spec, rows: &[Row]) -> Sheet
     requires { length rows.now < 2 ^ 32 }
     ensures value { result ≡ sheet_of spec.now rows.now }

@@ -21,6 +21,6 @@ impl KindLaw for PowerMonitorLaw {
     }
 }
 
-/// A power monitor, which keeps account of the battery's charge. It answers by the law of kind 2, and repeats its
-/// last answer if the call is the same as the last call.
+/// A power monitor, which tracks the battery's charge. It answers by the law of kind 2, and repeats its last answer
+/// if the call is the same as the last call.
 pub type PowerMonitor = Remembering<PowerMonitorLaw>;

@@ -1,6 +1,6 @@
 //! Functions that create boxes and a rack of five boxes. No function may create boxes of applications and return them
 //! as `App` objects. Therefore `boxed` takes the applications, and `rack_of` takes their boxes. A body that uses
-//! `rack!` has two early returns instead of ten.
+//! `rack!` has two early returns, one for each of these functions, instead of ten.
 
 ghost use Rattle.std.specs.Prelude.{◌≡◌, IfOk};
 

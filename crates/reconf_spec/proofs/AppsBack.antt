@@ -28,7 +28,7 @@ use Rattle.reconf_spec.proofs.Lookups.{all_new, number_back}
 use Rattle.spec_apps.proofs.LongestChains.{all_small, ranks_are}
 use Rattle.scram_doc.proofs.ReadBack.{elements_given, items_back, list_back, whole_back}
 
--- A processor has a valid name that no processor before it has.
+-- A processor is valid, and has a valid name that no processor before it has.
 record NewProc (done : List Proc) (proc : Proc) : Type 0 where
   new : number_from name_of_proc 0 done proc.name ≡ None
   spelled : is_name proc.name ≡ true

@@ -28,7 +28,7 @@ use Rattle.reconf_spec.proofs.Lookups.{all_new, number_back}
 use Rattle.scram_types.proofs.Items.{next_part}
 use Rattle.scram_doc.proofs.ReadBack.{list_back, within_back}
 
--- A mode that an application lists is a mode of its kind.
+-- `mode` is a mode of the kind. The modes of a kind are numbered from 1.
 pub record OfKind (kind mode : ℕ) : Type 0 where
   pub first : 1 ≤ mode
   pub last : mode ≤ modes_of_kind kind

@@ -129,7 +129,7 @@ on_back spec is at on width fits =
     rw (within_back 0 8 at (items_of (on_data spec 0 on)) (omega arith) (omega (arith, count, width)))
     (subst (λ (n : ℕ). folded_from (read_on_app spec.apps) at 0 (replicate n None) (items_of (on_data spec 0 on)) ≡ Ok on) width read)
 
--- If `on` has no modes for an application that must be off, this application is not in `on_set on`.
+-- If `on` has no modes for any application of `off`, then no application is in both `off` and `on_set on`.
 off_free : (on : List (Option (List Mode))) (off : ℕ) → ((a : ℕ) → has_bit off a ≡ true → given on a ≡ None) → IsFree off (on_set on)
 off_free on off one a is = elim (low_or_high a 8) [
   | inl low ↦ has_bits (λ b. is_some (given on b)) 8 a low ∙ ap (λ (o : Option (List Mode)). is_some o) (one a is)

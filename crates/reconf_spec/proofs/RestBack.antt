@@ -118,7 +118,7 @@ bounds_back spec is new at =
     list_back (NewBound spec.confs) (read_bound spec.confs) (bound_data spec.confs) (bound_back spec.confs is.confs_differ) 0 144 at spec.bounds (omega arith) is.bounds_count
     (λ i x e. record { new = new i x e; is = is.bounds i x e })
 
--- A whole number of at most 1,000,000,000 is read back as it was written.
+-- An integer that is at most 1,000,000,000 is read back as it was written.
 number_small : (n : ℤ) → n ≤ℤ pos 1000000000 → as_i64 (of_integer n) ≡ Some n
 number_small (pos n) small = let below : n < 2 ^ 63 = omega (arith, ints, small) in rw (lt-ltb n (2 ^ 63) below) refl
 number_small (negsuc n) small = refl

@@ -70,7 +70,7 @@ names_back [] Retarget spec back = rw (back.procs, back.apps, back.ranks, back.c
 names_back [] Settle spec back = rw (back.procs, back.apps, back.ranks, back.confs, back.factors) refl
 names_back (demand ∷ demands) policy spec back = rw (back.procs, back.apps, back.ranks, back.confs, back.factors) refl
 
--- The specification `spec` with its demands and its policy replaced by these.
+-- The specification `spec` with these demands and this policy in place of its own.
 abbrev with_choice : List Demand → Policy → Parts → Parts
 with_choice demands policy spec = record {
   procs = spec.procs;

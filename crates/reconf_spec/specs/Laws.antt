@@ -1,4 +1,4 @@
--- A property that the libraries of this crate have in common.
+-- The law that names are spelled by the same rule in documents and in specifications.
 use Rattle.std.specs.Prelude.{◌≡◌, ℕ, List}
 use Rattle.scram_doc.specs.Names.{spelled_name}
 use Rattle.scram_types.specs.Names.{name_of}

@@ -1,4 +1,4 @@
--- The properties that a specification needs to be written as a document, in addition to its invariant.
+-- The properties that a specification must have, in addition to its invariant, to be written as a document.
 use Rattle.std.specs.Prelude.{◌≤ℤ◌, ℕ, ℤ, Bool, List, map, is_some, slice_get}
 use Rattle.scram_types.specs.declared.ids.AppId.{AppId}
 use Rattle.scram_types.specs.declared.specification.AppSpec.{AppSpec}
@@ -14,11 +14,11 @@ use Rattle.spec_table.specs.Choices.{wants_factor}
 use Rattle.spec_table.specs.Facts.{IsVariable}
 use Rattle.spec_members.specs.Kept.{IsWritableApp, NoDuplicates, rank_of}
 
--- An entry of `done` requires a value of the same factor as `want`.
+-- Whether an entry of `done` requires a value of the same factor as `want`.
 abbrev pub lists_want : List Want → Want → Bool
 lists_want done want = wants_factor done want.factor.0
 
--- An entry of `done` is a bound for the same pair of configurations as `bound`.
+-- Whether an entry of `done` is a bound for the same pair of configurations as `bound`.
 abbrev pub lists_pair : List Bound → Bound → Bool
 lists_pair done bound = is_some (bound_in done bound.from.0 bound.to.0)
 

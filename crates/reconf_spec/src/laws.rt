@@ -1,4 +1,5 @@
-//! A property that the libraries of this crate have in common, as a law. The contract of the function is the law.
+//! The law that names are spelled by the same rule in documents and in specifications. The contract of the function
+//! is the law.
 
 ghost use Rattle.reconf_spec.specs.Laws.{NamesAreOne};
 

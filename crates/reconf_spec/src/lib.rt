@@ -1,5 +1,5 @@
 //! Specification documents. `read_spec` returns the specification that the bytes encode, or the first broken rule and
-//! the path where the rule is broken, exactly as its definition states.
+//! the path where the rule is broken, exactly as the definition `spec_of` states.
 #![tactic(auto)]
 
 mod documents;

@@ -23,7 +23,7 @@ pub fn write_spec(alloc: Global, spec: &Spec) -> Result<Vec<u8>, NoMemory>
     ensures value { IfOk result (λ text. read text.items ≡ Some (spec_data spec.now)) }
     ensures back { IfOk result (λ text. IsWritable spec.now → spec_of text.items ≡ Ok spec.now) }
 {
-    // A use of a field proves that the specification satisfies its invariant.
+    // From the use of a field, the prover knows that the specification satisfies its invariant.
     let _ = &spec.procs;
     match write_text(alloc, spec) {
         Ok(text) => Ok(text),

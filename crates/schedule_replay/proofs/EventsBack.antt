@@ -41,7 +41,7 @@ from_words spec kind word words event visible short few named count told = recor
   read = rw (legible word words visible short, words_in_back word words visible few, words_back word words visible, named, count, told) refl;
 }
 
--- The name of processor `p` is printable, short, and names `p`.
+-- The name of processor `p` satisfies `is_visible` and has at most 16 bytes.
 record NameThere (spec : Parts) (p : ProcId) : Type 0 where
   visible : is_visible (proc_name spec p.0) ≡ true
   short : length (proc_name spec p.0) ≤ 16
@@ -54,8 +54,8 @@ name_there spec p sound below =
 both : (a b : Bool) → a ≡ true → b ≡ true → (a && b) ≡ true
 both a b e f = and_from a b e f
 
--- A line of two words, the word of a kind of event and the name of processor `p`, encodes the event of that kind and
--- processor.
+-- A line that consists of the word for a kind of event and the name of processor `p` encodes the event of this kind
+-- for `p`.
 of_proc : (spec : Parts) (kind : Verb) (word : List ℕ) (event : Event) (p : ProcId) → IsSpec spec → p.0 < length spec.procs → is_visible word ≡ true → length word ≤ 8
     → verb_named word ≡ Some kind → (2 == word_count kind) ≡ true → event_told spec kind (word ∷ proc_name spec p.0 ∷ []) ≡ Some event
     → LineBack spec (line_of (word ∷ proc_name spec p.0 ∷ [])) event

@@ -1,4 +1,4 @@
--- The rule that is reported for a line is the first that it breaks.
+-- The rule that is reported for a line is the first rule that the line breaks.
 use Rattle.std.proofs.Common.{ℕ, ◌≡◌, ◌≤◌, ◌∙◌, Bool, true, false, List, [], ◌∷◌, Option, Some, None, Result, Ok, Err, length, arith, refl, ap}
 use Rattle.std.specs.Prelude.{◌==◌, ◌&&◌, is_some, nat_le, option_and_then, option_map, if◌then◌else◌}
 use Rattle.std.specs.List.{list_all}

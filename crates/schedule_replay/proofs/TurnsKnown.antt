@@ -14,8 +14,8 @@ use Rattle.fail_stop.specs.ScriptFlights.{flight_of}
 use Rattle.schedule_replay.specs.Events.{HasEvent, HasEvents}
 use Rattle.schedule_replay.specs.Turns.{ending, frames_in_turns, in_turns, releasing, steps_by, turn_of_kernel, turn_of_proc, turns_of_procs}
 
--- Lemmas that the specification has each event of a list that is concatenated from lists of its events, and each
--- event of a turn.
+-- Lemmas that the specification has each event of two concatenated lists if it has each event of both, and that it
+-- has each event of a turn.
 
 each_append : {A : Type 0} (Fact : A → Type 0) (xs ys : List A) → Each Fact xs → Each Fact ys → Each Fact (xs ++ ys)
 each_append Fact [] ys one two i y there = two i y there

@@ -1,4 +1,4 @@
--- The turn of a processor takes the processor from the begin of a frame to the end of the frame.
+-- The turn of a processor takes the processor from the beginning of a frame to the end of the frame.
 use Rattle.std.proofs.lemmas.Bool.{lt-ltb}
 use Rattle.std.proofs.Common.{◌≡◌, ◌≢◌, ◌∙◌, ℕ, zero, suc, ◌+◌, ◌-◌, ◌<◌, ◌≤◌, Bool, true, false, refl, ap, subst, arith, List, [], ◌∷◌, ◌++◌}
 use Rattle.std.specs.Prelude.{Option, Some, None, nat_eq, nat_lt, if◌then◌else◌}
@@ -51,7 +51,8 @@ joined m s (e ∷ es) t fs u i j = (i.0, joined m (happened m s e) es t fs u i.1
 pub kept_after : (m : Flight) (s : Machine) (e : Event) → Flies m → Kept m s.at s.words → IsNext m s.at s.words e → Kept m (happened m s e).at (happened m s e).words
 kept_after m s e y kept next = keeps m s.at s.words (happened m s e).at (happened m s e).words y kept e next (happens_so m s e)
 
--- In state `t` processor `p` is at `place`, and all other actors are at the same places as in state `s`.
+-- State `t` satisfies the invariant `Kept`. In `t`, processor `p` is at `place`, and all other actors are at the same
+-- places as in state `s`.
 pub record Came (m : Flight) (p : ℕ) (s t : Machine) (place : Place) : Type 0 where
   pub kept : Kept m t.at t.words
   pub frame : t.at.frame ≡ s.at.frame
@@ -65,8 +66,7 @@ pub record Leads (m : Flight) (s : Machine) (es : List Event) (p : ℕ) (place :
   pub came : Came m p s state place
 
 -- The place of a processor after its last step of frame `f`, given the step of its halt in the frame, or `None` if it
--- does not halt there. The place is the begin of the next frame, or, with a halt, that of a processor that has halted
--- in `f`.
+-- does not halt there. Without a halt, the place is the beginning of the next frame. With a halt, it is `Halted f`.
 abbrev pub ended_at : ℕ → Option ℕ → Place
 ended_at f None = At (suc f) 0
 ended_at f (Some s) = Halted f
@@ -106,8 +106,8 @@ module _ (m : Flight) (y : Flies m) (p : ℕ) (low : p < m.procs) where
   asked : (s : Machine) (place : Place) → s.at.proc p ≡ place → next_of m s.at s.words p ≡ next_from m p (s.words ReleaseWord) place
   asked s place here = rw (lt-ltb p m.procs low, here) refl
 
-  -- The next `count` events of a processor, all of one kind, lead it from step `suc n` of frame `f` to the step after
-  -- them.
+  -- The next `count` events of a processor, all of one kind, lead the processor from step `suc n` of frame `f` to
+  -- step `suc (n + count)`.
   many : (f n : ℕ) (value : ℕ → Event) (count : ℕ) (s : Machine) → Kept m s.at s.words → s.at.proc p ≡ At f (suc n) → ((k : ℕ) → IsOf p (value k))
       → ((k : ℕ) → k < count → plan m p f (suc (n + k)) ≡ Some (value k)) → ((k g j : ℕ) → moved m (value k) p (At g j) ≡ At g (suc j))
       → Leads m s (listed_below value count) p (At f (suc (n + count)))

@@ -94,7 +94,7 @@ module _ (m : Flight) (y : Flies m) where
             goes = ap (moved m (Start (proc_id p)) p) here ∙ (rw b.is (ap (λ (k : ℕ). At k 1) same));
           }
 
-  -- The place that a processor has before its turn in a frame in which it is down is also a place after the turn.
+  -- If a processor is down in frame `f`, then its place before its turn in the frame is also a place after the turn.
   down_went : (s : Machine) (p f : ℕ) (place : Place) → s.at.frame ≡ f → m.up p f ≡ false → IsPlaced m s.at.frame s.at.step p place → Waits f place → Went m p f place
   down_went s p f (At g n) frame down is w = absurd (let same : m.up p f ≡ true = subst (λ (k : ℕ). m.up p k ≡ true) w.0 is.up in let bad : true ≡ false = sym same ∙ down in cc)
   down_went s p f (Halted h) frame down is w = (omega (arith, w), not_back (back_by (m.restart p) h f) refl)
@@ -128,7 +128,8 @@ module _ (m : Flight) (y : Flies m) where
     went = down_went s p f (s.at.proc p) frame down (kept.placed p low) w;
   }
 
-  -- The kernel is at the begin of frame `f`, and no processor has yet had its turn in the frame.
+  -- State `s` satisfies the invariant `Kept`. The kernel is at the beginning of frame `f`, and no processor has yet
+  -- had its turn in the frame.
   record Begun (s : Machine) (f : ℕ) : Type 0 where
     kept : Kept m s.at s.words
     frame : s.at.frame ≡ f
@@ -180,8 +181,8 @@ module _ (m : Flight) (y : Flies m) where
       or_true true = refl
       or_true false = refl
 
-  -- The events `es` lead from state `s` to a state in which the kernel has made `j` steps of frame `f` and the
-  -- processors are at the same places as in `s`.
+  -- The events `es` lead from state `s` to a state that satisfies the invariant `Kept`. In this state, the kernel has
+  -- made `j` steps of frame `f`, and the processors are at the same places as in `s`.
   record Kernel (s : Machine) (es : List Event) (f j : ℕ) : Type 0 where
     state : Machine
     schedule : IsSchedule m s es state
@@ -237,7 +238,7 @@ module _ (m : Flight) (y : Flies m) where
         procs = k.procs;
       }
 
-  -- The events `es` lead from state `s` to the begin of frame `f`.
+  -- The events `es` lead from state `s` to the beginning of frame `f`.
   record Next (s : Machine) (es : List Event) (f : ℕ) : Type 0 where
     state : Machine
     schedule : IsSchedule m s es state
@@ -267,7 +268,7 @@ module _ (m : Flight) (y : Flies m) where
   moved_went : (s t : Machine) (f : ℕ) → ((p : ℕ) → t.at.proc p ≡ s.at.proc p) → ((p : ℕ) → p < m.procs → Went m p f (s.at.proc p)) → (p : ℕ) → p < m.procs → Went m p f (t.at.proc p)
   moved_went s t f same went p low = subst (Went m p f) (sym (same p)) (went p low)
 
-  -- The turns of a frame that is not the last lead to the begin of the next frame.
+  -- The turns of a frame that is not the last lead to the beginning of the next frame.
   frame_leads : (s : Machine) (f : ℕ) → suc f < m.frames → Begun s f → Next s (turns_of_procs m f m.procs ++ turn_of_kernel m f) (suc f)
   frame_leads s f flying b =
       let r = round s f m.procs (omega (arith, flying)) b (omega arith) in

@@ -13,12 +13,12 @@ use Rattle.schedule_replay.specs.declared.verbs.Verb.TheVariants.{Start, Look, S
 use Rattle.schedule_replay.specs.Reading.{event_read, is_legible, verb_of}
 use Rattle.schedule_replay.specs.Verbs.{word_count}
 
--- Whether no word is empty and the number of words is that of an event of the kind.
+-- Whether no word is empty and the number of words is `word_count verb`.
 abbrev pub has_words : List (List ℕ) → Verb → Bool
 has_words words verb = list_all is_filled words && (length words == word_count verb)
 
--- The kind of event that the first word of a line names, if the words of the line have the form of that kind.
--- Otherwise the value is `None`.
+-- The kind of event that the first word of a line names, if the words of the line satisfy `has_words`. Otherwise the
+-- value is `None`.
 abbrev pub event_form : List ℕ → Option Verb
 event_form line = option_and_then (λ (verb : Verb). if has_words (words_of line) verb then Some verb else None) (verb_of line)
 

@@ -30,12 +30,12 @@ is_legible line = nat_le (length line) MAX_EVENT_BYTES && list_all is_printable 
 abbrev pub verb_of : List ℕ → Option Verb
 verb_of line = verb_named (word_at (words_of line) 0)
 
--- The words of a line if their number is that of an event of the kind, or `None` if it is not.
+-- The words of a line if their number is `word_count verb`, or `None` otherwise.
 abbrev pub words_counted : Verb → List (List ℕ) → Option (List (List ℕ))
 words_counted verb words = if length words == word_count verb then Some words else None
 
--- The words of a line if none of them is empty and their number is that of an event of the kind. Otherwise the value
--- is `None`, and the line breaks rule 3.
+-- The words of a line if none of them is empty and their number is `word_count verb`. Otherwise the value is `None`,
+-- and the line breaks rule 3.
 abbrev pub words_for : Verb → List ℕ → Option (List (List ℕ))
 words_for verb line = option_and_then (words_counted verb) (words_in line)
 
@@ -73,8 +73,8 @@ event_read spec line = if is_legible line then line_event spec line else Err BRO
 abbrev pub schedule_fault : ℕ → ℕ → ScheduleFault
 schedule_fault line rule = record { line = line; rule = rule }
 
--- The result of reading from line `k` on, given the result of reading line `k`. If that line encodes an event, it is
--- the result of `next` for the event. If the line breaks a rule, it is the fault of line `k`.
+-- The result of reading from line `k` on, given the result of reading line `k`. If that line encodes an event, the
+-- result is `next` applied to the event. If the line breaks a rule, the result is the fault of line `k`.
 abbrev pub read_on : ℕ → Result Event ℕ → (Event → Result (List Event) ScheduleFault) → Result (List Event) ScheduleFault
 read_on k (Ok event) next = next event
 read_on k (Err rule) next = Err (schedule_fault k rule)
@@ -93,7 +93,7 @@ events_from spec k so_far (line ∷ next ∷ lines) =
 abbrev pub schedule_of : Parts → List ℕ → Result (List Event) ScheduleFault
 schedule_of spec bytes = if nat_lt MAX_SCHEDULE_BYTES (length bytes) then Err (schedule_fault 0 TOO_LONG) else events_from spec 1 [] (pieces_of 10 bytes)
 
--- The answer of the reader has the events or the fault of the given result of the reading, or is out of memory.
+-- The answer has the same events or the same fault as `reading`. Out of memory is always an answer.
 abbrev pub AnswersSchedule : {A : Type 0} → Result (List Event) ScheduleFault → Result (Vec Event A) ScheduleError → Type 0
 AnswersSchedule reading (Ok list) = reading ≡ Ok list.items
 AnswersSchedule reading (Err (Fault fault)) = reading ≡ Err fault

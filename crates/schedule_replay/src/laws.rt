@@ -22,8 +22,8 @@ pub fn least_rule_is_reported()
 {}
 
 /// States that, apart from out of memory, a list of events has one answer. If the list is a whole schedule, the
-/// answer is the trace. Otherwise it is the first event that is not the next of its actor, or the event that would
-/// come next if the list ends too early.
+/// answer is the one-thread trace. Otherwise it is the first event that is not the next of its actor, or the event
+/// that would come next if the list ends too early.
 pub fn a_list_has_one_answer()
     ensures { OneAnswer }
 {}

@@ -21,15 +21,15 @@ use std::alloc::Global;
 /// The reason why a list of events was not flown as a schedule to the end of the flight.
 #[derive(Clone, Copy, Debug)]
 pub enum ReplayError {
-    /// The event at this index, counted from 0, is the first that is not the next of its actor. `next` is the actor's
-    /// next event, or `None` if it has none.
+    /// The event at this index, counted from 0, is the first event of the list that is not the next of its actor.
+    /// `next` is the actor's next event, or `None` if it has none.
     Illegal {
         index: u32,
         given: Event,
         next: Option<Event>,
     },
     /// All `events` events of the list were made, and the flight is not over. `next` is the next event of the first
-    /// processor that has one, or that of the kernel if no processor has one.
+    /// processor that has one, or the next event of the kernel if no processor has one.
     Short {
         events: u32,
         next: Event,
@@ -126,7 +126,7 @@ fn events_made(core: &Core) -> u32
     core.history().len() as u32
 }
 
-// Returns the word for the step of an event if the event is the next of its actor, or 0 if it is not.
+// Returns the word that `Core::step` needs for an event, or 0 if the event is not the next of its actor.
 fn word_where_next(core: &Core, spec: &Spec, flyers: &mut Flyers, event: Event) -> u64
     requires spec { core.now.spec ≡ spec.now }
     requires fits { FlyBy core.now flyers.old }
@@ -155,8 +155,8 @@ fn land(core: Core, spec: &Spec, events: &[Event]) -> Result<Flown, ReplayError>
     }
 }
 
-// Returns the next event of the first processor that has one, or that of the kernel if no processor has one, or `None`
-// if the flight is over.
+// Returns the next event of the first processor that has one, or the next event of the kernel if no processor has
+// one. Returns `None` if the flight is over.
 fn pending(core: &Core, spec: &Spec) -> Option<Event>
     requires spec { core.now.spec ≡ spec.now }
     ensures over { result ≡ None → IsOverIn core.now }

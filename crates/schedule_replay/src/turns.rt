@@ -190,7 +190,7 @@ fn add(list: &mut Vec<Event>, event: Event) -> Result<(), NoMemory>
     Ok(())
 }
 
-/// Returns the number of processors.
+/// Returns the number of processors of a specification.
 pub(crate) fn proc_count(spec: &Spec) -> u8
     ensures { result ≡ length spec.now.procs }
 {

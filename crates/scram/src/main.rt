@@ -18,13 +18,13 @@ use std::thread::Threads;
 const NO_MEMORY: u8 = 9;
 /// The status if a line that this file prints cannot be written.
 const UNWRITTEN_OUTPUT: u8 = 4;
-/// The status if the boxes that the program makes are not those of the kinds of applications.
+/// The status if a box that the program makes is not of the kind that its place in the rack requires.
 const UNFIT_RACKS: u8 = 1;
 
 fn main(rt: HostRuntime) -> ExitCode {
     let words = match words(&rt) {
         Ok(words) => words,
-        // Words that are not all UTF-8 have no form, and neither does the empty list of words that takes their place.
+        // Words that are not all UTF-8 have no form. They are replaced by the empty list, which has no form either.
         Err(error) if error.kind() != ErrorKind::OutOfMemory => Vec::new(rt.alloc()),
         Err(_) => return refuse_memory(&rt),
     };
@@ -34,8 +34,8 @@ fn main(rt: HostRuntime) -> ExitCode {
     }
 }
 
-/// Prints the line that reports out of memory. Returns `NO_MEMORY`, or `UNWRITTEN_OUTPUT` if the line cannot be
-/// written. Nothing has been read or printed before.
+/// Prints the out-of-memory line. Returns `NO_MEMORY`, or `UNWRITTEN_OUTPUT` if the line cannot be written. Nothing
+/// has been read or printed before.
 fn refuse_memory(rt: &HostRuntime) -> ExitCode {
     match println!(rt; "refused: memory") {
         Ok(()) => ExitCode::from(NO_MEMORY),
@@ -59,8 +59,8 @@ fn answer<R: AllocGlobal + Files + Print + Threads + Wait + Sync>(
     Ok(status.code)
 }
 
-/// Prints the line that reports that the boxes are not those of the kinds of applications. Returns `UNFIT_RACKS`, or
-/// `UNWRITTEN_OUTPUT` if the line cannot be written.
+/// Prints the line that refuses the boxes. Returns `UNFIT_RACKS`, or `UNWRITTEN_OUTPUT` if the line cannot be
+/// written.
 fn refuse_racks(rt: &HostRuntime) -> u8 {
     match println!(rt; "refused: racks") {
         Ok(()) => UNFIT_RACKS,

@@ -33,8 +33,8 @@ short_by : {A E : Type 0} (few : Bool) (read : Result A E) (fault : E) (value : 
 short_by true read fault value is = refl
 short_by false read fault value is = absurd (let e = is in cc)
 
--- The status and the text are the answer after a file was read. The further reads agree with the map, and the count
--- of faults did not fall before them.
+-- The status and the text are the answer after a file was read. The further reads agree with the map, and the fault
+-- count did not fall before the further reads.
 record RestAnswers (map : FileMap) (Answers : Answer) (before after : FilesState) (status : ℕ) (text : List ℕ) : Type 0 where
   rest : History
   between : FilesState
@@ -145,7 +145,7 @@ has_room specification script map mission before old holds room = record {
   memory = room.memory;
 }
 
--- If no fault count rose, the text that was written is the answer, or the line that reports out of memory.
+-- If the fault count of the sink did not rise, the whole text was written, and the code is its status.
 shown_whole : (old new : SinkState) (code status : ℕ) (text : List ℕ) → Unrisen old.faults new.faults
     → ((code ≡ status) × WentOut old new text) ⊎ ((code ≡ UNWRITTEN_OUTPUT) × StoppedIn old new text) → (code ≡ status) × WentOut old new text
 shown_whole old new code status text quiet (inl is) = is

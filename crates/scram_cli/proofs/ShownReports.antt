@@ -1,5 +1,5 @@
--- The reconfigurations that are read off the rows are within the flight, and the text that is printed for a flight
--- can be read.
+-- The reconfigurations that are derived from the rows are within the flight, and the text that is printed for a
+-- flight can be read.
 use Rattle.std.proofs.Common.{◌≡◌, ℕ, zero, suc, ◌<◌, ◌≤◌, ◌+◌, Bool, true, false, cond, List, [], ◌∷◌, ◌++◌, length, arith, refl, subst}
 use Rattle.std.specs.Prelude.{IfSome, Option, Some, None, option_map}
 use Rattle.scram_types.specs.declared.rows.Row.{Row}
@@ -67,7 +67,7 @@ read_shown : (spec : Parts) (f : ℕ) (reading : Reading) (acts : List Act) → 
 read_shown spec f (Steady c) acts known = left_by (runs spec acts c) spec f c known
 read_shown spec f (Leaving c begin) acts left = arrive_shown spec f c begin (running spec acts) left (running_known spec acts)
 
--- Lemmas that the reconfigurations that are read off the rows are within the flight.
+-- Lemmas that the reconfigurations that are derived from the rows are within the flight.
 
 each_append : {A : Type 0} (P : A → Type 0) (xs ys : List A) → Each P xs → Each P ys → Each P (xs ++ ys)
 each_append P [] ys h k i x there = k i x there

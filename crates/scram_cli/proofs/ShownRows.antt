@@ -63,7 +63,7 @@ wider low high least most x a b c d = (omega (arith, ints), omega (arith, ints))
 
 -- Lemmas that the areas of applications can be in a trace.
 
--- The range of word `i` of a kind lies within -1,000,000 to 1,000,000.
+-- Whether the range of word `i` of a kind is within -1,000,000 to 1,000,000.
 abbrev is_small : ℕ → ℕ → Bool
 is_small kind i = int_le (minus 1000000) (sane kind i).0 && int_le (sane kind i).1 (pos 1000000)
 

@@ -1,5 +1,5 @@
 -- The answers of the command. An answer is a status and a text, which depend on the words of the command and on the
--- bytes of the files that they name.
+-- bytes of the files that the words name.
 use Rattle.std.specs.Prelude.{ℕ, List, Option, Some, None, codes}
 use Rattle.form_base.specs.declared.status.TheConstants.{ANSWERED, BROKEN_USAGE}
 use Rattle.form_base.specs.Answers.{Answer, Gives, WithoutFiles}
@@ -50,7 +50,7 @@ QuestionAnswers (Fill specification) = FillAnswers specification
 QuestionAnswers (Choices specification) = ChoicesAnswers specification
 QuestionAnswers (Choose specification conf state) = ChooseAnswers specification conf state
 
--- The answer to a look at a trace, given the names of the files of a specification and of the trace.
+-- The answer to a look at a trace, given the names of the specification's file and the trace's file.
 abbrev pub LookAnswers : Look → List ℕ → List ℕ → Answer
 LookAnswers Props specification trace = PropsAnswers specification trace
 LookAnswers Summary specification trace = ViewAnswers summary_text specification trace

@@ -22,7 +22,7 @@ use Rattle.scram_cli.specs.declared.pages.Page.TheVariants.{Help, Version}
 abbrev pub mission_number : List ℕ → Option ℕ
 mission_number word = spelled_number 1000000 word
 
--- The form of a command and a word that spells a number, or `None` if there is no such form.
+-- The form that consists of a command and a word that spells a number, or `None` if there is no such form.
 abbrev pub form_of_number : List ℕ → List ℕ → Option (Form (List ℕ))
 form_of_number command word =
     if bytes_eq command (codes "gen") then option_map (λ (number : ℕ). Flight (Gen number)) (mission_number word)
@@ -48,8 +48,8 @@ abbrev pub form_of_two : List ℕ → List ℕ → Option (Form (List ℕ))
 form_of_two command word =
     option_or (option_map (λ (question : SpecificationForm (List ℕ)). Specification question) (question_of command word)) (form_of_number command word)
 
--- The form about flights of a command, the name of a specification's file and a further word, or `None` if there is no
--- such form.
+-- The form about flights that consists of a command, the name of a specification's file and a further word, or `None`
+-- if there is no such form.
 abbrev pub flight_of_three : List ℕ → List ℕ → List ℕ → Option (FlightForm (List ℕ))
 flight_of_three command specification further =
     if bytes_eq command (codes "run") then Some (Run specification further)
@@ -117,8 +117,8 @@ form_of_few (command ∷ first ∷ second ∷ third ∷ fourth ∷ []) = None
 form_of_few (command ∷ first ∷ second ∷ third ∷ fourth ∷ fifth ∷ []) = form_of_six command first second third fourth fifth
 form_of_few (command ∷ first ∷ second ∷ third ∷ fourth ∷ fifth ∷ sixth ∷ words) = None
 
--- The form of the words after the program's name, or `None` if there is no such form. The form has the names of its
--- files.
+-- The form of the words after the program's name, or `None` if there is no such form. The form contains the names of
+-- the files.
 abbrev pub form_of : List (List ℕ) → Option (Form (List ℕ))
 form_of [] = form_of_few []
 form_of (command ∷ []) = form_of_few (command ∷ [])

@@ -35,15 +35,15 @@ pub record HoldsMission (map : FileMap) (specification_name script_name : List �
   pub sound : IsSpec mission.spec
   pub is_mission : IsMission mission
 
--- The sink is known to have room for the text, and also for the line that reports out of memory.
+-- The sink is known to have room for the text, and also for the out-of-memory line.
 pub record HasRoomFor (sink : SinkState) (text : List ℕ) : Type 0 where
   pub room : ℕ
   pub told : sink.surely ≡ Some room
   pub fits : length text ≤ room
   pub memory : length memory_line ≤ room
 
--- Either the status is 0 and the text was written, or the status is that of out of memory and the line that reports it
--- was written.
+-- Either the status is 0 and the text was written, or the status is `OUT_OF_MEMORY` and the out-of-memory line was
+-- written.
 abbrev pub EndsAnswered : List ℕ → SinkState → SinkState → ℕ → Type 0
 EndsAnswered text old new code = ((code ≡ ANSWERED) × WentOut old new text) ⊎ ((code ≡ OUT_OF_MEMORY) × WentOut old new memory_line)
 

@@ -313,7 +313,7 @@ fn answer_question<F: Files, K: Sink>(
     }
 }
 
-// Answers a look at a trace of missions of a specification.
+// Answers a look at the trace in a file, by the specification in another file.
 fn look_at<F: Files, K: Sink>(
     alloc: Global,
     look: Look,

@@ -30,7 +30,7 @@ pub enum Form<N> {
     Specification {
         question: SpecificationForm<N>,
     },
-    /// A look at a trace of missions of a specification.
+    /// A look at the trace in a file, by the specification in another file.
     Trace {
         look: Look,
         specification: N,
@@ -118,7 +118,7 @@ pub enum SpecificationForm<N> {
     Choices {
         specification: N,
     },
-    /// Prints the choice from a configuration in a state. The configuration is named before the state.
+    /// Prints the choice from a configuration in a state of the environment.
     Choose {
         specification: N,
         conf: N,
@@ -296,8 +296,8 @@ fn form_of_explained<'a>(
     }
 }
 
-// Returns the form about flights of a command, the name of a specification's file and a further word, or `None` if
-// there is no such form.
+// Returns the form about flights that consists of a command, the name of a specification's file and a further word,
+// or `None` if there is no such form.
 fn flight_of_three<'a>(
     command: &str,
     specification: &'a str,

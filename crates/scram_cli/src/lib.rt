@@ -1,5 +1,5 @@
-//! The command. Its answer is a function of its words and of the bytes of the files that they name, with one
-//! exception: if the needs of the applications have several cycles, the answer may contain any of them.
+//! The command. Its answer is a function of its words and of the bytes of the files that the words name, with one
+//! exception. If the needs of the applications have several cycles, the answer may contain any of the cycles.
 #![tactic(auto)]
 
 mod command;

@@ -23,7 +23,7 @@ use std::thread::Threads;
 /// the files with the names and bytes that were read, in order, and the output with the bytes that were written.
 ///
 /// The status and the bytes that were written are the answer to the words and to the bytes that were read. If the
-/// status is 0, what was flown is assured. Nothing is required of the files or the output.
+/// status is 0, the assurance of the form holds. Nothing is required of the files or the output.
 ///
 /// # Errors
 ///

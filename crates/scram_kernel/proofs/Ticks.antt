@@ -25,8 +25,8 @@ use Rattle.scram_kernel.specs.Marks.{AreImages, AreMarks}
 use Rattle.scram_kernel.proofs.Rows.{keepers_are, row_is}
 use Rattle.frame_model.specs.Frames.{sys_of}
 
--- `row`, `keepers` and `next` are those of a tick that ends frame `n`. The marks and images are those after frame
--- `n`. The row, the keepers and the next image are computed from the marks and images.
+-- `row`, `keepers` and `next` are the results of a tick that ends frame `n`. The marks and images are those after
+-- frame `n`. The row, the keepers and the next image are computed from the marks and images.
 pub record Ticks (spec : Parts) (script : ScriptParts) (n : ℕ) (image : KernelImage) (areas : List (List ℤ)) (marks : List ℕ) (images : List (List ℤ)) (v : Env)
     (row : Row) (keepers : List (Option ProcId)) (next : KernelImage) : Type 0 where
   pub facts : IsSpec spec

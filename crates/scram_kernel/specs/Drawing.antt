@@ -12,8 +12,8 @@ use Rattle.frame_model.specs.States.{act_after, area_at, keeper_at, keeper_on, w
 use Rattle.frame_model.specs.Tasks.{task_of}
 use Rattle.scram_kernel.specs.Marks.{mark_in}
 
--- Whether processor `p` has committed frame `f`, by the marks after the frame. Half of a mark is the number of frames
--- up to the last committed one.
+-- Whether processor `p` has committed frame `f`, as its mark after the frame shows. Half of a mark is the number of
+-- frames up to and including the last committed frame.
 abbrev pub has_committed : List ℕ → ℕ → ℕ → Bool
 has_committed marks f p = mark_in marks p / 2 == suc f
 

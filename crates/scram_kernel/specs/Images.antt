@@ -23,7 +23,8 @@ image_given spec sys v = record {
 abbrev pub state_left : Parts → Row → List (Option ProcId) → State
 state_left spec row keepers = record { mode = row.mode; arrived = has_arrived spec row; areas = row.areas; keepers = keepers; world = row.world }
 
--- The kernel image of the frame after a row in an environment. A decision depends on the processors that are up only
--- through the environment. Therefore no processor is up in the system that is passed.
+-- The kernel image of the frame after a row, given the keepers after the row and the environment of that frame. A
+-- decision depends on the processors that are up only through the environment. Therefore no processor is up in the
+-- system that is passed.
 abbrev pub image_next : Parts → Row → List (Option ProcId) → Env → KernelImage
 image_next spec row keepers v = image_given spec (sys_of (row.frame + 1) 0 (state_left spec row keepers)) v

@@ -1,5 +1,4 @@
--- The marks and the images of the processors after a number of frames, as the caller passes them when the caller ends
--- a frame.
+-- The marks and the images of the processors after a number of frames, as a caller passes them to end a frame.
 use Rattle.std.specs.Prelude.{◌≡◌, ℕ, ◌<◌, ℤ, List, length, slice_index_or}
 use Rattle.scram_types.specs.Scripts.{ScriptParts}
 use Rattle.scram_types.specs.Specification.{Parts}

@@ -19,8 +19,8 @@ pub(crate) struct Stored<'a> {
     pub(crate) images: &'a [Image; 8],
 }
 
-/// Returns the row of the image's frame, given the tasks of the frame. `areas` has the areas before the frame, and is
-/// set to those after it.
+/// Returns the row of the image's frame, given the tasks of the frame. `areas` contains the areas before the frame,
+/// and is set to the areas after the frame.
 pub(crate) fn draw(
     spec: &Spec,
     image: &KernelImage,
@@ -58,7 +58,7 @@ fn acts_drawn(image: &KernelImage, tasks: &[Task; 8], marks: &[u64; 8]) -> [Act;
     ]
 }
 
-// Sets the areas before the frame to the areas after it.
+// Replaces the areas before the frame by the areas after the frame.
 fn draw_areas(image: &KernelImage, tasks: &[Task; 8], stored: &Stored<'_>, areas: &mut [Area; 8])
     ensures { (spec : Parts) → tasks.now ≡ eight (task_in_image spec image.now)
         → areas.new ≡ areas_drawn spec image.now stored.now.marks.now stored.now.images.now areas.old }

@@ -22,7 +22,8 @@ pub(crate) fn image_given(spec: &Spec, sys: &Sys, env: Env) -> KernelImage
     }
 }
 
-/// Returns the kernel image of the frame after a row in an environment.
+/// Returns the kernel image of the frame after a row, given the keepers after the row and the environment of that
+/// frame.
 pub(crate) fn image_next(
     spec: &Spec,
     row: &Row,

@@ -44,8 +44,8 @@ impl<'a> Kernel<'a> {
     ghost use Rattle.scram_kernel.specs.Kernels.{kernel_after, rows_below};
     ghost use Rattle.scram_kernel.specs.Marks.{AreImages, AreMarks};
 
-    /// Returns the kernel before the first frame, with capacity for all rows and reports of the script. The only
-    /// error is that memory runs out.
+    /// Returns the kernel before the first frame, with capacity for all rows and reports of the script. Returns an
+    /// error only if memory runs out.
     pub fn new(alloc: Global, spec: &'a Spec, script: &'a Script) -> Result<Kernel<'a>, NoMemory>
         requires { Fits spec.now script.now }
         ensures { IfOk result (λ kernel. kernel ≡ kernel_after spec.now script.now 0) }
@@ -94,8 +94,8 @@ impl<'a> Kernel<'a> {
     }
 
     /// Ends the running frame, given the processors' marks and images after it. Appends the frame's row, continues
-    /// the reading of reconfigurations, and walks on to the next frame. Returns the kernel image of the next frame,
-    /// even after the last frame. At least one frame of the script must not have ended before the call.
+    /// the reading of reconfigurations, and advances to the next frame. Returns the kernel image of the next frame,
+    /// even after the last frame. The script must have a frame that has not ended.
     pub fn tick(&mut self, marks: &[u64; 8], images: &[Image; 8]) -> KernelImage
         requires frames { self.old.past < self.old.script.frames }
         requires marks { AreMarks self.old.spec self.old.script (self.old.past + 1) marks.now }

@@ -1,4 +1,4 @@
--- Applications with their needs and with their ranks.
+-- Lemmas on applications with their needs and with their ranks.
 use Rattle.std.proofs.Common.{true, ◌≡◌, ◌<◌, ◌≤◌, ℕ, zero, suc, List, [], ◌∷◌, ◌++◌, drop, length, map, arith, refl, sym, ap, subst, ◌∙◌}
 use Rattle.std.specs.Prelude.{Option, Some, None, is_some, slice_get, slice_index, take, All}
 use Rattle.std.proofs.lemmas.List.Elements.{All-head, All-tail}
@@ -182,6 +182,7 @@ ranked_fit apps ranks is small fall fits =
 pub needs_in_range : (apps : List AppSpec) → AreUnranked apps → NeedsInRange apps
 needs_in_range apps fits = λ a app e. (fits.each a app e).needs
 
--- If a list of length `len` is written over the front of another list, the first `len` elements are that list.
+-- If a list of length `len` is written over the front of another list, the first `len` elements of the result are
+-- that list.
 pub written_whole : (len : ℕ) (new old : List AppSpec) → length new ≡ len → take len (new ++ drop (length new) old) ≡ new
 written_whole len new old same = rw (← same) (take-append_seam new (drop (length new) old))

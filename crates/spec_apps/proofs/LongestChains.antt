@@ -25,8 +25,8 @@ and_false : (b : Bool) → b && false ≡ false
 and_false true = refl
 and_false false = refl
 
--- If the rank of each application is the rank that its needs determine, the list of ranks is the list of these
--- values.
+-- If each application has the rank that its needs determine, then the list of ranks consists of the values of
+-- `rank_after`, in order.
 ranks_map : (whole : List ℕ) (apps : List AppSpec) (ranks : List ℕ) → length ranks ≡ length apps
     → ((a : ℕ) (app : AppSpec) → slice_get apps a ≡ Some app → slice_get ranks a ≡ Some (rank_after whole app.needs))
     → ranks ≡ map (λ (app : AppSpec). rank_after whole app.needs) apps

@@ -17,8 +17,8 @@ AnswersSpec reading (Ok a) = reading ≡ Ok a
 AnswersSpec reading (Err (Fault fault)) = reading ≡ Err (record { rule = fault.rule; path = fault.path })
 AnswersSpec reading (Err NoMemory) = ⊤
 
--- If the first argument is `true`, so that the applications can be ranked, `cycle` is empty. Otherwise `cycle` is a
--- cycle of their needs.
+-- The first argument states whether the applications can be ranked. If they can, `cycle` is empty. Otherwise `cycle`
+-- is a cycle of their needs.
 abbrev pub CycleIf : Bool → List AppSpec → List AppId → Type 0
 CycleIf true apps cycle = cycle ≡ []
 CycleIf false apps cycle = IsCycle apps cycle

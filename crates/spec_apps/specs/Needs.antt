@@ -45,14 +45,14 @@ with_ranks (app ∷ apps) [] = app ∷ apps
 with_ranks (app ∷ apps) (rank ∷ ranks) =
     record { name = app.name; kind = app.kind; needs = app.needs; modes = app.modes; rank = rank } ∷ with_ranks apps ranks
 
--- For each application, the greatest length of a chain of needs from it, among the chains of at most this number of
--- links.
+-- For each application, the length of the longest chain of needs from it, where only chains of at most the given
+-- number of links are counted.
 abbrev pub longest_chains : ℕ → List AppSpec → List ℕ
 longest_chains zero apps = map (λ (app : AppSpec). 0) apps
 longest_chains (suc links) apps = map (λ (app : AppSpec). rank_after (longest_chains links apps) app.needs) apps
 
--- The applications can be ranked: no longest chain has eight links. There are at most eight applications, so a chain
--- of eight links has a cycle.
+-- Whether the applications can be ranked, which means that no longest chain has eight links. There are at most eight
+-- applications, so a chain of eight links has a cycle.
 abbrev pub are_ranked : List AppSpec → Bool
 are_ranked apps = list_all (λ (rank : ℕ). nat_lt rank 8) (longest_chains 8 apps)
 

@@ -118,7 +118,7 @@ fn set_ranks(apps: &mut [AppSpec], ranks: ArrayVec<u8, 8>)
     }
 }
 
-/// Reads the applications with their needs, without their ranks.
+/// Reads the applications with their needs but without their ranks.
 fn read_unranked(alloc: Global, v: &Value, at: &Path) -> Result<Numbered<AppSpec, ByName>, DocError>
     requires room { length at.now ≤ 18 }
     ensures value { Answers (read_unranked at.now (view v.now)) (λ apps. apps) result }

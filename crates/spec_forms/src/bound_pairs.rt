@@ -33,7 +33,7 @@ struct Asked {
 }
 
 /// Prints each bound that the specification in a file must give, with the smallest value that suffices and the given
-/// value. If too many environments are in scope, the refusal is printed instead.
+/// value. Prints the refusal instead if too many environments are in scope.
 pub fn bounds<F: Files, K: Sink>(
     alloc: Global,
     specification: &str,

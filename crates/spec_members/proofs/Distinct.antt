@@ -1,4 +1,4 @@
--- Elements of a list that differ from the elements before them.
+-- Lemmas on lists in which each element differs from the elements before it.
 use Rattle.std.proofs.Common.{◌≡◌, ◌<◌, ℕ, zero, suc, Bool, true, false, cond, List, [], ◌∷◌, arith, refl, sym, ap, subst, ◌⊎◌, ◌∙◌}
 use mathlib.Core.Logic.{inl, inr}
 use Rattle.std.specs.Prelude.{Option, Some, None, Result, Ok, IfOk, take, slice_get}

@@ -9,15 +9,15 @@ use Rattle.scram_types.specs.declared.ids.AppId.{AppId}
 use Rattle.scram_types.specs.declared.specification.ModeSpec.{ModeSpec}
 use Rattle.dep_order.specs.Timetables.{is_named}
 
--- No element is among the elements before it, as `stands` tests.
+-- No element is among the elements before it. `stands done x` tests whether `x` is among `done`.
 abbrev pub NoDuplicates : {A : Type 0} → (List A → A → Bool) → List A → Type 0
 NoDuplicates {A} stands xs = AllAfter (λ (done : List A) (x : A). stands done x ≡ false) xs
 
--- A mode is among the modes listed before it.
+-- Whether a mode is among the modes listed before it.
 abbrev pub lists_mode : List ModeSpec → ModeSpec → Bool
 lists_mode done listed = is_some (mode_in done listed.mode.0)
 
--- An application is among the needs listed before it.
+-- Whether an application is among the needs listed before it.
 abbrev pub lists_need : List AppId → AppId → Bool
 lists_need done need = is_named done need.0
 
@@ -31,7 +31,7 @@ pub record IsWritableApp (app : AppSpec) : Type 0 where
   pub modes : NoDuplicates lists_mode app.modes
 
 -- There are 1 to 8 applications, and their names differ. Each application is valid, has a valid name, and lists no
--- need and no mode twice. The ranks are those that the needs determine.
+-- need and no mode twice. Each application has the rank that the needs determine.
 pub record AreApps (apps : List AppSpec) : Type 0 where
   pub count : HasLength 1 8 apps
   pub differ : NamesDiffer name_of_app apps

@@ -6,24 +6,24 @@ use Rattle.scram_doc.specs.declared.fault.DocFault.{DocFault}
 use Rattle.scram_doc.specs.Chain.{chain}
 use Rattle.scram_doc.specs.Members.{object_at, required_at, no_more_than}
 
--- The version is present and equals `number`.
+-- Whether the version is present and equals `number`.
 abbrev pub is_version : ℕ → Option ℕ → Bool
 is_version number None = false
 is_version number (Some version) = version == number
 
--- The value of the member `scram` is the whole number `number`.
+-- Whether the value of the member `scram` is the whole number `number`.
 abbrev pub is_version_in : ℕ → Option Data → Bool
 is_version_in number scram = is_version number (option_and_then as_u64 (option_and_then as_number scram))
 
--- The member `scram` of a document is the whole number `number`.
+-- Whether the member `scram` of a document is the whole number `number`.
 abbrev pub has_version : ℕ → Data → Bool
 has_version number d = is_version_in number (get (codes "scram") d)
 
--- The document is of version 2 or 3. These versions have a policy.
+-- Whether the document is of version 2 or 3. Only these versions have a policy.
 abbrev pub has_policy : Data → Bool
 has_policy d = has_version 2 d || has_version 3 d
 
--- The document is of version 3. Only this version has demands.
+-- Whether the document is of version 3. Only this version has demands.
 abbrev pub has_demands : Data → Bool
 has_demands d = has_version 3 d
 
@@ -42,8 +42,8 @@ abbrev pub members_after_names : List (List ℕ)
 members_after_names =
     codes "rules" ∷ codes "bounds" ∷ codes "start" ∷ codes "goal" ∷ codes "invariants" ∷ codes "preconditions" ∷ codes "assumption" ∷ []
 
--- The number of members of a document: those of version 1, with the policy and the demands if the document's version
--- has them.
+-- The number of members that a document must have. It is 14 in version 3, which has a policy and demands, 13 in
+-- version 2, which has a policy, and 12 otherwise.
 abbrev pub members_count : Data → ℕ
 members_count d = if has_demands d then 14 else (if has_policy d then 13 else 12)
 
@@ -74,8 +74,7 @@ policy_tested d = if has_policy d then chain (required_at (codes "policy") [] d)
 abbrev pub demands_tested : Data → Result ⊤ DocFault
 demands_tested d = if has_demands d then chain (required_at (codes "demands") [] d) (λ (_ : Data). Ok tt) else Ok tt
 
--- `Ok` if the document is an object with the members that its version has, and no others. The first broken rule
--- otherwise.
+-- `Ok` if the document is an object with exactly the members of its version, else the first broken rule.
 abbrev pub members_tested : Data → Result ⊤ DocFault
 members_tested d =
     chain (object_at [] d) (λ (_ : ⊤).

@@ -1,4 +1,4 @@
--- The set of the applications that must be on.
+-- Lemmas on the set of the applications that must be on.
 use Rattle.std.proofs.Common.{◌≡◌, ◌∙◌, ◌<◌, ◌^◌, ℕ, true, sym, List}
 use mathlib.Core.Logic.{inl, inr}
 use Rattle.std.specs.Prelude.{Option, None, is_some}
@@ -12,7 +12,7 @@ use Rattle.spec_table.specs.Configurations.{given}
 use Rattle.spec_table.specs.Demands.{on_set}
 use Rattle.spec_table.specs.Facts.{IsApart}
 
--- If no application of `off` is in `on_set on`, the list `on` has no modes for an application of `off`.
+-- If no application of `off` is in `on_set on`, the list `on` has no modes for any application of `off`.
 pub off_apart : (on : List (Option (List Mode))) (off : ℕ) → off < 2 ^ 8 → IsApart off (on_set on) → (a : ℕ) → has_bit off a ≡ true → given on a ≡ None
 off_apart on off few apart a is = elim (low_or_high a 8) [
   | inl low ↦ none_if_not_some (given on a) (sym (has_bits (λ b. is_some (given on b)) 8 a low) ∙ apart a is)

@@ -36,7 +36,7 @@ source_named confs at text =
 abbrev pub read_source : List Conf → List ℕ → Data → Result (Option ConfId) DocFault
 read_source confs at d = chain (text_at at d) (λ (text : List ℕ). source_named confs at text)
 
--- One of the required values is a value of factor `f`.
+-- Whether one of the required values is a value of factor `f`.
 abbrev pub wants_factor : List Want → ℕ → Bool
 wants_factor wants f = list_any (λ (want : Want). want.factor.0 == f) wants
 
@@ -54,7 +54,7 @@ read_value_of None at d = broken UNKNOWN_FACTOR_OR_VALUE at
 read_value_of (Some factor) at d = read_named itself factor.values UNKNOWN_FACTOR_OR_VALUE at d
 
 -- The required value that a value encodes, given the factors and the required values `done` before it, or the first
--- document rule that the value breaks. No value in `done` may be one of the same factor.
+-- document rule that the value breaks. No value in `done` may be a value of the same factor.
 abbrev pub read_want : List Factor → List ℕ → List Want → Data → Result Want DocFault
 read_want factors at done d =
     chain (object_at at d) (λ (_ : ⊤).

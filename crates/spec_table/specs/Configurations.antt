@@ -28,7 +28,7 @@ read_new_app apps xs at d =
     chain (read_named name_of_app apps UNKNOWN_APPLICATION at d) (λ (a : ℕ).
     if is_some (given xs a) then broken TWICE_IN_LIST at else Ok a)
 
--- The mode that a value names, or the first document rule that the value breaks. The mode must be one of the
+-- The mode that a value names, or the first document rule that the value breaks. The mode must be a mode of the
 -- application's kind, and the application must list it. If the application is `None`, it lists no mode.
 abbrev pub read_listed_mode : Option AppSpec → List ℕ → Data → Result ℕ DocFault
 read_listed_mode None at d = broken MODE_NOT_LISTED at

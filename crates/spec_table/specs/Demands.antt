@@ -37,7 +37,7 @@ abbrev pub read_on_modes : Option AppSpec → List ℕ → Data → Result (List
 read_on_modes found at d = chain (list_at 0 3 at d) (λ (ds : Items). folded_from (read_on_mode found) at 0 [] ds)
 
 -- The list `on` with the modes of the application that a value encodes, or the first document rule that the value
--- breaks. `on` contains the modes of each application that must be on.
+-- breaks. `on` contains the modes of each application that must be on, and must have none for this application.
 abbrev pub read_on_app : List AppSpec → List ℕ → List (Option (List Mode)) → Data → Result (List (Option (List Mode))) DocFault
 read_on_app apps at on d =
     chain (object_at at d) (λ (_ : ⊤).

@@ -88,8 +88,8 @@ impl Elements<Bound> for Bounds<'_> {
     }
 }
 
-/// Reads the bounds of a document, 0 to 144 of them. Returns an error with the first broken rule, or `NoMemory` if
-/// memory runs out.
+/// Reads the 0 to 144 bounds of a document. Returns an error with the first broken rule, or `NoMemory` if memory runs
+/// out.
 pub fn read_bounds(
     alloc: Global,
     vocabulary: &Vocabulary,

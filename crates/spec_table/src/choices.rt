@@ -182,8 +182,8 @@ impl Elements<Choice> for Choices<'_> {
     }
 }
 
-/// Reads the rules of a document's choice table, 0 to 64 of them. Returns an error with the first broken rule, or
-/// `NoMemory` if memory runs out.
+/// Reads the 0 to 64 rules of a document's choice table. Returns an error with the first broken rule, or `NoMemory`
+/// if memory runs out.
 pub fn read_choices(
     alloc: Global,
     vocabulary: &Vocabulary,

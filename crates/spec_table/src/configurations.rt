@@ -164,8 +164,8 @@ impl NamedElements<Conf, ByName> for Confs<'_> {
     }
 }
 
-/// Reads the configurations of a document, 1 to 12 of them. Returns an error with the first broken rule, or
-/// `NoMemory` if memory runs out.
+/// Reads the 1 to 12 configurations of a document. Returns an error with the first broken rule, or `NoMemory` if
+/// memory runs out.
 pub fn read_confs(
     alloc: Global,
     procs: &Numbered<Proc, ByName>,

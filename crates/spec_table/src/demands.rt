@@ -90,7 +90,7 @@ fn read_new_app(
     }
 }
 
-/// Reads an application that must be on with its modes, and adds it to `on`.
+/// Reads an application that must be on, and adds its modes to `on`.
 fn read_on_app(
     apps: &Numbered<AppSpec, ByName>,
     on: On,
@@ -113,7 +113,7 @@ fn read_on_app(
     Ok(on)
 }
 
-/// Reads the applications that must be on, 0 to 8 of them.
+/// Reads the 0 to 8 applications that must be on, with the modes of each.
 fn read_modes_on(apps: &Numbered<AppSpec, ByName>, v: &Value, at: &Path) -> Result<On, DocFault>
     requires room { length at.now ≤ 34 }
     requires few { length apps.now ≤ 8 }
@@ -253,8 +253,8 @@ impl NamedElements<Demand, ByName> for Demands<'_> {
     }
 }
 
-/// Reads the demands in a list, 0 to 64 of them. Returns an error with the first broken rule, or `NoMemory` if memory
-/// runs out.
+/// Reads the 0 to 64 demands in a list. Returns an error with the first broken rule, or `NoMemory` if memory runs
+/// out.
 pub fn read_demands(
     alloc: Global,
     vocabulary: &Vocabulary,

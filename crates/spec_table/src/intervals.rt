@@ -206,8 +206,8 @@ impl Elements<Precondition> for Intervals<'_> {
     }
 }
 
-/// Reads the invariants of a document, 0 to 64 of them. Returns an error with the first broken rule, or `NoMemory` if
-/// memory runs out.
+/// Reads the 0 to 64 invariants of a document. Returns an error with the first broken rule, or `NoMemory` if memory
+/// runs out.
 pub fn read_invariants(
     alloc: Global,
     vocabulary: &Vocabulary,
@@ -230,8 +230,8 @@ pub fn read_invariants(
     )
 }
 
-/// Reads the preconditions of a document, 0 to 64 of them. Returns an error with the first broken rule, or `NoMemory`
-/// if memory runs out.
+/// Reads the 0 to 64 preconditions of a document. Returns an error with the first broken rule, or `NoMemory` if
+/// memory runs out.
 pub fn read_preconditions(
     alloc: Global,
     vocabulary: &Vocabulary,

@@ -1,4 +1,4 @@
--- Putting the members one after another results in the canonical value of the specification, and in that of a demand.
+-- If the members of a specification or of a demand are put one after another, the result is its canonical value.
 use Rattle.std.proofs.Common.{◌≡◌, refl, List, [], ◌∷◌}
 use Rattle.std.specs.Prelude.{codes}
 use Rattle.serde_json.specs.Data.{object, no_members, put, string}

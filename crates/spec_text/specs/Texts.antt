@@ -92,8 +92,8 @@ place_data spec a place = object (
     member (codes "mode") (string (name_of_app_mode spec.apps a place.mode.0)) (
     member (codes "on") (string (name_of_item name_of_proc spec.procs place.proc.0)) no_members)))
 
--- The canonical values of the places that are given, in the order of applications. The first entry of the list is
--- that of application `a`.
+-- The canonical values of the places that are given, in the order of applications. The first entry of the list
+-- belongs to application `a`.
 abbrev pub places_data : Parts → ℕ → List (Option Place) → List Data
 places_data spec a [] = []
 places_data spec a (None ∷ places) = places_data spec (suc a) places
@@ -178,7 +178,7 @@ on_app_data spec a modes = object (
     member (codes "app") (string (name_of_item name_of_app spec.apps a)) (
     member (codes "modes") (list_data (λ (mode : Mode). string (name_of_app_mode spec.apps a mode.0)) modes) no_members))
 
--- The canonical values of the applications that must be on, in order. The first entry of the list is that of
+-- The canonical values of the applications that must be on, in order. The first entry of the list belongs to
 -- application `a`.
 abbrev pub on_data : Parts → ℕ → List (Option (List Mode)) → List Data
 on_data spec a [] = []

@@ -1,4 +1,4 @@
-//! The canonical text of a specification. The written text is exactly that of the definition `spec_text`.
+//! The canonical text of a specification. The written text is exactly the text that `spec_text` defines.
 #![tactic(auto)]
 
 mod values;

@@ -25,7 +25,7 @@ struct Writer<'a> {
     spec: &'a Spec,
 }
 
-/// A writer of the modes of an application of a kind.
+/// A writer of the modes that an application of kind `kind` lists.
 #[derive(Clone, Copy)]
 struct ModeWriter {
     kind: KindId,
@@ -474,7 +474,7 @@ pub fn write_text(alloc: Global, spec: &Spec) -> Result<Vec<u8>, NoMemory>
     ensures value { IfOk result (λ text. read text.items ≡ Some (spec_data spec.now)) }
     ensures utf8 { IfOk result (λ text. IsUtf8 text.items) }
 {
-    // A use of a field proves that the specification satisfies its invariant.
+    // From the use of a field, the prover knows that the specification satisfies its invariant.
     let _ = &spec.procs;
     let Ok(value) = make_spec(alloc, spec) else {
         return Err(NoMemory);

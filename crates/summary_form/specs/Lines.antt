@@ -19,7 +19,7 @@ use Rattle.flight_facts.specs.declared.extremes.Extremes.{Extremes}
 use Rattle.flight_facts.specs.declared.extremes.Quantity.TheVariants.{Altitude, Climb, Bank}
 use Rattle.form_base.specs.Lines.{counts_text}
 
--- Whether a report has no target, which is the case if the flight ended before the reconfiguration did.
+-- Whether a reconfiguration has no target. This is the case if the flight ended before the reconfiguration.
 abbrev pub has_no_target : Option ConfId → Bool
 has_no_target None = true
 has_no_target (Some to) = false
@@ -43,7 +43,8 @@ abbrev pub change_line : Parts → List Row → ℕ → List ℕ
 change_line spec rows k =
     codes "  frame " ++ decimal k ++ codes " " ++ difference_or_dash spec (env_before spec rows k) (env_in rows k) ++ codes "\n"
 
--- The line of application `a`: the numbers of rows in which it ran, was lost and was off, and its longest gap.
+-- The line of application `a`: the numbers of rows in which the application ran, was lost and was off, and the
+-- longest gap of the application.
 abbrev pub app_summary_line : List Row → ℕ → AppSpec → List ℕ
 app_summary_line rows a app =
     codes "app " ++ app.name ++ codes " ran " ++ decimal (count_acts word.Ran a rows) ++ codes " lost " ++ decimal (count_acts word.Lost a rows)

@@ -89,7 +89,8 @@ pub fn make_change_line(spec: &Spec, rows: &[Row], k: usize) -> Line
     line
 }
 
-/// Returns the line of application `a`: the numbers of rows in which it ran, was lost and was off, and its longest gap.
+/// Returns the line of application `a`: the numbers of rows in which the application ran, was lost and was off, and
+/// the longest gap of the application.
 pub fn make_app_line(rows: &[Row], a: usize, app: &AppSpec) -> Line
     requires app { a < 8 }
     requires rows { length rows.now < 2 ^ 32 }

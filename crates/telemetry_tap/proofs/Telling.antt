@@ -17,7 +17,7 @@ use Rattle.telemetry_tap.specs.declared.summaries.Summary.{Summary}
 use Rattle.telemetry_tap.specs.Summaries.{summary_begun, begun_with, first_rows, summary_running, running_number, summary_after, summary_up}
 use Rattle.telemetry_tap.proofs.Begun.{begun_as_read, begun_next, first_listed, reading_next, row_is, within}
 
--- `last_running` and `last_up` of a list depend on the last row of the list only.
+-- `last_running` and `last_up` of a list depend only on the last row of the list.
 running_last : (spec : Parts) (before : ℕ) (rows : List Row) (row : Row) → last_running spec before (rows ++ row ∷ []) ≡ running_number (running spec row.acts)
 running_last spec before [] row = refl
 running_last spec before (x ∷ xs) row = running_last spec (running_number (running spec x.acts)) xs row
@@ -45,7 +45,7 @@ summaries_tell_rows law mission m le =
     rows ∙ ap (summary_of mission.spec (summary_up mission 0)) (sym (first_listed mission m le))
 
 -- The summary after one more row has that row's configuration and processors, and counts the reconfiguration that
--- begins with it.
+-- begins with that row, if any.
 pub summary_next : BeginningsAreRead → (mission : MissionParts) (m : ℕ) (row : Row) (begun : ℕ) (reading : Reading) → slice_get (rows_of mission.spec mission.script) m ≡ Some row
     → begun ≡ summary_begun mission m → reading ≡ reading_of mission.spec (first_rows mission m)
     → ◌≡◌ {A = Summary} (record { frames = m + 1; running = running_number (running mission.spec row.acts); up = row.env.up; begun = begun + begun_with mission.spec reading row.acts })

@@ -21,8 +21,8 @@ abbrev pub last_up : ℕ → List Row → ℕ
 last_up before [] = before
 last_up before (row ∷ rows) = last_up row.env.up rows
 
--- The summary of a list of rows, the first of which is the row of frame 0. `before` is the set of processors that are
--- up if the list is empty.
+-- The summary of a list of rows that begins with the row of frame 0. `before` is the set of processors that are up if
+-- the list is empty.
 abbrev pub summary_of : Parts → ℕ → List Row → Summary
 summary_of spec before rows =
     record { frames = length rows; running = last_running spec NONE_RUNNING rows; up = last_up before rows; begun = length (reports spec rows) }

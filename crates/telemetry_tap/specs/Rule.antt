@@ -34,7 +34,7 @@ pub record IsTapState (mission : MissionParts) (s : State (Unit {0}) TapView) : 
 abbrev pub writer_view : MissionParts → TapView
 writer_view mission = record { mission = Some mission; writes = true; seen = 0; loads = 0 }
 
--- A seat in the table. A seat has a view and no slots.
+-- A seat of the table, which has a view and no slots.
 abbrev pub TapSeat : Type 0
 TapSeat = Me (Unit {0}) TapView
 

@@ -47,7 +47,7 @@ summary_after mission m = record { frames = m; running = summary_running mission
 abbrev pub first_rows : MissionParts → ℕ → List Row
 first_rows mission m = take m (rows_of mission.spec mission.script)
 
--- The number of reconfigurations that begin with a row, which is 0 or 1. The reading is that of the preceding rows.
+-- The number of reconfigurations that begin with a row, which is 0 or 1, given the reading of the preceding rows.
 abbrev pub begun_with : Parts → Reading → List Act → ℕ
 begun_with spec (Steady c) acts = if runs spec acts c then 0 else 1
 begun_with spec (Leaving c begin) acts = 0

@@ -2,7 +2,7 @@
 use Rattle.std.specs.Prelude.{ℕ, ◌+◌, ◌*◌, ◌/◌, ◌%◌, ◌<◌}
 use Rattle.telemetry_tap.specs.declared.summaries.Summary.{Summary}
 
--- The word that encodes a summary. It has each part of the summary in bits of its own.
+-- The word that encodes a summary. Each part of the summary has its own bits in the word.
 abbrev pub summary_encode : Summary → ℕ
 summary_encode s = s.frames + 65536 * s.begun + 4294967296 * s.running + 1099511627776 * s.up
 

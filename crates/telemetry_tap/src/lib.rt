@@ -1,4 +1,4 @@
-//! Telemetry of a flight. With each row, one writer publishes a summary of the flight in one word, which readers
+//! Telemetry of a flight. After each row, one writer publishes a summary of the flight in one word, which readers
 //! load. There is no lock, no memory is allocated after the opening, and no call waits. By the rule on the word and
 //! the views, the word encodes the summary of the rows published so far. Therefore a reader loads only summaries of
 //! published rows, and never an older summary than the last that it loaded.

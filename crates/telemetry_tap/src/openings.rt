@@ -39,7 +39,7 @@ impl<'a> Tap<'a> {
         Ok((tap, writer, dealt))
     }
 
-    // Creates the tap and its writer, which has published no row. The only error is that memory runs out.
+    // Creates the tap and its writer, which has published no row. Returns an error only if memory runs out.
     fn lay(alloc: Global, mission: &'a Mission) -> Result<(Tap<'a>, Writer), NoMemory>
         ensures mission { IfOk result (λ t. tap_mission t.0 ≡ mission.entry.now) }
         ensures writer { IfOk result (λ t. IsWriterOf t.0 t.1) }
@@ -67,8 +67,8 @@ impl<'a> Tap<'a> {
         Ok((Tap { mission, table }, writer))
     }
 
-    // Appends `readers` new readers to `dealt`, each with a seat that is split off the writer's seat. The only error
-    // is that memory runs out.
+    // Appends `readers` new readers to `dealt`, each with a seat that is split off the writer's seat. Returns an
+    // error only if memory runs out.
     fn deal(
         &self,
         readers: u32,

@@ -29,7 +29,8 @@ pub(crate) fn running_number(conf: Option<ConfId>) -> u8
     }
 }
 
-/// Returns the set of processors that are up in a row. The type of the result bounds it for the proof of `publish`.
+/// Returns the set of processors that are up in a row. The result type lets the proof of `publish` conclude that the
+/// set fits in 8 bits.
 pub(crate) fn up_in(row: &Row) -> u8
     ensures { result ≡ row.now.env.up }
 {

@@ -4,8 +4,8 @@
 use atomic_table::{Play, Split, TableRule};
 use coverage_check::Mission;
 
-/// The mission, whether the view is the writer's, the number of rows that the seat has published or seen, and the
-/// number of its loads.
+/// The view of a seat: the mission, whether the view is the writer's, the number of rows that the seat has published
+/// or seen, and the number of its loads.
 pub struct TapView {
     pub mission: Option<Mission>,
     pub writes: bool,
@@ -43,8 +43,8 @@ impl Play<(), TapView> for ReadsSummary {
     ghost then = { reads_summary };
 }
 
-/// A split of the writer's seat into the same seat and a new reader's. The reader has seen all rows that the writer has
-/// published.
+/// A split of the writer's seat, which adds the seat of a new reader. The reader has seen all rows that the writer
+/// has published.
 pub struct GivesReader;
 
 impl Split<TapView> for GivesReader {

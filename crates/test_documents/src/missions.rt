@@ -19,7 +19,7 @@ fn begin_with(changes: &[Change], worked: &[(u32, u8, u8)]) -> bool {
             .all(|(change, worked)| is_change(change, worked))
 }
 
-/// Returns `true` if there is exactly one halt, and it is of this processor, in this frame, at this step.
+/// Returns `true` if there is exactly one halt and its processor, frame and step are `proc`, `frame` and `step`.
 fn is_only_halt(halts: &[HaltAt], proc: u8, frame: u32, step: u8) -> bool {
     match halts {
         [halt] => halt.proc.0 == proc && halt.frame == frame && halt.step == step,
@@ -37,7 +37,7 @@ const FIRST: [(u32, u8, u8); 5] = [
 ];
 
 // Returns the number of frames of a script, its number of changes, whether it begins with the first changes of
-// mission 0, and whether its only halt is that of mission 0.
+// mission 0, and whether its only halt is the halt of mission 0.
 fn facts(script: &Script) -> (u32, usize, bool, bool) {
     let changes = script.changes.items();
     (

@@ -12,8 +12,8 @@ use std::alloc::Global;
 use std::rt::HostRuntime;
 use std::test::Fail;
 
-/// Checks a small document: an object with the members `scram` and `processors`. The second is a list of 1 to 8
-/// objects with `name` and `capacity`.
+/// Checks a small document: an object with the members `scram` and `processors`. The member `processors` is a list of
+/// 1 to 8 objects with the members `name` and `capacity`.
 ///
 /// # Errors
 ///
@@ -59,7 +59,7 @@ fn first_fault(alloc: Global, bytes: &[u8]) -> Result<(u8, Path), DocError> {
 }
 
 /// Returns the index of the first row whose document does not have the fault of the row, or `None` if there is no
-/// such row. A row has a document, a rule and a path. The rule 0 with the path `.` stands for no fault.
+/// such row. A row has a document, a rule and a path. The rule 0 with the path `.` means that there is no fault.
 fn first_wrong(alloc: Global, rows: &[(&str, u8, &str)]) -> Result<Option<usize>, DocError> {
     for (i, (document, rule, path)) in rows.iter().enumerate() {
         let fault = first_fault(alloc, document.as_bytes())?;
@@ -193,7 +193,7 @@ const NESTED: [(usize, usize, u8); 5] = [
     (1_048_576, 0, 1),
 ];
 
-/// Returns the rule and the path of the first fault of a text of `open` opening and `close` closing brackets.
+/// Returns the rule and the path of the first fault in a text with `open` opening and `close` closing brackets.
 fn bracket_fault(alloc: Global, open: usize, close: usize) -> Result<(u8, Path), Fail> {
     let bytes = brackets(alloc, open, close)?;
     let fault = first_fault(alloc, &bytes)?;
@@ -216,7 +216,7 @@ fn a_json_text_is_utf8(rt: HostRuntime) -> Result<(), Fail> {
     Ok(())
 }
 
-/// Returns the text of a member of an object, or `None` if there is no such member or it is not a text.
+/// Returns the text of a member of an object, or `None` if there is no such member or the member is not a text.
 fn text_member<'a>(v: &'a Value, name: &str) -> Option<&'a str> {
     let path = Path::root();
     match field(v, name) {
@@ -248,7 +248,7 @@ const NAMES: [(&str, bool); 10] = [
 ];
 
 /// Returns `Some(true)` if the name that is made from a text has the same spelling as the text, and `Some(false)` if
-/// it has another. Returns `None` if the text is not a valid name.
+/// it has another spelling. Returns `None` if the text is not a valid name.
 fn is_kept(text: &str) -> Option<bool> {
     match name_of(text) {
         Some(name) => Some(name.as_str() == text),

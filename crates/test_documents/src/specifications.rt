@@ -52,7 +52,7 @@ const DEEP: [(usize, usize, u8); 5] = [
 ];
 
 /// Returns the rule that a text of `length` brackets breaks. The first `open` brackets are opening brackets, and the
-/// others are closing brackets.
+/// remaining brackets are closing brackets.
 fn bracket_rule(alloc: Global, open: usize, length: usize) -> Result<u8, NoMemory> {
     let bytes = brackets(alloc, open, length)?;
     let (rule, _path) = refusal(alloc, &bytes)?;

@@ -134,8 +134,8 @@ fn count_flights<R: AllocGlobal + Threads + Wait + Sync>(
     Ok(counts)
 }
 
-/// Flies a mission for each step below a count, and prints how often the result was that of one thread and step 0.
-/// The count and the names of the mission's files are in `words`.
+/// Flies a mission for each step below a count, and prints how often the result equals the result on one thread with
+/// step 0. The count and the names of the mission's files are in `words`.
 pub fn fly_steps<R: AllocGlobal + Threads + Wait + Sync>(
     rt: &HostRuntime,
     threads: &R,

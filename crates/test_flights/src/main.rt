@@ -6,18 +6,18 @@
 //! - `fly SPEC SCRIPT`: Flies the mission on one thread, and then on threads over words and over a lock: many times
 //!   with a thread for each processor, and once each with threads for no processor, for all but the first, and for
 //!   all but the last. The history of each flight over the lock is written, read, and flown again. Prints how often
-//!   each result was that of one thread.
+//!   each result equals the result on one thread.
 //! - `steps COUNT SPEC SCRIPT`: Does the same once for each step below `COUNT`, with a thread for each processor. The
-//!   step replaces `STEP` in the script. All results are compared with that of one thread and step 0.
+//!   step replaces `STEP` in the script. All results are compared with the result on one thread with step 0.
 //! - `meet SPEC SCRIPT`: Flies the mission over words and over a lock with boxes that count their calls, and prints
 //!   the counts.
 //! - `repeat DECK TIMES SPEC SCRIPT`: Flies the mission `TIMES` times without comparing the results, so that the
 //!   flights can be timed.
 //!
-//! In a row of the form `meet`, each box of the first two processors waits until a box of the other one has been
-//! called. If both processors have threads, no box waits in vain. If one thread flies both, the box that is called
-//! first waits in vain. A box is called once in each frame in which its processor hosts its application. The box is
-//! in the first rack of the processor until a halt, and in its spare rack after a restart.
+//! In a row of the form `meet`, each box of the first two processors waits until a box of the other processor has
+//! been called. If both processors have threads, no box waits in vain. If one thread flies both processors, the box
+//! that is called first waits in vain. A box is called once in each frame in which its processor hosts its
+//! application. The box is in the first rack of the processor until a halt, and in its spare rack after a restart.
 #![tactic(auto)]
 
 mod comparisons;

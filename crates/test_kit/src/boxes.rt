@@ -12,7 +12,7 @@ use std::sync::atomic::Ordering;
 const TURNS: u32 = 50_000_000;
 
 /// A wrapper of a box that counts the calls and returns the results of the box. If `awaited` is given, each call
-/// first spins until a box of the awaited rack has been called, or until the wait is given up.
+/// first spins until a box of the awaited rack has been called, or until `TURNS` checks have been made.
 #[derive(Drop)]
 pub struct Counted<B: App> {
     app: B,

@@ -5,10 +5,10 @@ use std::io;
 use std::rt::HostRuntime;
 use std::sync::atomic::{AtomicU64, Ordering};
 
-/// The numbers of calls of the boxes of a rack, by kind, and the number of calls that waited in vain.
+/// The number of calls of each box of a rack, and the number of calls that waited in vain.
 #[derive(Drop)]
 pub struct Calls {
-    /// The numbers of calls of the boxes: `kinds[k]` is the number of calls of the box of kind `k`.
+    /// The number of calls of each box. `kinds[k]` counts the calls of the box of kind `k`.
     pub kinds: [AtomicU64; 5],
     /// The number of calls that waited in vain for a call of another rack.
     pub in_vain: AtomicU64,
@@ -58,7 +58,7 @@ impl Calls {
 }
 
 /// The counts for the first racks and the spare racks: of the first processor, of the second processor, and of all
-/// other processors together. The counts live as long as the program, as do the boxes that are sent to threads.
+/// other processors together. The counts are never freed, so that boxes on any thread can refer to them.
 #[derive(Drop)]
 pub struct Counters {
     first: &'static Calls,
@@ -86,7 +86,7 @@ impl Counters {
         })
     }
 
-    /// Returns the counts for the first rack of a processor.
+    /// Returns the counts for the first rack of a processor. All processors from 2 on share their counts.
     pub fn own(&self, proc: u32) -> &'static Calls {
         match proc {
             0 => self.first,
@@ -95,7 +95,7 @@ impl Counters {
         }
     }
 
-    /// Returns the counts for the spare rack of a processor.
+    /// Returns the counts for the spare rack of a processor. All processors from 2 on share their counts.
     pub fn spare(&self, proc: u32) -> &'static Calls {
         match proc {
             0 => self.first_spare,

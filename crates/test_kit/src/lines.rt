@@ -19,7 +19,7 @@ pub fn line_after<'a>(row: &'a str, words: &str) -> Option<&'a str> {
 ///
 /// # Errors
 ///
-/// Returns an error if the text after `words` is not an unsigned number of 32 bits.
+/// Returns an error if the text after `words` does not parse as a `u32`.
 pub fn number_after(row: &str, words: &str, other: u32) -> io::Result<u32> {
     match line_after(row, words) {
         Some(digits) => number(digits),
@@ -27,11 +27,11 @@ pub fn number_after(row: &str, words: &str, other: u32) -> io::Result<u32> {
     }
 }
 
-/// Parses an unsigned number of 32 bits.
+/// Parses a number as a `u32`.
 ///
 /// # Errors
 ///
-/// Returns an error if `digits` is not such a number.
+/// Returns an error if `digits` does not parse as a `u32`.
 pub fn number(digits: &str) -> io::Result<u32> {
     match digits.parse::<u32>() {
         Ok(number) => Ok(number),

@@ -26,7 +26,7 @@ pub fn given<T>(answer: Result<T, NoMemory>) -> io::Result<T>
     }
 }
 
-/// Flies a mission on one thread. Returns its rows, and the reconfigurations that are read off them.
+/// Flies a mission on one thread, and returns its rows and reports.
 ///
 /// # Errors
 ///
@@ -39,8 +39,8 @@ pub fn fly_alone(alloc: Global, mission: &Mission) -> io::Result<Flown>
     given(one_thread(alloc, mission, racks))
 }
 
-/// Flies a script on one thread, whether or not it keeps to the failure assumption. Returns its rows, and the
-/// reconfigurations that are read off them.
+/// Flies a script on one thread, and returns its rows and reports. The script need not keep to the failure
+/// assumption.
 ///
 /// # Errors
 ///

@@ -12,7 +12,7 @@ use app_model::{
 };
 use scram_types::{KindId, Mode};
 
-// Returns the numbers of a kind, a mode and a variable with these names. The mode and the variable are those of kind
+// Returns the numbers of a kind, a mode and a variable with these names. The mode and the variable belong to kind
 // `kind`.
 fn numbers_of(kind: u8, names: (&str, &str, &str)) -> (Option<KindId>, Option<Mode>, Option<u8>) {
     (

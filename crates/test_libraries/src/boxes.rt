@@ -15,7 +15,7 @@ const NONE: Area = [0; 8];
 const LEVEL: (i64, i64) = (5_000, 900);
 
 // Returns what a box sees in a level flight without applications of other kinds. The altitude and the heading of the
-// flight are `from`, and those of the goal are `to`.
+// flight are `from`, and the altitude and the heading of the goal are `to`.
 fn seen_in(mode: u8, own: Area, from: (i64, i64), to: (i64, i64)) -> Seen {
     Seen {
         mode: Mode(mode),

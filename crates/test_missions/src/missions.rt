@@ -34,7 +34,7 @@ fn print_targets(rt: &HostRuntime, spec: &Spec) -> io::Result<()> {
     Ok(())
 }
 
-/// Prints the names of the configurations of a set, whose bit `j` is that of configuration `j`.
+/// Prints the names of the configurations of a set. Bit `j` of the set belongs to configuration `j`.
 fn print_set(rt: &HostRuntime, spec: &Spec, set: u16) -> io::Result<()> {
     for (j, conf) in spec.confs.items().iter().enumerate() {
         if j < 16 && set >> j & 1 == 1 {

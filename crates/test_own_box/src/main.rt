@@ -1,5 +1,6 @@
-//! A program as a builder might write it. It flies a mission on words with a flight control of its own in each rack,
-//! and prints the trace. The spare racks have no boxes, so their processors compute the laws without them.
+//! A program as a builder might write it. It flies a mission as a `WordFlight`, with its own flight control in each
+//! rack, and prints the trace. The spare racks have no boxes, so a processor with a spare rack computes the laws
+//! without boxes.
 #![tactic(auto)]
 
 mod own_box;

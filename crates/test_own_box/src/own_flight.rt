@@ -18,7 +18,7 @@ use trace_text::put_trace;
 use word_deck::WordFlight;
 
 /// Flies the mission whose files are beside the program with these boxes, and prints the trace. Refuses the boxes if
-/// one is not of the kind of its place.
+/// a box is not of the kind that its place in the rack requires.
 pub fn fly<R: AllocGlobal + Threads + Wait + Sync>(
     rt: &HostRuntime,
     threads: &R,

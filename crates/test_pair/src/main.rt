@@ -8,10 +8,11 @@
 //!   each number of steps below these numbers. Without a line `units`, it is flown once. A missing number of frames
 //!   or steps is 1.
 //! - `halt UNIT FRAME STEP`: The halt of a row without a line `units`. Without this line, no unit halts.
-//! - `try EVENT`: Makes an event in a flight with the halt of the line `halt`. The events of all such lines are made
-//!   one by one. Each event is printed with its result and with the next events of both units.
+//! - `try EVENT`: Makes an event in a flight with the halt of the line `halt`, or for `go UNIT` all next events of
+//!   the unit. The events of all such lines are made one by one. Each event is printed with its result and with the
+//!   next events of both units.
 //!
-//! A row without lines `try` compares each result with that of one thread.
+//! A row without lines `try` compares each result with the result on one thread.
 #![tactic(auto)]
 
 mod halts;

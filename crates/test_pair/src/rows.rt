@@ -11,8 +11,8 @@ use std::io::{self, ErrorKind};
 use std::rt::HostRuntime;
 use test_kit::{fly_alone, is_same};
 
-/// The number of flights, the number of flights whose result differs from that of one thread, and the number of events
-/// of all flights.
+/// The number of flights, the number of flights whose result differs from the result on one thread, and the number of
+/// events of all flights.
 #[derive(Clone, Copy)]
 struct Compared {
     flights: u32,
@@ -47,7 +47,7 @@ fn fly_all(rt: &HostRuntime, mission: &Mission, row: &str, single: &Flown) -> io
     print_reports(rt, single.reports.items())
 }
 
-/// Flies a mission with a halt, if there is one, and compares the result with that of one thread.
+/// Flies a mission with a halt, if there is one, and compares the result with the result on one thread.
 fn compare(
     rt: &HostRuntime,
     mission: &Mission,

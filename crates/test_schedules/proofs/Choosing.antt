@@ -60,7 +60,8 @@ module _ (m : Flight) (at : Places) (words : Word → ℕ) (backwards : Bool) wh
     over_without (inl over) = over
     over_without (inr next) = absurd (no_next next.0 next.1)
 
-  -- If two ranges of places that together are the whole order have no next event, no place of the order has one.
+  -- If no actor in two ranges of places has a next event, and the ranges together are the whole order, then no actor
+  -- of the order has a next event.
   pub none_at_all : (begin end : ℕ) → suc m.procs ≡ end
       → ((place : ℕ) → begin ≤ place → place < end → next_in_order m at words backwards place ≡ None) → ((place : ℕ) → 0 ≤ place → place < begin → next_in_order m at words backwards place ≡ None)
       → (place : ℕ) → place ≤ m.procs → next_in_order m at words backwards place ≡ None
@@ -69,8 +70,8 @@ module _ (m : Flight) (at : Places) (words : Word → ℕ) (backwards : Bool) wh
     by_side (yes d) = late place d (omega (arith, low, is))
     by_side (no d) = early place (omega arith) (omega (arith, d))
 
-  -- If neither place `at'` nor a place from `begin` to before `at'` has a next event, no place from `begin` to before
-  -- `at' + 1` has one.
+  -- If no actor at a place from `begin` to before `at'` has a next event, and the actor at `at'` has none, then no
+  -- actor at a place from `begin` to before `at' + 1` has a next event.
   pub none_more : (begin at' : ℕ) → ((place : ℕ) → begin ≤ place → place < at' → next_in_order m at words backwards place ≡ None) → next_in_order m at words backwards at' ≡ None
       → (place : ℕ) → begin ≤ place → place < at' + 1 → next_in_order m at words backwards place ≡ None
   none_more begin at' before none place low high = by_side (dec_le at' place) where
@@ -78,7 +79,8 @@ module _ (m : Flight) (at : Places) (words : Word → ℕ) (backwards : Bool) wh
     by_side (yes d) = let same : at' ≡ place = omega (arith, d, high) in subst (λ place. next_in_order m at words backwards place ≡ None) same none
     by_side (no d) = before place low (omega (arith, d))
 
-  -- If two ranges that together are the whole order have no next event, the flight is over.
+  -- If no actor in two ranges of places has a next event, and the ranges together are the whole order, then the
+  -- flight is over.
   pub over_by : (begin end : ℕ) → suc m.procs ≡ end → IsOver m at ⊎ ((event : Event) × IsNext m at words event)
       → ((place : ℕ) → begin ≤ place → place < end → next_in_order m at words backwards place ≡ None) → ((place : ℕ) → 0 ≤ place → place < begin → next_in_order m at words backwards place ≡ None)
       → IsOver m at

@@ -1,4 +1,4 @@
--- Searching for the first place with a next event, place by place.
+-- Lemmas on the search for the first place whose actor has a next event.
 use Rattle.std.proofs.Common.{◌≡◌, ◌∙◌, ℕ, suc, ◌+◌, ◌-◌, ◌<◌, ap, sym, arith}
 use Rattle.std.specs.Prelude.{Option, Some, None}
 use Rattle.bank_words.specs.declared.events.Event.{Event}

@@ -1,4 +1,4 @@
--- If a history is chosen by a rule, it continues with the event that the rule chooses.
+-- If a rule has chosen each event of a history, the event that it chooses next can be appended to the history.
 use Rattle.std.proofs.Common.{◌≡◌, ◌∙◌, ℕ, ◌-◌, Bool, refl, ap, sym, subst, List, [], ◌∷◌, ◌++◌}
 use Rattle.std.specs.Prelude.{Option, Some, None, IfSome, nat_eq, option_map, if◌then◌else◌}
 use Rattle.std.proofs.Math.Path.{fun_ext}

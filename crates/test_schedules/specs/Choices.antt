@@ -10,7 +10,7 @@ use Rattle.test_schedules.specs.declared.choices.Chooser.{Chooser}
 use Rattle.test_schedules.specs.declared.choices.Rule.{Rule}
 use Rattle.test_schedules.specs.declared.choices.Rule.TheVariants.{InTurns, LeastFirst, GreatestFirst, KernelFirst, Seeded}
 
--- The rule asks the processors in descending order.
+-- Whether the rule asks the processors in descending order.
 abbrev pub is_backwards : Rule → Bool
 is_backwards InTurns = false
 is_backwards LeastFirst = false
@@ -30,8 +30,8 @@ abbrev pub found_at : ℕ → Option Event → Option (ℕ × Event) → Option 
 found_at place None rest = rest
 found_at place (Some event) rest = Some (place, event)
 
--- The first place whose actor has a next event, with the event, among the given number of places from `place` on, or
--- `None` if there is none.
+-- The first place whose actor has a next event, with the event, or `None` if there is no such place. Only the given
+-- number of places from `place` on are searched.
 abbrev pub first_in : (ℕ → Option Event) → ℕ → ℕ → Option (ℕ × Event)
 first_in next place zero = None
 first_in next place (suc many) = found_at place (next place) (first_in next (suc place) many)

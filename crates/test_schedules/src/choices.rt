@@ -13,8 +13,8 @@ use scram_types::ProcId;
 /// A rule that chooses the actor of the next event. Actors without a next event are skipped.
 #[derive(Clone, Copy, Debug)]
 pub enum Rule {
-    /// The first actor that has a next event, from the actor after that of the last event on. The order has the
-    /// processors and then the kernel, and begins again after the kernel.
+    /// The first actor that has a next event, beginning with the actor that follows the actor of the last event. The
+    /// order has the processors and then the kernel, and begins again after the kernel.
     InTurns,
     /// The first processor that has a next event, or the kernel if none has one.
     LeastFirst,
@@ -22,8 +22,8 @@ pub enum Rule {
     GreatestFirst,
     /// The kernel, or the first processor that has a next event if the kernel has none.
     KernelFirst,
-    /// The first actor that has a next event, from a random place on. The random numbers are from a generator with
-    /// this seed.
+    /// The first actor that has a next event, beginning with a random actor. The random numbers are from a generator
+    /// with this seed.
     Seeded(u64),
 }
 

@@ -13,8 +13,9 @@ use test_kit::{fly_frames, is_same, line_after, number_after};
 use trace_props::props;
 
 /// The results of the flights of a row. `flights` is the number of flights. `other` counts the flights whose result
-/// differs from that of one thread, `broken` those that are not judged `Ok`, and `unlike` those whose result differs
-/// from that of the first flight. `events` and `first` are the number of events and the result of the first flight.
+/// differs from the result on one thread, `broken` the flights that are not judged `Ok`, and `unlike` the flights
+/// whose result differs from the result of the first flight. `events` and `first` are the number of events and the
+/// result of the first flight.
 #[derive(Drop)]
 struct Compared {
     flights: u32,
@@ -107,8 +108,8 @@ fn fly_case(rt: &HostRuntime, case: &Case, row: &str, compared: &mut Compared) -
     Ok(())
 }
 
-/// Flies a script by a rule, judges the result, and compares it with that of one thread and with that of the first
-/// flight.
+/// Flies a script by a rule, judges the result, and compares it with the result on one thread and with the result of
+/// the first flight.
 fn compare(rt: &HostRuntime, case: &Case, rule: Rule, compared: &mut Compared) -> io::Result<()>
     requires { Fits case.now.spec.now case.now.script.now }
 {

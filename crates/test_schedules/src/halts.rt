@@ -13,7 +13,7 @@ pub(crate) struct Halt {
     pub step: u32,
 }
 
-/// All halts whose processor, frame and step are below these numbers.
+/// All halts whose processor is below `procs`, whose frame is below `frames` and whose step is below `steps`.
 #[derive(Clone, Copy, Debug)]
 pub(crate) struct Halts {
     procs: u32,

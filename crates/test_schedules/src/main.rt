@@ -8,7 +8,7 @@
 //! - `processors N`, `frames N`, `steps N`: The row has a halt for each processor, frame and step below these
 //!   numbers. A missing number is 1.
 //! - `by RULE ..`: Flies the script with each halt to its end by each rule. Each result is judged, and compared with
-//!   that of one thread.
+//!   the result on one thread.
 //! - `seeds N`: In a row with rules, flies the script also by a random choice of actors for each seed below `N`.
 //! - `alike`: Compares all results with the first one, and prints the reconfigurations of the first one.
 //! - `after EVENTS RULE WORD`: Flies the script for this number of events by the rule. Then prints the core's answer

@@ -1,5 +1,5 @@
-//! Flights of a core by a rule, with live processors whose racks have no boxes. With any rule, a flight to the end
-//! returns a core whose flight of the specification and the script is over.
+//! Flights of a core by a rule, with processors whose racks have no boxes. With any rule, a flight to the end returns
+//! a core whose flight is over.
 
 ghost use Rattle.std.specs.Prelude.{◌≡◌, ◌<◌, ◌≤◌, ◌⊎◌, ◌++◌, [], ◌∷◌, IfOk, length};
 ghost use Rattle.event_core.specs.Cores.{HappensIn, IsNextIn, IsWordIn, core_places, core_flight, IsOverIn};
@@ -40,7 +40,7 @@ pub fn fly<'a>(
     Ok(fly_on(core, spec, &mut flyers, rule))
 }
 
-/// Flies a script by a rule for the given number of events, or for fewer if the flight is over before, and returns
+/// Flies a script by a rule for the given number of events, or for fewer if the flight is over earlier, and returns
 /// the core.
 ///
 /// # Errors
@@ -85,7 +85,7 @@ fn fly_on<'a>(core: Core<'a>, spec: &Spec, flyers: &mut Flyers, rule: Rule) -> C
     core
 }
 
-// Flies the given number of events by a rule, or fewer if the flight is over before, and returns the core.
+// Flies the given number of events by a rule, or fewer if the flight is over earlier, and returns the core.
 fn fly_events<'a>(
     core: Core<'a>,
     spec: &Spec,
@@ -114,7 +114,7 @@ fn fly_events<'a>(
     core
 }
 
-// Makes an event, which must be the next event of its actor. If the event is a store, its word is that of the actor.
+// Makes an event, which must be the next event of its actor. The word for the event is from `flyers`.
 fn make(core: &mut Core, spec: &Spec, flyers: &mut Flyers, event: Event)
     requires spec { core.old.spec ≡ spec.now }
     requires next { IsNextIn core.old event }

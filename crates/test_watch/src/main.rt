@@ -3,8 +3,8 @@
 //! The rows of `rows.txt` are separated by blank lines. The first line of a row has one of these forms:
 //!
 //! - `note COUNT`: Publishes the first `COUNT` rows of a mission of `uav`, whose script is in the line `= SCRIPT`.
-//!   Prints the summaries that two readers see: one is noted before the rows are published, and the other one after
-//!   them.
+//!   Prints the summaries that two readers see. The first reader is created before the rows are published, and the
+//!   second one after them.
 //! - `fly NUMBER`: Flies the mission generated from `NUMBER` while two readers read. Compares each summary that they
 //!   see with that of the flight on one thread.
 //!
@@ -28,7 +28,7 @@ fn main(rt: HostRuntime) -> io::Result<()> {
     each_row(&rt, |title, lines| answer_row(&rt, &rt, title, lines))
 }
 
-/// Answers a row of `rows.txt`.
+/// Carries out a row of `rows.txt`, and prints the results.
 fn answer_row<R: AllocGlobal + Threads + Wait + Sync>(
     rt: &HostRuntime,
     threads: &R,

@@ -43,7 +43,7 @@ fn note_rows(rt: &HostRuntime, count: u32, mission: &Mission, rows: &[Row]) -> i
     print_summaries(rt, before, tap.read(&mut reader))
 }
 
-/// Prints the summary that the first reader read, if there is a reader, and the summary `note`.
+/// Prints the summary `before`, if there is one, and the summary `note`.
 fn print_summaries(rt: &HostRuntime, before: Option<Summary>, note: Summary) -> io::Result<()> {
     if let Some(before) = before {
         print_summary(rt, "before", &before)?;

@@ -10,8 +10,8 @@ use std::rt::HostRuntime;
 use test_kit::print_image;
 use word_table::{Seat, Words};
 
-/// Starts the next frame of the seat's processor, reads the image of the first processor, and prints the areas in it.
-/// If the processor has halted, has finished, or is not released, prints that instead.
+/// Starts the next frame of the seat's processor, reads the image of the first processor, and prints the areas in the
+/// image. If the processor does not wait for a frame, or the frame is not released, prints that instead.
 #[tactic(auto, using(crate::proofs::Looking::waits_at, word_deck::proofs::Steps::looks))]
 pub fn look(rt: &HostRuntime, words: &Words, seat: &mut Seat) -> io::Result<()>
     requires seat { IsSeatOf words.now.table seat.old }

@@ -10,7 +10,7 @@ use test_kit::{number, split_word};
 use word_deck::Turn;
 use word_table::WordTable;
 
-/// The maximum number of rounds. No flight of a row needs this number.
+/// The maximum number of rounds. Each flight of a row ends in fewer rounds.
 const ROUNDS: u32 = 100_000;
 
 /// Makes a turn of each of the named actors, in order, and prints the results.
@@ -31,7 +31,7 @@ pub fn print_turns(
     Ok(())
 }
 
-/// Makes the turns of the named actors a number of times. `line` has the form `TIMES NAME ..`.
+/// Makes a turn of each of the named actors, in order, a number of times. `line` has the form `TIMES NAME ..`.
 pub fn repeat_turns(
     mission: &Mission,
     words: &WordTable,

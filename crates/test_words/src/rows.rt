@@ -33,7 +33,7 @@ fn fly_step(rt: &HostRuntime, text: &str, row: &str, step: u32) -> io::Result<()
     flown
 }
 
-// Returns the mission of a row. The step replaces `STEP` in its script.
+// Returns the mission of a row. The step replaces `STEP` in the row's script.
 fn mission_of(rt: &HostRuntime, text: &str, row: &str, step: u32) -> io::Result<Mission> {
     let script = line_after(row, "= ").unwrap_or("");
     let script = fill(rt.alloc(), script, "STEP", step)?;
@@ -125,8 +125,8 @@ fn print_asked(
     }
 }
 
-// Makes the turns of the line `order WHO ..` to the end of the flight and compares the rows with those of one thread,
-// if the row has this line.
+// Makes the turns of the line `order WHO ..` to the end of the flight, and compares the rows with the rows of the
+// flight on one thread, if the row has this line.
 fn fly_asked(
     rt: &HostRuntime,
     mission: &Mission,

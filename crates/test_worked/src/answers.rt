@@ -50,7 +50,7 @@ pub fn answer_counted<R: AllocGlobal + Threads + Wait + Sync>(
     call(threads, words, outside, racks, spares)
 }
 
-/// Returns the sink of a row. Its room and the puts that fail are those that the row names.
+/// Returns the sink of a row. The row determines the room of the sink, and the puts that fail.
 pub fn make_sink(rt: &HostRuntime, row: &str) -> io::Result<MemSink> {
     let failing = numbers(rt.alloc(), row, "! put ")?;
     let rooms = numbers(rt.alloc(), row, "! room ")?;

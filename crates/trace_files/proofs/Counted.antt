@@ -22,7 +22,7 @@ use Rattle.trace_text.specs.RowReading.{row_read}
 use Rattle.trace_text.specs.TraceReading.{ReadingState, after_app, after_line, at_end, before_first, begins, closing, fault_at, go_on, is_plain, expected_line, trace_from, trace_of, with_app, with_done, with_end, with_report, with_row}
 use Rattle.trace_text.specs.Pieces.{is_filled}
 
--- A step of the reading adds at most one row and at most one report.
+-- State `t` has at most one row and at most one report more than state `s`.
 abbrev AddsOne : ReadingState → ReadingState → Type 0
 AddsOne s t = (length t.rows ≤ length s.rows + 1) × (length t.reports ≤ length s.reports + 1)
 

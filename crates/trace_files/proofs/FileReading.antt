@@ -14,14 +14,14 @@ use Rattle.form_base.specs.Refusals.{answer_of}
 use Rattle.form_base.proofs.Reading.{document_reads, refused_reads}
 use Rattle.trace_files.specs.Traces.{AsksTrace, BreaksTrace, SaysTrace, long_trace}
 
--- If the trace was read and the answer to it was prepared, the answer to its file is prepared.
+-- If the trace was read from a file, and the answer to the trace is prepared, the answer to the file is prepared.
 pub trace_reads : {U : Type 0} (spec : Parts) (name : List ℕ) (names : List (List ℕ)) (Then : Flown → Answer) (Rest : U → ℕ → List ℕ → Type 0) (value : Flown) (before mid after : FilesState) (result : Result U Refusal)
     → HasRead MAX_TRACE_BYTES name (SaysTrace spec value) before mid → StaysSteady before mid name → Prepares (Then value) Rest names mid after result
     → Prepares (AsksTrace spec name Then) Rest (name ∷ names) before after result
 trace_reads {U} spec name names Then Rest value before mid after result has steady finds =
     document_reads (SaysTrace spec) (BreaksTrace spec) MAX_TRACE_BYTES long_trace name names Then Rest value before mid after result has steady finds
 
--- If the trace was not loaded, the refusal is the answer to its file.
+-- If the trace was not loaded from a file, the refusal is the answer to the file.
 pub trace_unread : (spec : Parts) (name : List ℕ) (names : List (List ℕ)) (Then : Flown → Answer) (before after : FilesState) (refusal : Refusal)
     → IsUnloaded (BreaksTrace spec) MAX_TRACE_BYTES long_trace name before after (answer_of refusal) → StaysSteady before after name
     → ((answer_of refusal).0 ≡ UNREAD_FILE → Rose before.faults after.faults)

@@ -16,8 +16,8 @@ use Rattle.trace_files.specs.Traces.{AsksTrace, SaysTrace}
 abbrev pub View : Type 0
 View = Parts → List Row → List Report → List ℕ
 
--- The answer of a form that shows a view, given the names of the files of a specification and of a trace. The
--- specification need not be accepted.
+-- The answer of a form that shows a view, given the name of the specification's file and the name of the trace's
+-- file. The specification need not be accepted.
 abbrev pub ViewAnswers : View → List ℕ → List ℕ → Answer
 ViewAnswers view specification trace =
     AsksSpecification specification (λ (spec : Parts). AsksTrace spec trace (λ (flown : Flown).

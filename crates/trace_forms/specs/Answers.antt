@@ -30,7 +30,7 @@ pub record IsJudgement (spec : Parts) (flown : Flown) (status : ℕ) (text : Lis
   pub judges : Judges spec flown judged
   pub gives : Gives (judged_answer flown judged) status text
 
--- The answer of `props`, given the names of the files of a specification and of a trace. The specification need not
+-- The answer of `props`, given the names of the specification's file and the trace's file. The specification need not
 -- be accepted.
 abbrev pub PropsAnswers : List ℕ → List ℕ → Answer
 PropsAnswers specification trace =

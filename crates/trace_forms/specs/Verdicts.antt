@@ -4,7 +4,7 @@ use Rattle.form_base.specs.declared.status.TheConstants.{ANSWERED, BROKEN_PROPER
 use Rattle.form_base.specs.Answers.{Gives}
 use Rattle.trace_forms.specs.declared.judgements.Judgement.{Judgement}
 
--- The status of a judgement reports either that the properties hold or that one is broken.
+-- The status of a judgement reports either that the properties hold or that a property is broken.
 abbrev pub HasVerdict : Judgement → Type 0
 HasVerdict judgement = (judgement.code ≡ ANSWERED) ⊎ (judgement.code ≡ BROKEN_PROPERTY)
 

@@ -40,8 +40,8 @@ target_known n c v [] to known = known
 target_known n c v (rule ∷ rules) to known =
     by_test (λ (t : ConfId). t.0 < n) (rule_fits c v rule) _ _ (λ e. to 0 rule refl) (λ e. target_known n c v rules (λ k other there. to (suc k) other there) known)
 
--- If a property holds for the frames of each bound in a list, then it holds for the bound that the list has for a
--- change from `i` to `j`.
+-- If a property holds for the frames of each bound in a list, then the property holds for the frames of the bound
+-- from `i` to `j`.
 pub bound_each : (P : ℕ → Type 0) (i j t : ℕ) (bounds : List Bound) → ((k : ℕ) (bound : Bound) → slice_get bounds k ≡ Some bound → P bound.frames) → bound_in bounds i j ≡ Some t → P t
 bound_each P i j t [] each is = cc
 bound_each P i j t (bound ∷ bounds) each is =

@@ -15,8 +15,8 @@ use Rattle.trace_props.proofs.Deadlines.{Deadlines}
 use Rattle.trace_props.proofs.Coupling.{LeavingIn, Coupled, coupled, by_arrival}
 use Rattle.trace_props.proofs.Builds.{all_at, place_same, flown}
 
--- If an area lies in the ranges of its last writer, and an act fills it, then the new area lies in the ranges of the
--- writer after the act.
+-- If an area lies in the ranges of its last writer, and an act fills the area, then the new area lies in the ranges
+-- of the writer after the act.
 lies_after : (laws : AreaLaws) (a : ℕ) (act : CourseAct) (w : Written) (old new : CourseArea) → laws.lies a w old ≡ true → IsAreaFilled laws a act old new → laws.lies a (written_after act w) new ≡ true
 lies_after laws a (Ran p) w old new h filled = filled
 lies_after laws a (Halted k n p) w old new h filled = filled
@@ -26,8 +26,8 @@ lies_after laws a (Initialised k n p) w old new h filled = filled.0
 lies_after laws a WasOff w old new h filled = filled
 lies_after laws a Lost w old new h filled = rw filled h
 
--- An area whose application has a place was written by a run or an initialisation there. An area without a place was
--- cleared.
+-- The area of an application with a place was written by a run or an initialisation at that place. The area of an
+-- application without a place was cleared.
 abbrev pub OwnAt : Option Place → Written → Type 0
 OwnAt None w = w ≡ Zeros
 OwnAt (Some p) w = (w ≡ DidRun p) ⊎ (w ≡ DidInit p)
@@ -209,7 +209,7 @@ module _ (plan : Plan) (build : Build) (course : Course) (commits : ℕ → ℕ 
   written_as zero inside = λ a known. own_opening (build.place plan.start a)
   written_as (suc f) inside = written_step f (course_reading_before plan course f) (course_mode_at plan course f) inside (coupled plan course accepted within is_flown f (omega arith)) (is_flown f inside) refl (written_as f (omega arith))
 
-  -- If a reading has left `c` since row `s`, then an invariant for `c` holds after each row from `s` on.
+  -- If the reading before row `e` is `Leaving c s`, then an invariant for `c` holds after each row from `s` to `e`.
   kept_in_row : (e c s : ℕ) (inv : CourseInvariant) (g : ℕ) → e ≤ course.frames → course_reading_before plan course e ≡ Leaving c s → HoldsListedRanges plan build laws inv → SpeaksOfSource inv.source c → s ≤ g → g ≤ e → g < course.frames → inv.holds (area (suc g) inv.app) ≡ true
   kept_in_row e c s inv g inside is kept speaks from to row =
       let same = (since_left plan course e c s is).sources g from to in
@@ -288,8 +288,8 @@ module _ (plan : Plan) (build : Build) (course : Course) (commits : ℕ → ℕ 
         let was : acts g a ≡ WasOff = act ∙ (rw off refl) in
         rw next at (rw was at (filled.writes g a (omega arith) known))
 
--- Report `r` is that of a reconfiguration that ends in row `f`. Before the row, the reading has left the report's
--- source in the report's begin. The row runs the report's target.
+-- Report `r` is the report of a reconfiguration that ends in row `f`. Before row `f`, the reading is `Leaving` with
+-- the source and the begin of `r`. Row `f` runs the target of `r`.
 pub record Reported (course : Course) (f : ℕ) (rd : CourseReading) (r : CourseReport) : Type 0 where
   pub reading : rd ≡ Leaving r.from r.begin
   pub row : course.running f ≡ Some r.to

@@ -43,7 +43,7 @@ inside_of low high x h = by_bool (lies_in low high x)
     (λ inside. lies_of low high x inside)
     (λ beyond. absurd (h (not_from_false (lies_in low high x) beyond)))
 
--- Row `f` of the reconfiguration breaks an invariant that is for its source.
+-- Row `f` belongs to the reconfiguration and breaks an invariant for the reconfiguration's source.
 record BreaksBy (rows : List Row) (r : Report) (inv : Invariant) (f : ℕ) : Type 0 where
   speaks : has_source inv.from r.from ≡ true
   from : r.begin ≤ f

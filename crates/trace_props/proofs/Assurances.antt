@@ -1,4 +1,5 @@
--- Lemmas that each reconfiguration keeps its promises, since the reading of rows agrees with the mode.
+-- Each finished reconfiguration of a course satisfies `IsCourseAssured`, and an unfinished one satisfies
+-- `IsCourseCutOff`, since the reading of rows agrees with the mode.
 use Rattle.std.proofs.Common.{◌≡◌, ℕ, suc, ◌-◌, ◌<◌, ◌≤◌, refl, arith, subst}
 use Rattle.std.specs.Prelude.{Option, Some, None}
 use Rattle.trace_props.proofs.Plans.{Plan, IsAcceptedPlan}
@@ -9,7 +10,7 @@ use Rattle.trace_props.proofs.Deadlines.{Deadlines, bound_of, in_bound}
 use Rattle.trace_props.proofs.Coupling.{LeavingIn, Coupled, coupled}
 
 module _ (plan : Plan) (course : Course) (accepted : IsAcceptedPlan plan) (within : IsCourseWithin plan course) where
-  -- A reconfiguration that ends in row `f` keeps its promises.
+  -- A reconfiguration that ends in row `f` satisfies `IsCourseAssured`.
   arrives : (f c s j : ℕ) (m : CourseMode) → f < course.frames → LeavingIn plan course f c s m → CourseRowUnder plan course f m → course.running f ≡ Some j
       → IsCourseAssured plan course (record { from = c; to = j; begin = s; end = f })
   arrives f c s j (Stable k) inside h row some = absurd h.moves

@@ -50,7 +50,8 @@ lost_none : (acts : List Act) → ((a : ℕ) → act_at acts a ≡ act.Lost → 
 lost_none [] whole = refl
 lost_none (x ∷ xs) whole = rw (not_true (is_lost x) (λ h. whole 0 (lost_is x h)), lost_none xs (λ a. whole (suc a))) refl
 
--- If the test for another environment fails, then the environment of a row equals the one before.
+-- If the test for another environment fails, then the environment of a row equals the environment of the preceding
+-- row.
 unchanged : (v : Env) (o before : Option Env) → o ≡ Some v → is_another_env o before ≡ false → before ≡ o
 unchanged v None before e h = cc
 unchanged v (Some w) None e h = absurd (true_false true refl h)
@@ -66,7 +67,7 @@ module _ (spec : Parts) (rows : List Row) where
   there (x ∷ xs) zero h = (x, refl)
   there (x ∷ xs) (suc f) h = there xs f (omega arith)
 
-  -- From frame `held_since rows t` up to frame `t` the environment is the one of row `t`.
+  -- From frame `held_since rows t` up to frame `t`, the environment is the environment of row `t`.
   same_since : (t f : ℕ) → t < length rows → held_since rows t ≤ f → f ≤ t → env_in rows f ≡ env_in rows t
   same_since zero f inside late early = let e : f ≡ 0 = omega arith in rw e refl
   same_since (suc t) f inside late early =

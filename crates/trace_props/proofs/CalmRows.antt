@@ -47,7 +47,7 @@ met_if true true met h = h refl refl
 met_if true false met h = refl
 met_if false asks met h = refl
 
--- If the act of a running order is not lost, then it fits the order's place.
+-- If the act of a running order is not lost, then the act fits the order's place.
 ran_unlost : (commits : ℕ → Bool) (o : Option Place) → shown (course_act_of commits (course_running_order o)) ≢ act.Lost → course_fits_place o (course_act_of commits (course_running_order o)) ≡ true
 ran_unlost commits None whole = refl
 ran_unlost commits (Some p) whole =

@@ -91,8 +91,8 @@ module _ (plan : Plan) (course : Course) (accepted : IsAcceptedPlan plan) (withi
   alone flown none (suc f) inside =
       alone_step f inside none (course_mode_at plan course f) (timed flown f (omega arith)) (alone flown none f (omega arith))
 
-  -- If the table does not choose the target of a moving mode again, then the bounds allow for two further changes or
-  -- more.
+  -- If the table does not choose the target of a moving mode again, then the bounds allow for at least two further
+  -- changes.
   put_off : IsCourseFlown plan course → (f first from : ℕ) (halting : Option ℕ) (to since : ℕ) → f ≤ course.frames → Deadlines plan course first f from halting to since
       → course_mode_at plan course f ≡ Moving from halting to since → plan.choose to (course.env f) ≢ to → 2 ≤ plan_further plan
   put_off flown f first from halting to since inside d moded away = elim (further_cases plan) [
@@ -108,20 +108,20 @@ module _ (plan : Plan) (course : Course) (accepted : IsAcceptedPlan plan) (withi
       none_or_more : (n : ℕ) → (n ≡ 0) ⊎ (1 ≤ n)
       none_or_more n = grind arith
 
--- The arithmetic for a reconfiguration that follows another one. The reconfiguration is over less than `b` frames
--- after `s`.
+-- The arithmetic for a reconfiguration that follows another one. The later reconfiguration is over fewer than `b`
+-- frames after frame `s`.
 followed : (f since halted p i h pj ij q x t b s : ℕ) → f ≤ since + halted + p + i → since ≤ s → halted + 2 ≤ q → p + i + 1 + h ≤ q → 2 ≤ x → 1 + h + x * q + pj + ij ≤ t → t ≤ b
     → suc f + h + pj + ij < s + b
 followed f since halted p i h pj ij q x t b s settled old short slow twice enough most = let m : 2 * q ≤ x * q = grind arith in omega arith
 
--- The mode is stable, or moves since frame `s` or before, or its target is chosen again and its phases are over less
--- than `b` frames after `s`.
+-- The mode is stable, or its phases count from frame `s` or earlier, or its target is chosen again and its phases are
+-- over fewer than `b` frames after frame `s`.
 abbrev pub EndsSoon : Plan → Course → ℕ → ℕ → ℕ → CourseMode → Type 0
 EndsSoon plan course s b f (Stable c) = Unit {0}
 EndsSoon plan course s b f (Moving from halting to since) =
     (since ≤ s) ⊎ ((plan.choose to (course.env f) ≡ to) × (since + plan_halting plan halting + plan.preparing to + plan.initialising to < s + b))
 
--- The environment does not change after frame `s` and up to frame `t`, and no bound is greater than `b`.
+-- The environment is the same from frame `s` to frame `t`, and no bound is greater than `b`.
 pub record IsCalmFrom (plan : Plan) (course : Course) (s b t : ℕ) : Type 0 where
   pub still : (f : ℕ) → s ≤ f → f < t → course_changes_at plan course.env (suc f) ≡ false
   pub most : (i j n : ℕ) → plan.bound i j ≡ Some n → n ≤ b
@@ -134,7 +134,7 @@ pub record IsAtRest (plan : Plan) (course : Course) (t : ℕ) (mode : CourseMode
   pub chosen : plan.choose conf (course.env t) ≡ conf
 
 module _ (plan : Plan) (course : Course) (accepted : IsAcceptedPlan plan) (within : IsCourseWithin plan course) (flown : IsCourseFlown plan course) where
-  -- A halting phase is at least two frames shorter than the slowest turn.
+  -- A halting phase is at least two frames shorter than `plan.slowest`.
   short : (halting : Option ℕ) (to : ℕ) → to < plan.configurations → ((h : ℕ) → halting ≡ Some h → h < plan.configurations) → plan_halting plan halting + 2 ≤ plan.slowest
   short None to aimed known = let slow = accepted.slow to aimed in let lasts = accepted.lasts to aimed in omega arith
   short (Some h) to aimed known = let slow = accepted.slow h (known h refl) in let lasts = accepted.lasts h (known h refl) in omega arith
@@ -201,6 +201,6 @@ module _ (plan : Plan) (course : Course) (accepted : IsAcceptedPlan plan) (withi
       | inr rests ↦ let settled = h.1.settled in absurd (omega (arith, rests.1))
     ]
 
-    -- No reconfiguration is under way `b` frames after `s`.
+    -- No reconfiguration is under way `b` frames after frame `s`.
     pub calm_rests : t ≤ course.frames → t ≡ s + b → IsAtRest plan course t (course_mode_at plan course t)
     calm_rests inside is = rest_at (course_mode_at plan course t) inside is (timed plan course accepted within flown t inside) (soon t (omega arith) (omega arith) inside)

@@ -74,8 +74,8 @@ found_some : (A : ℕ → Type 0) (o : Option ℕ) → IsLeastOf A o → (f : �
 found_some A None h f a = absurd (h f a)
 found_some A (Some g) h f a = refl
 
--- `before` is a reconfiguration that was read, and each one that ended in the row before the begin of `r` is
--- `before`.
+-- If `before` is present, it is a reconfiguration that was read. Each reconfiguration that ended in the row before
+-- the begin of `r` is `before`.
 pub record IsJustBefore (spec : Parts) (rows : List Row) (before : Option Report) (r : Report) : Type 0 where
   pub there : (x : Report) → before ≡ Some x → (place : ℕ) × (slice_get (reports spec rows) place ≡ Some x)
   pub only : (place : ℕ) (x : Report) → slice_get (reports spec rows) place ≡ Some x → suc x.end ≡ r.begin → before ≡ Some x

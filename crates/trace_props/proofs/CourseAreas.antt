@@ -34,8 +34,9 @@ abbrev pub written_by : (ℕ → CourseAct) → Written → ℕ → Written
 written_by acts w zero = w
 written_by acts w (suc f) = written_after (acts f) (written_by acts w f)
 
--- The laws of areas. `lies a w v` states that area `v` of application `a` lies in the ranges of its writer `w`.
--- `initialised a p v` states that area `v` of application `a` lies in the ranges after a whole initialisation at `p`.
+-- The laws of areas. `lies a w v` is `true` if area `v` of application `a` lies in the ranges of its writer `w`.
+-- `initialised a p v` is `true` if area `v` of application `a` lies in the ranges after a whole initialisation at
+-- `p`.
 pub record AreaLaws : Type 0 where
   pub lies : ℕ → Written → CourseArea → Bool
   pub initialised : ℕ → Place → CourseArea → Bool
@@ -76,7 +77,7 @@ IsPlacedInTarget plan build i a o = (j : ℕ) × IsPlanTarget plan i j × (build
 abbrev pub IsPlacedInEither : Plan → Build → ℕ → ℕ → Option Place → Type 0
 IsPlacedInEither plan build i a o = (build.place i a ≡ o) ⊎ IsPlacedInTarget plan build i a o
 
--- The ranges of writer `w` are among those that an invariant for source `i` has to hold.
+-- The ranges of writer `w` are among the ranges that an invariant for source `i` has to hold.
 abbrev pub IsListed : Plan → Build → ℕ → ℕ → Written → Type 0
 IsListed plan build i a (DidRun p) = IsPlacedInEither plan build i a (Some p)
 IsListed plan build i a (DidHalt p) = IsPlacedInEither plan build i a (Some p)
@@ -95,7 +96,7 @@ pub record HoldsInitialisedRange (build : Build) (laws : AreaLaws) (pre : Course
   pub holds_on : (p : Place) (v : CourseArea) → build.place pre.conf pre.app ≡ Some p → laws.initialised pre.app p v ≡ true → pre.holds v ≡ true
   pub holds_off : (v : CourseArea) → build.place pre.conf pre.app ≡ None → laws.lies pre.app Zeros v ≡ true → pre.holds v ≡ true
 
--- SP4 over a course: reconfigurations keep their invariants and meet their preconditions.
+-- SP4 over a course: reconfigurations keep their invariants and meet the preconditions of their targets.
 pub record AreasKept (plan : Plan) (build : Build) (course : Course) (laws : AreaLaws) (area : ℕ → ℕ → CourseArea) : Type 0 where
   pub throughout : (f : ℕ) (r : CourseReport) (inv : CourseInvariant) (g : ℕ) → f < course.frames → course_report_at plan course f ≡ Some r → HoldsListedRanges plan build laws inv → SpeaksOfSource inv.source r.from
       → r.begin ≤ g → g ≤ r.end → inv.holds (area (suc g) inv.app) ≡ true

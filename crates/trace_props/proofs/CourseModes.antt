@@ -30,7 +30,7 @@ course_turn plan frame from halting to since settled t =
     else (if nat_lt (frame - since) (plan_halting plan halting) then Moving from halting t since
     else (if settled then Moving from (Some to) t frame else Moving from None t frame))
 
--- The mode after a decision. `settled` states that the preceding frame was to run its target. `arrived` states that
+-- The mode after a decision. `settled` is `true` if the preceding frame was to run its target. `arrived` is `true` if
 -- the row of the preceding frame ran that target.
 abbrev pub course_decision : Plan → ℕ → CourseMode → Bool → Bool → Env → CourseMode
 course_decision plan frame (Stable c) settled arrived v = course_stable_decision frame c (plan.choose c v)

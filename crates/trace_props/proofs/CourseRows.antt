@@ -118,8 +118,8 @@ course_runs build acts c = all_below (λ a. course_fits_place (build.place c a) 
 abbrev pub course_acts_at : Plan → Build → Course → (ℕ → ℕ → Bool) → ℕ → ℕ → CourseAct
 course_acts_at plan build course commits f a = course_act_of (commits f) (course_order_in build (course_phase plan (course_mode_at plan course f) f) a)
 
--- The build agrees with the plan of an accepted specification. A configuration in which an application has a place
--- exists. In each configuration some application halts first. Each initialisation takes at least one frame and ends
+-- The build agrees with the plan of an accepted specification. An application has a place only in configurations that
+-- exist. In each configuration some application halts first. Each initialisation takes at least one frame and ends
 -- within the initialising phase. Configurations with the same places are equal. Each processor that a runnable
 -- configuration uses is up.
 pub record IsBuilt (plan : Plan) (build : Build) : Type 0 where

@@ -5,8 +5,8 @@ use Rattle.scram_types.specs.declared.rows.Env.{Env}
 use Rattle.trace_props.proofs.Plans.{Plan}
 use Rattle.trace_props.proofs.CourseModes.{CourseMode, course_target, course_is_running, course_decision, course_stable_decision}
 
--- A course of frames, environments and rows. `runs f c` states that row `f` runs `c`, and `running f` is the
--- configuration with the smallest number that row `f` runs.
+-- A course of frames, environments and rows. `runs f c` is `true` if row `f` runs configuration `c`. `running f` is
+-- the configuration with the smallest number that row `f` runs, or `None` if the row runs none.
 pub record Course : Type 0 where
   pub frames : ℕ
   pub env : ℕ → Env

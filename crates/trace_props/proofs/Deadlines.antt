@@ -78,7 +78,7 @@ module _ (plan : Plan) (course : Course) (accepted : IsAcceptedPlan plan) (withi
   count : ℕ → ℕ
   count f = course_changes_upto plan course.env f
 
-  -- After a change frame, a window adds at most `plan.changes` further change frames.
+  -- A window that begins with a change frame contains at most `plan.changes` further change frames.
   pub room_at_change : (p g : ℕ) → course_changes_at plan course.env (suc p) ≡ true → g ≤ course.frames → g < suc p + plan.window → course_changes_upto plan course.env g ≤ course_changes_upto plan course.env (suc p) + plan.changes
   room_at_change p g changed inside near =
       let few = within.few g inside in
@@ -92,8 +92,8 @@ module _ (plan : Plan) (course : Course) (accepted : IsAcceptedPlan plan) (withi
       let below = count_le plan course.env (g - plan.window) m (omega arith) in
       omega arith
 
-  -- After the frame `m` in which a reconfiguration began to move, a window adds at most the number of further changes
-  -- for which the plan allows.
+  -- A window that begins with the first moving frame `m` of a reconfiguration contains at most `plan_further plan`
+  -- change frames after frame `m`.
   pub room_of : (m : ℕ) → (plan.settles ≡ false → (p : ℕ) × (m ≡ suc p) × (course_changes_at plan course.env (suc p) ≡ true)) → (g : ℕ) → g ≤ course.frames → g < m + plan.window → course_changes_upto plan course.env g ≤ course_changes_upto plan course.env m + plan_further plan
   room_of m begins g inside near = elim (further_cases plan) [
     | inl e ↦ rw e.1 (room_anywhere m g inside near)

@@ -98,7 +98,8 @@ cut_off begin end = record { from = conf_id 0; to = None; begin = begin; end = e
 abbrev broken : Property → ℕ → Option Broken
 broken property frame = Some (record { property = property; frame = frame })
 
--- The first configuration is left in frame 2, in which the environment changes, and the second runs in frame 4.
+-- The environment changes in frame 2, in which the first configuration is left. The second configuration runs in
+-- frame 4.
 abbrev good : List Row
 good = row before (ran 1) 1 10 ∷ row before (ran 1) 1 10 ∷ row after act.Held 1 10 ∷ row after act.Held 4 10 ∷ row after (ran 2) 1 10 ∷ []
 
@@ -108,7 +109,7 @@ holds = refl
 holds_of_no_rows : first_break spec [] [] ≡ None
 holds_of_no_rows = refl
 
--- SP1 is broken in the begin at the first difference.
+-- SP1 is broken in the smaller begin at the first difference between the reports and the reconfigurations.
 not_told : first_break spec good [] ≡ broken Sp1 2
 not_told = refl
 
@@ -203,8 +204,8 @@ caused_next = refl
 not_asked : first_break spec (row before (ran 1) 1 10 ∷ row before act.Lost 1 10 ∷ []) (cut_off 1 2 ∷ []) ≡ None
 not_asked = refl
 
--- A reconfiguration that begins in the row after the end of another one, which saw a change. Under `Settle`, that
--- change is its cause.
+-- A reconfiguration that begins in the row after the end of another reconfiguration, during which the environment
+-- changed. Under `Settle`, that change is the cause of the later reconfiguration.
 abbrev followed : List Row
 followed =
     row before (ran 1) 1 10 ∷ row after act.Held 1 10 ∷ row before act.Held 4 10 ∷ row before (ran 2) 1 10 ∷ row before act.Held 1 10 ∷ row before act.Held 4 10 ∷ row before (ran 1) 1 10 ∷ []
@@ -253,7 +254,8 @@ nothing_asked = refl
 lost_not_calm : first_break (demanding (bound 0 1 2 ∷ []) second_wanted) (steady before ∷ steady before ∷ row before act.Lost 1 10 ∷ []) (cut_off 2 3 ∷ []) ≡ None
 lost_not_calm = refl
 
--- The break in the earliest frame comes first, and within one frame the property with the smallest number.
+-- The break in the earliest frame comes first. Within one frame, the break of the property with the smallest number
+-- comes first.
 earlier_frame : first_break spec (row before (ran 1) 1 10 ∷ row before act.Held 1 10 ∷ row before act.Held 4 10 ∷ row before (ran 2) 1 10 ∷ []) (moved 1 1 3 ∷ []) ≡ broken Sp5 1
 earlier_frame = refl
 

@@ -20,7 +20,7 @@ greater_new : (greatest : Option ℕ) (frames : ℕ) → frames ≤ greater_of g
 greater_new None frames = omega arith
 greater_new (Some most) frames = by_test (λ n. frames ≤ n) (nat_lt most frames) _ _ (λ e. omega arith) (λ e. not_below most frames e)
 
--- If the greatest bound so far is at least `t`, then so is the greatest bound of all.
+-- If the greatest bound so far is at least `t`, then the greatest of all bounds is at least `t`.
 at_least : (most t i : ℕ) (bounds : List Bound) → t ≤ most → IsAtLeast (greatest_bound_from (Some most) bounds i) t
 at_least most t i [] enough = record { bound = most; is = refl; enough = enough }
 at_least most t i (bound ∷ bounds) enough =

@@ -25,14 +25,14 @@ use Rattle.trace_props.proofs.Products.{build_of, is_env, halting_number, plan_o
 use Rattle.trace_props.specs.Judging.{lies_in}
 use Rattle.trace_props.proofs.Ranging.{area_of, area_test, laws_of, lies_held, range_of}
 
--- The invariant over a course for an invariant of a specification.
+-- The `CourseInvariant` of an invariant of a specification.
 abbrev pub invariant_of : told_invariants.Invariant → CourseInvariant
 invariant_of inv = record { source = halting_number inv.from; app = inv.app.0; holds = λ v. lies_in inv.least inv.greatest (word v inv.variable) }
 
 abbrev pub precondition_of : told_preconditions.Precondition → CoursePrecondition
 precondition_of pre = record { conf = pre.conf.0; app = pre.app.0; holds = λ v. lies_in pre.least pre.greatest (word v pre.variable) }
 
--- If the invariant over a course is for source `i`, then so is the invariant of the specification.
+-- If the `CourseInvariant` of an invariant is for source `i`, then so is the invariant itself.
 source_is : (from : Option ConfId) (i : ℕ) → SpeaksOfSource (halting_number from) i → has_source from (conf_id i) ≡ true
 source_is None i h = refl
 source_is (Some c) i h = rw h (equal_test i i refl)
@@ -63,8 +63,8 @@ module _ (spec : Parts) (sound : IsSpec spec) (accepts : Accepts spec) where
     held_off : (v : List ℤ) → holds_off inv ≡ true → area_test (λ i. (pos 0, pos 0)) v ≡ true → lies_in inv.least inv.greatest (word v inv.variable) ≡ true
     held_off v h lies = lies_held inv.least inv.greatest (pos 0) (pos 0) (word v inv.variable) h (area_of (λ i. (pos 0, pos 0)) v lies inv.variable small)
 
-    -- If an invariant holds the ranges in which a place is left, or in which it is reached, then it holds the ranges
-    -- of each act there.
+    -- If an invariant holds the ranges in which a place is left or reached, then the invariant holds the ranges of
+    -- each act at that place.
     init_held : (p : Place) → holds_leaving spec inv (Some p) ≡ true → holds_during spec inv 4 p.mode.0 ≡ true
     init_held p h = and_left (holds_during spec inv 4 p.mode.0) (holds_during spec inv 1 p.mode.0) (and_left (holds_during spec inv 4 p.mode.0 && holds_during spec inv 1 p.mode.0) _ h)
 
@@ -85,8 +85,8 @@ module _ (spec : Parts) (sound : IsSpec spec) (accepts : Accepts spec) where
       kept : acceptance.IsKept spec inv (conf_id i)
       kept = accepts.kept k inv there (conf_id i) known (source_is inv.from i speaks)
 
-      -- If the application has this place in `i` or in a possible target of `i`, then the invariant holds the ranges
-      -- in which the place is left.
+      -- If the application has place `o` in `i` or in a possible target of `i`, then the invariant holds the ranges
+      -- in which `o` is left.
       left_at : (o : Option Place) → IsPlacedInEither (plan_of spec) (build_of spec) i inv.app.0 o → holds_leaving spec inv o ≡ true
       left_at o site = elim site [
         | inl here ↦ rw here at kept.leaving

@@ -32,7 +32,7 @@ module _ (spec : Parts) (rows : List Row) (told : List Report) where
       → judge_all spec rows told s (still_read spec rd f xs m) ≡ judge_all spec rows told t (still_read spec next g ys n)
   same_judged s t rd next f g xs ys m n p q r e k = rw (p, q, r, e, k) refl
 
-  -- One turn of the loop, which judges the next row, does not change the final judgement.
+  -- An iteration of the loop, which judges the next row, does not change the final judgement.
   pub judge_more : (s t : Judgement) (rd next : Reading) (f i : ℕ) (d : Row) (read : Option Report) → i < length rows
       → next ≡ read_row spec rd f (get_or rows i d).acts → read ≡ report_of spec rd f (get_or rows i d).acts → t ≡ judge spec rows told s read
       → judge_all spec rows told t (still_read spec next (f + 1) (drop (i + 1) rows) (length rows)) ≡ judge_all spec rows told s (still_read spec rd f (drop i rows) (length rows))

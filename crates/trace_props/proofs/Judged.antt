@@ -91,7 +91,8 @@ record BreaksBelow (spec : Parts) (rows : List Row) (all : List Report) (n : ℕ
   there : slice_get all place ≡ Some r
   broken : BreaksIn spec rows r p g
 
--- `s` is the judgement after the first `n` reconfigurations of `all`. The last of these ended before frame `low`.
+-- `s` is the judgement after the first `n` reconfigurations of `all`. The last of these reconfigurations ended before
+-- frame `low`.
 record IsJudged (spec : Parts) (rows : List Row) (all : List Report) (n low : ℕ) (s : Judgement) : Type 0 where
   first : IsFirstOf (BreaksBelow spec rows all n) s.broken
   kept : s.broken ≡ None → (k : ℕ) (x : Report) → k < n → slice_get all k ≡ Some x → Keeps spec rows x
@@ -106,7 +107,7 @@ module _ (spec : Parts) (rows : List Row) (told : List Report) where
     here : slice_get Read n ≡ Some r
     here = ap (slice_get Read) (omega arith) ∙ rest 0
 
-    -- A reconfiguration that ended in the frame before the begin of `r` is the one that was judged last.
+    -- A reconfiguration that ended in the frame before the begin of `r` is the reconfiguration that was judged last.
     only : (place : ℕ) (x : Report) → slice_get Read place ≡ Some x → suc x.end ≡ r.begin → s.before ≡ Some x
     only place x there last = elim (low_or_past place n) [
       | inl less ↦ elim (h.past place x less there).1 [
@@ -244,7 +245,7 @@ module _ (spec : Parts) (rows : List Row) (told : List Report) where
             (none_at Sp6 (unsatisfied_at spec rows) (none_right (first_in_reports spec rows told) (broken_at Sp6 (unsatisfied_at spec rows)) all));
       }
 
-  -- If all properties hold, then none is broken in any frame.
+  -- If all properties hold, then no property is broken in any frame.
   pub unbroken_of : HoldsAll spec rows told → (p : Property) (g : ℕ) → BreaksAt spec rows told p g → ⊥
   unbroken_of h Sp1 g b = b.differ (ap (λ xs. slice_get xs b.place) h.sp1)
   unbroken_of h Sp2 g b = b.broken.0 (h.sp2 b.place b.reconfiguration b.there)

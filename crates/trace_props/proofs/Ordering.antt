@@ -12,13 +12,13 @@ use Rattle.frame_model.specs.Readings.{arrival, arrive, as_list, close, ended_in
 use Rattle.frame_model.specs.Runs.{running, runs}
 use Rattle.trace_props.proofs.Tests.{by_test}
 
--- The reconfigurations that are still to be read off `rows`, given the reading before them. The first of the rows is
--- the row of frame `f`, and `n` is the number of all rows of the trace.
+-- The reconfigurations that are still to be read off `rows`, given the reading before `rows`. The first of the rows
+-- is the row of frame `f`, and `n` is the number of all rows of the trace.
 abbrev pub still_read : Parts → Reading → ℕ → List Row → ℕ → List Report
 still_read spec rd f rows n = ended_in spec rd f rows ++ as_list (close (reading_after spec rd f rows) n)
 
--- Each reconfiguration begins at or after frame `low` and ends at or after its begin, and the next one begins after
--- its end.
+-- Each reconfiguration begins at or after frame `low`, ends no earlier than it begins, and ends before the next
+-- reconfiguration begins.
 abbrev pub Ordered : ℕ → List Report → Type 0
 Ordered low [] = Unit {0}
 Ordered low (r ∷ read) = (low ≤ r.begin) × (r.begin ≤ r.end) × Ordered (suc r.end) read

@@ -23,12 +23,12 @@ pub record Plan : Type 0 where
 abbrev pub plan_further : Plan → ℕ
 plan_further plan = if plan.settles then suc plan.changes else plan.changes
 
--- The length of the halting phase of a configuration, or 0 if there is none.
+-- The length of the halting phase of a configuration, or 0 if there is no configuration.
 abbrev pub plan_halting : Plan → Option ℕ → ℕ
 plan_halting plan None = 0
 plan_halting plan (Some c) = plan.halting c
 
--- The smallest bound that suffices for a change from `i` to `j`.
+-- The smallest bound that suffices for a reconfiguration from `i` to `j`.
 abbrev pub plan_least_bound : Plan → ℕ → ℕ → ℕ
 plan_least_bound plan i j = 1 + plan.halting i + plan_further plan * plan.slowest + plan.preparing j + plan.initialising j
 
@@ -38,9 +38,9 @@ pub record IsPlanTarget (plan : Plan) (i j : ℕ) : Type 0 where
   pub scope : plan.in_scope seen ≡ true
   pub chosen : plan.choose i seen ≡ j
 
--- The plan is that of an accepted specification. Chosen configurations exist, can run in each environment in scope
--- and are chosen again there. The start is chosen at the opening. Each change that may come has a bound that
--- suffices, and the window is longer than each bound.
+-- The plan belongs to an accepted specification. The configuration that is chosen in an environment in scope exists,
+-- can run in the environment, and is chosen again in it. The start is chosen in the opening environment. Each
+-- possible reconfiguration has a sufficient bound, and the window is longer than each bound.
 pub record IsAcceptedPlan (plan : Plan) : Type 0 where
   pub start_in : plan.start < plan.configurations
   pub choose_in : (c : ℕ) (v : Env) → c < plan.configurations → plan.choose c v < plan.configurations

@@ -27,8 +27,8 @@ use Rattle.trace_props.proofs.CourseModes.{CourseMode, CourseMode.Stable, Course
 use Rattle.trace_props.proofs.Courses.{Course}
 use Rattle.trace_props.proofs.CourseRows.{CoursePhase, CoursePhase.Running, CoursePhase.Halting, CoursePhase.Preparing, CoursePhase.Initialising, Build}
 
--- Whether the number of factor `x` in an environment is that of one of the factor's values, or is 0 if there is no
--- such factor.
+-- Whether the number that an environment gives for factor `x` is the number of a value of the factor. If there is no
+-- such factor, whether the number is 0.
 abbrev pub has_value : Parts → Env → ℕ → Bool
 has_value spec v x = nat_lt (factor_in v x) (option_map_or (λ (factor : Factor). length factor.values) (slice_get spec.factors x) 1)
 

@@ -1,12 +1,12 @@
--- Definitions of the promises for each reconfiguration that is read off the rows, and of the central facts on its
--- moving frames.
+-- Definitions of the properties that each reconfiguration of a course satisfies, and of the central facts on moving
+-- frames.
 use Rattle.std.specs.Prelude.{◌≡◌, ℕ, suc, ◌+◌, ◌-◌, ◌*◌, ◌<◌, ◌≤◌, ◌⊎◌, true, false, Option, Some}
 use Rattle.trace_props.proofs.Plans.{Plan, IsAcceptedPlan, plan_further, plan_halting}
 use Rattle.trace_props.proofs.CourseModes.{CourseMode, CourseMode.Stable, CourseMode.Moving}
 use Rattle.trace_props.proofs.Courses.{Course, CourseReading, CourseReading.Steady, CourseReading.Leaving, CourseReport, course_reading_before, course_report_at, course_changes_at, course_changes_upto, course_mode_at, IsCourseWithin, IsCourseFlown}
 
--- A reconfiguration that begins in frame `s` follows another one. The environment changed during that other one after
--- its begin.
+-- A reconfiguration that begins in frame `s` follows another reconfiguration. The environment changed during the
+-- earlier reconfiguration after its begin.
 pub record CourseFollows (plan : Plan) (course : Course) (s : ℕ) : Type 0 where
   pub settles : plan.settles ≡ true
   pub before : CourseReport
@@ -46,8 +46,8 @@ pub record IsCourseAllAssured (plan : Plan) (course : Course) : Type 0 where
 abbrev pub Reconfigures : Type 0
 Reconfigures = (plan : Plan) (course : Course) → IsAcceptedPlan plan → IsCourseWithin plan course → IsCourseFlown plan course → IsCourseAllAssured plan course
 
--- The first moving frame of a reconfiguration that began in frame `s`, given the mode of that frame. It is `s` if the
--- mode is a moving one, or else the frame after `s`.
+-- The first moving frame of a reconfiguration that began in frame `s`, given the mode of that frame. The value is `s`
+-- if the mode is a moving one, or else the frame after `s`.
 abbrev pub course_first_moving_in : CourseMode → ℕ → ℕ
 course_first_moving_in (Stable c) s = suc s
 course_first_moving_in (Moving from halting to since) s = s

@@ -1,4 +1,4 @@
--- The acts in the rows of a script are those of its course.
+-- The acts in the rows of a script are the acts of its course.
 use Rattle.std.proofs.Common.{◌≡◌, ℕ, zero, suc, ◌-◌, ◌<◌, Bool, true, false, refl, arith, ap, sym, ◌∙◌, length}
 use Rattle.std.specs.Prelude.{Option, Some, None, nat_lt, if◌then◌else◌}
 use Rattle.scram_types.specs.declared.ids.ConfId.{ConfId}
@@ -102,7 +102,7 @@ act_same spec commits (told.Halting c age) a = halting_same commits (halt_offset
 act_same spec commits (told.Preparing c age) a = preparing_same commits (prepare_time spec c a) age (place_of spec c a)
 act_same spec commits (told.Initialising c age) a = init_same commits (init_offset spec c a) (init_time spec c a) age (place_of spec c a)
 
--- Lemmas that the phases of the kernel are those of a course.
+-- Lemmas that the phases of the kernel are the phases of a course.
 three_phases : (a b : Bool) (x y z : told_phases.Phase) → course_phase_of (if a then x else (if b then y else z)) ≡ (if a then course_phase_of x else (if b then course_phase_of y else course_phase_of z))
 three_phases true b x y z = refl
 three_phases false true x y z = refl

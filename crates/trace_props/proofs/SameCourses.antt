@@ -1,5 +1,5 @@
--- The rows of a script are those of a run of its course, and the course of a script within its assumption keeps to
--- the failure assumption.
+-- The rows of a script are the rows of a run of its course. The course of a script within its assumption keeps to the
+-- failure assumption.
 use Rattle.std.proofs.Common.{◌≡◌, ℕ, zero, suc, ◌+◌, ◌-◌, ◌<◌, ◌≤◌, Bool, true, false, not, refl, arith, ◌⊎◌, ap, ◌∙◌, List, [], ◌∷◌, length}
 use mathlib.Core.Logic.{inl, inr}
 use Rattle.std.specs.Prelude.{Some, None, slice_get, nat_le, ◌&&◌, ◌==◌, ◌^◌, if◌then◌else◌}
@@ -29,7 +29,7 @@ use Rattle.trace_props.proofs.Tests.{by_test}
 use Rattle.trace_props.proofs.Products.{build_of, course_of, has_value, is_env, plan_of}
 use Rattle.trace_props.proofs.SameActs.{committed, runs_same}
 
--- Every course opens with all processors up and each factor at its first value.
+-- Lemmas that every course opens with all processors up and each factor at its first value.
 all_bits : (n : ℕ) → suc (bits_below (λ p. true) n) ≡ 2 ^ n
 all_bits zero = refl
 all_bits (suc n) = let before = all_bits n in grind (arith, before)
@@ -53,7 +53,7 @@ opens spec script fits = made _ _ _ _ (let all = all_bits (length spec.procs) in
     sixth : {a b c d e f : ℕ} → a ≡ 0 → b ≡ 0 → c ≡ 0 → d ≡ 0 → e ≡ 0 → f ≡ 0 → ◌≡◌ {A = List ℕ} (a ∷ b ∷ c ∷ d ∷ e ∷ f ∷ []) (0 ∷ 0 ∷ 0 ∷ 0 ∷ 0 ∷ 0 ∷ [])
     sixth p q r s t u = rw (p, q, r, s, t, u) refl
 
--- Every environment of a script belongs to the specification.
+-- Lemmas that every environment of a script belongs to the specification.
 six_at : (spec : Parts) (script : ScriptParts) (f x : ℕ) → x < 6 → factor_in (env_at spec script f) x ≡ factor_at script x f
 six_at spec script f zero h = refl
 six_at spec script f (suc zero) h = refl
@@ -82,7 +82,7 @@ belongs spec script f shows =
         let there = six_at spec script f x below in
         rw (some.1, there) (below_test (factor_at script x f) (length some.0.values) (shows.values x some.0 some.1))
 
--- The processors that are down in an environment are those that are not up.
+-- Lemmas that a processor is up in an environment if and only if its bit is set.
 bit_up : (v : Env) (p : ℕ) → bit_at v.up p ≡ 1 → is_up_in v p ≡ true
 bit_up v p h = rw h refl
 

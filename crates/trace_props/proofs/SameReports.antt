@@ -1,4 +1,4 @@
--- The reconfigurations that are read off the rows of a script are those of its course.
+-- The reconfigurations that are read off the rows of a script are the reconfigurations of its course.
 use Rattle.std.proofs.Common.{◌≡◌, ℕ, zero, suc, ◌<◌, ◌≤◌, Bool, true, false, refl, arith, ap, sym, ◌∙◌, List, [], ◌++◌, length, ◌⊎◌}
 use mathlib.Core.Logic.{inl, inr}
 use Rattle.std.specs.Prelude.{Option, Some, None, slice_get, option_map, if◌then◌else◌}
@@ -91,7 +91,7 @@ module _ (spec : Parts) (script : ScriptParts) where
         (each_option (IsEnded frames) (option_map told_report (course_report_at (plan_of spec) (course_of spec script) n)) (ended_one frames n (omega arith) (course_report_at (plan_of spec) (course_of spec script) n) refl))
         k x (ap (λ xs. slice_get xs k) (sym (ended_more n)) ∙ h)
 
-    -- Lemmas that each reconfiguration of the course has an index in the list of those that are read.
+    -- Lemmas that each reconfiguration of the course has an index in the list of the reconfigurations that are read.
     below_or_last : (k n : ℕ) → k < suc n → (k < n) ⊎ (k ≡ n)
     below_or_last k n h = grind arith
 

@@ -20,7 +20,7 @@ use Rattle.trace_props.proofs.Tests.{by_test}
 use Rattle.trace_props.proofs.Differing.{same_id}
 use Rattle.scram_types.specs.Lookups.{env_in}
 
--- A property of one reconfiguration is kept if no frame is given, and fails in the given frame otherwise.
+-- If no frame is given, the property `Keeps` holds. Otherwise `Keeps` fails, and the given frame is `frame`.
 abbrev pub Judges : Type 0 → ℕ → Option ℕ → Type 0
 Judges Keeps frame None = Keeps
 Judges Keeps frame (Some f) = Fails Keeps × (f ≡ frame)
@@ -29,7 +29,8 @@ pub least_judged : (Keeps : Type 0) (frame : ℕ) (o : Option ℕ) → Judges Ke
 least_judged Keeps frame None h = λ g b. b.0 h
 least_judged Keeps frame (Some f) h = (h, λ g b. (let e = h.1 in let k = b.1 in omega arith))
 
--- A frame of a reconfiguration that passes a test is in the span of the test from the begin on.
+-- If a frame of a reconfiguration passes a test, then the frame satisfies `InSpan` for the frames of the
+-- reconfiguration.
 pub in_span : (test : ℕ → Bool) (r : Report) (f : ℕ) → r.begin ≤ f → f ≤ r.end → test f ≡ true → InSpan test r.begin (r.end + 1 - r.begin) f
 in_span test r f from up_to passes = record { from = from; up_to = omega arith; passes = passes }
 

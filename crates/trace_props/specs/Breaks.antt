@@ -42,8 +42,8 @@ pub record BreaksSp1 (told read : List Report) (frame : ℕ) : Type 0 where
   pub differ : slice_get told place ≢ slice_get read place
   pub began : lesser_begin (slice_get told place) (slice_get read place) ≡ Some frame
 
--- The last frame of a reconfiguration, given its target and its end. It is the end, or the frame before the end if
--- there is no target.
+-- The last frame of a reconfiguration, given its target and its end. The value is the end, or the frame before the
+-- end if there is no target.
 abbrev pub last_frame_to : Option ConfId → ℕ → ℕ
 last_frame_to None end = end - 1
 last_frame_to (Some j) end = end
@@ -92,7 +92,7 @@ pub record BreaksSomewhere (spec : Parts) (rows : List Row) (property : Property
   pub there : slice_get (reports spec rows) place ≡ Some reconfiguration
   pub broken : BreaksIn spec rows reconfiguration property frame
 
--- SP6 is broken in `frame`: the row of the frame is calm, and `is_satisfied` is `false` for it.
+-- SP6 is broken in `frame`: the row of the frame is calm and does not satisfy the demands.
 pub record BreaksSp6 (spec : Parts) (rows : List Row) (frame : ℕ) : Type 0 where
   pub row : Row
   pub calm : IsCalm spec rows frame row
@@ -107,8 +107,8 @@ BreaksAt spec rows told Sp4 frame = BreaksSomewhere spec rows Sp4 frame
 BreaksAt spec rows told Sp5 frame = BreaksSomewhere spec rows Sp5 frame
 BreaksAt spec rows told Sp6 frame = BreaksSp6 spec rows frame
 
--- The break of `one` in frame `f` does not come after the break of `other` in frame `g`. Frame `f` is earlier, or the
--- frames are equal and the number of `one` is not greater than that of `other`.
+-- The break of `one` in frame `f` does not come after the break of `other` in frame `g`. Frame `f` is earlier than
+-- frame `g`, or the frames are equal and the number of `one` is at most the number of `other`.
 abbrev pub ComesBefore : Property → ℕ → Property → ℕ → Type 0
 ComesBefore one f other g = (f < g) ⊎ ((f ≡ g) × (property_number one ≤ property_number other))
 

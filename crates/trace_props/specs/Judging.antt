@@ -74,7 +74,7 @@ begin_told None = None
 begin_told (Some one) = Some one.begin
 
 -- The frame in which SP1 is broken once all reconfigurations are read, or `None` if SP1 is kept. Any further report
--- breaks it.
+-- breaks SP1.
 abbrev pub difference : List Report → Agreement → Option ℕ
 difference told (Alike place) = begin_told (slice_get told place)
 difference told (Apart frame) = Some frame
@@ -110,8 +110,8 @@ abbrev pub late_by : Report → Option ℕ → Option ℕ
 late_by r None = Some (last_frame r)
 late_by r (Some bound) = if nat_le (r.end - r.begin) bound then None else Some (last_frame r)
 
--- The frame in which SP3 is broken: the last frame if no bound is given or the reconfiguration took longer, or `None`
--- if SP3 is kept.
+-- The frame in which SP3 is broken, or `None` if SP3 is kept. SP3 is broken in the last frame of the reconfiguration
+-- if no bound is given or the reconfiguration took longer than the bound.
 abbrev pub late_at : Parts → Report → Option ℕ
 late_at spec r = late_by r (bound_on spec r.from r.to)
 
@@ -142,8 +142,8 @@ lesser_frame None other = other
 lesser_frame (Some one) None = Some one
 lesser_frame (Some one) (Some other) = Some (min one other)
 
--- The first frame in which an invariant of the list is broken, or `least`, a frame that was found before, if that is
--- smaller or the only one. It is `None` if there is neither.
+-- The smaller of two optional frames: `least`, which was found before, and the first frame in which an invariant of
+-- the list is broken. The value is the only frame present, or `None` if both are absent.
 abbrev pub least_unkept : List Row → Report → Option ℕ → List Invariant → Option ℕ
 least_unkept rows r least [] = least
 least_unkept rows r least (inv ∷ invs) = least_unkept rows r (lesser_frame least (unkept_from rows r inv)) invs
@@ -208,8 +208,8 @@ follows spec rows (Some before) r =
 abbrev pub has_cause : Parts → List Row → Option Report → Report → Bool
 has_cause spec rows before r = changes_in spec rows r.begin || changes_in spec rows (r.begin + 1) || follows spec rows before r
 
--- The frame in which SP5 is broken: the begin if the reconfiguration has no cause and does not begin in the last row,
--- or `None` if SP5 is kept.
+-- The frame in which SP5 is broken, or `None` if SP5 is kept. SP5 is broken in the begin if the reconfiguration has
+-- no cause and does not begin in the last row.
 abbrev pub causeless_at : Parts → List Row → Option Report → Report → Option ℕ
 causeless_at spec rows before r = if nat_le (length rows) (r.begin + 1) || has_cause spec rows before r then None else Some r.begin
 
@@ -242,13 +242,13 @@ opening_judgement = record { agreement = Alike 0; broken = None; before = None }
 abbrev pub conclusion : List Report → Judgement → Option Broken
 conclusion told judgement = earlier (broken_at Sp1 (difference told judgement.agreement)) judgement.broken
 
--- The frame since which the environment has been that of row `f`, without a change, given this frame for the
--- preceding row (SP6).
+-- The frame since which the environment has been the same as in row `f` (SP6). `since` is the corresponding frame for
+-- the preceding row.
 abbrev pub held_by : List Row → ℕ → ℕ → ℕ
 held_by rows zero since = 0
 held_by rows (suc f) since = if is_another_env (env_in rows (suc f)) (env_in rows f) then suc f else since
 
--- The frame since which the environment has been that of row `f`, without a change.
+-- The frame since which the environment has been the same as in row `f`.
 abbrev pub held_since : List Row → ℕ → ℕ
 held_since rows zero = 0
 held_since rows (suc f) = held_by rows (suc f) (held_since rows f)
@@ -271,7 +271,7 @@ loses_some row = list_any is_lost row.acts
 abbrev pub is_unsatisfied : Parts → Row → Bool
 is_unsatisfied spec row = not (loses_some row) && not (is_satisfied spec row)
 
--- Whether a row exists, no application is lost in it, and it does not satisfy the demands.
+-- Whether a row exists, no application is lost in the row, and the row does not satisfy the demands.
 abbrev pub unsatisfied_in : Parts → Option Row → Bool
 unsatisfied_in spec None = false
 unsatisfied_in spec (Some row) = is_unsatisfied spec row

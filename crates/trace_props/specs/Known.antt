@@ -5,7 +5,7 @@ use Rattle.app_model.specs.Areas.{AllTablesNarrow, LawLiesAfterInit, LawLiesDuri
 use Rattle.fault_script.specs.Laws.{EnvironmentsShow, LossesShow}
 use Rattle.frame_model.specs.Laws.{ReadsRowByRow}
 
--- The laws of the other crates hold: those on choices, phase times, scripts, rows and the kinds of applications.
+-- The laws of the other crates on choices, phase times, scripts, rows and the kinds of applications hold.
 pub record IsKnown : Type 0 where
   pub runs_up : RunsWherePlacesAreUp
   pub timed : PhasesEndInTime

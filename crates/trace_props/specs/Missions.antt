@@ -27,19 +27,19 @@ abbrev pub ReconfigurationsAreAssured : Type 0
 ReconfigurationsAreAssured = (spec : Parts) (script : ScriptParts) → IsSpec spec → IsMission (mission_of spec script)
     → HoldsAll spec (rows_of spec script) (reports_of spec script)
 
--- The begin of the reconfiguration to which frame `f` belongs, given the reading of the rows before `f`. It is `f` if
--- no reconfiguration is under way there.
+-- The begin of the reconfiguration to which frame `f` belongs, given the reading of the rows before `f`. The value is
+-- `f` if no reconfiguration is under way in that frame.
 abbrev pub begin_in : Reading → ℕ → ℕ
 begin_in (Steady c) f = f
 begin_in (Leaving c begin) f = begin
 
 -- The begin of the reconfiguration to which frame `f` of a mission belongs, or `f` if no reconfiguration is under way
--- there.
+-- in that frame.
 abbrev pub begin_at : Parts → ScriptParts → ℕ → ℕ
 begin_at spec script f = begin_in (reading_of spec (listed_below (row_at spec script) f)) f
 
--- The first moving frame of a reconfiguration, given its begin and the mode in the frame of the begin. It is the
--- begin if the mode is a moving one, or else the frame after the begin.
+-- The first moving frame of a reconfiguration, given its begin and the mode in the frame of the begin. The value is
+-- the begin if the mode is a moving one, or else the frame after the begin.
 abbrev pub first_moving_in : KMode → ℕ → ℕ
 first_moving_in (Stable c) begin = suc begin
 first_moving_in (Moving from halting to since) begin = begin
@@ -52,7 +52,7 @@ first_moving spec script f = first_moving_in (decided spec script (begin_at spec
 abbrev pub changes_since : Parts → ScriptParts → ℕ → ℕ
 changes_since spec script f = changes_upto spec script f - changes_upto spec script (first_moving spec script f)
 
--- A property holds for each moving frame of a mission, up to and including the frame after the last one.
+-- A property holds for each moving frame of a mission, including the frame after the last row.
 abbrev pub InMovingFrames : (Parts → ScriptParts → ℕ → ConfId → Option ConfId → ConfId → ℕ → Type 0) → Type 0
 InMovingFrames Fact = (spec : Parts) (script : ScriptParts) → IsSpec spec → IsMission (mission_of spec script)
     → (f : ℕ) (from : ConfId) (halting : Option ConfId) (to : ConfId) (since : ℕ) → f ≤ script.frames → decided spec script f ≡ Moving from halting to since
@@ -68,7 +68,7 @@ pub record IsTargetChosen (spec : Parts) (script : ScriptParts) (f : ℕ) (from 
   pub chosen : choose spec from (env_at spec script chosen_at) ≡ to
   pub anew : spec.policy ≡ Retarget → choose spec from (env_at spec script f) ≡ to
 
--- In each moving frame of a mission the target can run, and was chosen as `IsTargetChosen` states.
+-- Each moving frame of a mission satisfies `IsTargetChosen`.
 abbrev pub TargetsAreChosen : Type 0
 TargetsAreChosen = InMovingFrames IsTargetChosen
 
@@ -90,16 +90,17 @@ SettlesInTime spec script f from halting to since = f ≤ since + halting_frames
 abbrev pub PhasesArePastInTime : Type 0
 PhasesArePastInTime = InMovingFrames SettlesInTime
 
--- The number of further changes is at most the number for which the bounds allow.
+-- The number of change frames after the first moving frame is at most `further`, the number for which the bounds
+-- allow.
 abbrev pub SeesFewChanges : Parts → ScriptParts → ℕ → ConfId → Option ConfId → ConfId → ℕ → Type 0
 SeesFewChanges spec script f from halting to since = changes_since spec script f ≤ further spec.policy spec.changes
 
--- In each moving frame of a mission the number of further changes is at most the number for which the bounds allow.
+-- Each moving frame of a mission satisfies `SeesFewChanges`.
 abbrev pub FurtherChangesAreFew : Type 0
 FurtherChangesAreFew = InMovingFrames SeesFewChanges
 
--- A finished flight is the one-thread trace of a mission, for which all properties hold. The flight has a row for
--- each frame. The number of its reconfigurations is at most the number of its rows.
+-- The finished flight has the rows and the reports of the mission, for which all properties hold. The flight has a
+-- row for each frame. The number of its reports is at most the number of its rows.
 pub record IsTraceOf (mission : MissionParts) (flown : Flown) : Type 0 where
   pub rows : flown.rows ≡ rows_of mission.spec mission.script
   pub reports : flown.reports ≡ reports_of mission.spec mission.script

@@ -49,18 +49,18 @@ abbrev pub bound_on : Parts → ConfId → Option ConfId → Option ℕ
 bound_on spec from None = greatest_bound_in spec.bounds from.0
 bound_on spec from (Some j) = bound_in spec.bounds from.0 j.0
 
--- SP3 of a reconfiguration: a bound is given, and the reconfiguration took no longer. An unfinished reconfiguration
--- counts up to the last row.
+-- SP3 of a reconfiguration: a bound is given, and the reconfiguration takes no longer than the bound. An unfinished
+-- reconfiguration counts up to the last row.
 pub record KeepsSp3 (spec : Parts) (r : Report) : Type 0 where
   pub bound : ℕ
   pub given : bound_on spec r.from r.to ≡ Some bound
   pub in_time : r.end ≤ r.begin + bound
 
--- A row keeps an invariant: the invariant's variable is within its interval.
+-- A row keeps an invariant: the variable of the invariant is within the interval of the invariant.
 abbrev pub InvariantHolds : Invariant → Row → Type 0
 InvariantHolds inv row = Between (inv.least, inv.greatest) (word (area_at row.areas inv.app.0) inv.variable)
 
--- A row meets a precondition: the precondition's variable is within its interval.
+-- A row meets a precondition: the variable of the precondition is within the interval of the precondition.
 abbrev pub PreconditionHolds : Precondition → Row → Type 0
 PreconditionHolds pre row = Between (pre.least, pre.greatest) (word (area_at row.areas pre.app.0) pre.variable)
 
@@ -85,8 +85,8 @@ pub record FollowsAnother (spec : Parts) (rows : List Row) (r : Report) : Type 0
   pub up_to : change ≤ before.end
   pub changes : ChangesIn spec rows change
 
--- SP5 of a reconfiguration: the environment changes in its begin or in the row after it. Under `Settle`, a change
--- during the reconfiguration just before may also be the cause. A begin in the last row is exempt.
+-- SP5 of a reconfiguration: the environment changes in the begin or in the row after the begin. Under `Settle`, a
+-- change during the reconfiguration just before may also be the cause. A begin in the last row is exempt.
 abbrev pub KeepsSp5 : Parts → List Row → Report → Type 0
 KeepsSp5 spec rows r = suc r.begin < length rows → ChangesIn spec rows r.begin ⊎ ChangesIn spec rows (suc r.begin) ⊎ FollowsAnother spec rows r
 
@@ -94,7 +94,8 @@ KeepsSp5 spec rows r = suc r.begin < length rows → ChangesIn spec rows r.begin
 abbrev pub HoldsSp2 : Parts → List Row → Type 0
 HoldsSp2 spec rows = Each (KeepsSp2 spec rows) (reports spec rows)
 
--- SP3: a bound is given for each reconfiguration that is read off the rows, and the reconfiguration takes no longer.
+-- SP3: a bound is given for each reconfiguration that is read off the rows, and the reconfiguration takes no longer
+-- than the bound.
 abbrev pub HoldsSp3 : Parts → List Row → Type 0
 HoldsSp3 spec rows = Each (KeepsSp3 spec) (reports spec rows)
 

@@ -11,7 +11,7 @@ pub enum Property {
     Sp1,
     /// The target was chosen in the environment of some row of the reconfiguration.
     Sp2,
-    /// A bound is given, and the reconfiguration took no longer.
+    /// A bound is given, and the reconfiguration takes no longer than the bound.
     Sp3,
     /// The invariants for the source hold throughout, and the target's preconditions hold in the row before the end.
     Sp4,

@@ -16,7 +16,8 @@ pub(crate) enum Agreement {
     Apart(u32),
 }
 
-// Returns the agreement after the next reconfiguration that is read is compared with the report at its index.
+// Returns the agreement after the reconfiguration `read`, the next one, is compared with the report at its index. A
+// difference that was found before remains.
 pub(crate) fn compare(told: &[Report], so_far: Agreement, read: Report) -> Agreement
     ensures { result ≡ compare told.now so_far read }
 {

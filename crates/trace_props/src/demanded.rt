@@ -27,8 +27,8 @@ pub(crate) fn unsatisfied_at(spec: &Spec, rows: &[Row]) -> Option<u32>
     None
 }
 
-// Returns the frame since which the environment has been that of row `frame`, without a change, given this frame for
-// the preceding row.
+// Returns the frame since which the environment has been the same as in row `frame`. `since` is the corresponding
+// frame for the preceding row.
 fn held_by(rows: &[Row], frame: usize, since: usize) -> usize
     ensures { result ≡ held_by rows.now frame since }
 {

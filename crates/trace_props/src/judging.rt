@@ -44,9 +44,9 @@ pub fn holds_where_unbroken()
 pub(crate) struct Judgement {
     /// The agreement of the reports with the reconfigurations that have been read.
     pub agreement: Agreement,
-    /// The first break of SP2 to SP5.
+    /// The first break of SP2 to SP5, or `None` if there is none.
     pub broken: Option<Broken>,
-    /// The reconfiguration that was read last.
+    /// The reconfiguration that was read last, or `None` if none has been read.
     pub before: Option<Report>,
 }
 

@@ -9,8 +9,8 @@ ghost use Rattle.trace_props.specs.Judging.{breaks_at, breaks_target_preconditio
 
 use scram_types::{AppId, Area, ConfId, Invariant, Precondition, Report, Row, Spec};
 
-// Returns the first frame in which SP4 is broken, or `None` if SP4 is kept. In that frame the row breaks an invariant,
-// or the row is the one before the end and does not meet a precondition of the target.
+// Returns the first frame in which SP4 is broken, or `None` if SP4 is kept. SP4 is broken in a row that breaks an
+// invariant, and in the row before the end if that row does not meet a precondition of the target.
 pub(crate) fn unkept_at(spec: &Spec, rows: &[Row], read: Report) -> Option<u32>
     ensures { result ≡ unkept_at spec.now rows.now read }
 {

@@ -1,9 +1,9 @@
 //! The properties of reconfigurations, for every accepted specification and every script within its assumption. Each
-//! reconfiguration that is read off the rows goes to a target that the table chose during it, and ends within the
-//! given bound. It keeps its invariants throughout and meets the target's preconditions in the row before its end.
-//! Its cause is a change of the environment, unless it begins in the last row. Once the environment has held for the
-//! greatest bound, the running configuration satisfies the demands in each row in which no application is lost. A
-//! finished trace is judged by the same properties.
+//! reconfiguration that is read off the rows ends within the given bound, in a target that the table chose during the
+//! reconfiguration. The reconfiguration keeps its invariants throughout and meets the target's preconditions in the
+//! row before its end. Its cause is a change of the environment, unless it begins in the last row. Once the
+//! environment has held for the greatest bound, the running configuration satisfies the demands in each row in which
+//! no application is lost. A finished trace is judged by the same properties.
 #![tactic(auto)]
 
 pub mod breaks;

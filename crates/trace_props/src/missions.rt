@@ -7,11 +7,11 @@ ghost use Rattle.trace_props.specs.Known.{IsKnown};
 
 /// States that SP1 to SP6 hold for a mission's rows and reports, with halts and restarts in any frame, with failures
 /// chained during a reconfiguration, and under both policies. Each reconfiguration that is read off the rows is
-/// reported, goes to a target that was chosen in an environment seen during it, and ends within the given bound. It
-/// keeps its invariants throughout and meets its target's preconditions in the row before its end. Its cause is a
-/// change of the environment, unless it begins in the last row. No target is claimed for a reconfiguration that the
-/// end of the script cuts off. Once the environment has held for the greatest bound, a configuration that meets the
-/// demands runs in each row in which no application is lost.
+/// reported. It ends within the given bound, in a target that was chosen in an environment seen during the
+/// reconfiguration. It keeps its invariants throughout and meets its target's preconditions in the row before its
+/// end. Its cause is a change of the environment, unless it begins in the last row. No target is claimed for a
+/// reconfiguration that the end of the script cuts off. Once the environment has held for the greatest bound, a
+/// configuration that meets the demands runs in each row in which no application is lost.
 pub fn reconfigurations_are_assured()
     ensures { ReconfigurationsAreAssured }
 {
@@ -28,22 +28,23 @@ pub fn targets_are_chosen()
 }
 
 /// States that the halting phase ends in time after the first moving frame. The limit is the halting time of the
-/// source, plus the slowest turn for each further change of the environment.
+/// source, plus `slowest` frames for each further change of the environment.
 pub fn halting_ends_in_time()
     ensures { HaltingEndsInTime }
 {
     know();
 }
 
-/// States that no frame of a reconfiguration is later than the phases of the reconfiguration allow.
+/// States that each moving frame of a reconfiguration is no later than the frame in which the phases of the
+/// reconfiguration are past.
 pub fn phases_are_past_in_time()
     ensures { PhasesArePastInTime }
 {
     know();
 }
 
-/// States that the number of further changes during a reconfiguration is at most the number for which the bounds
-/// allow.
+/// States that after the first moving frame of a reconfiguration, the environment changes at most as often as the
+/// bounds allow.
 pub fn further_changes_are_few()
     ensures { FurtherChangesAreFew }
 {
@@ -59,7 +60,7 @@ pub fn calm_settles()
     know();
 }
 
-/// States the facts of the other crates on choice, time, scripts, rows and laws.
+/// States the facts from other crates on which the theorems on missions rest.
 fn know()
     ensures { IsKnown }
 {

@@ -9,8 +9,8 @@ ghost use Rattle.trace_props.specs.Properties.{bound_on};
 use choice_table::choose;
 use scram_types::{ConfId, Report, Row, Spec};
 
-// Returns the frame in which SP2 is broken, or `None` if SP2 is kept. The frame is the end of the reconfiguration, if
-// the table does not choose the target in the environment of any row of the reconfiguration.
+// Returns the frame in which SP2 is broken, or `None` if SP2 is kept. SP2 is broken in the end of the reconfiguration
+// if the table does not choose the target in the environment of any row of the reconfiguration.
 pub(crate) fn unchosen_at(spec: &Spec, rows: &[Row], read: Report) -> Option<u32>
     ensures { result ≡ unchosen_at spec.now rows.now read }
 {
@@ -45,8 +45,8 @@ fn chooses(spec: &Spec, rows: &[Row], from: ConfId, to: ConfId, frame: usize) ->
     }
 }
 
-// Returns the frame in which SP3 is broken, or `None` if SP3 is kept. The frame is the last frame of the
-// reconfiguration, if no bound is given or the reconfiguration took longer.
+// Returns the frame in which SP3 is broken, or `None` if SP3 is kept. SP3 is broken in the last frame of the
+// reconfiguration if no bound is given or the reconfiguration took longer than the bound.
 pub(crate) fn late_at(spec: &Spec, read: Report) -> Option<u32>
     ensures { result ≡ late_at spec.now read }
 {

@@ -184,7 +184,7 @@ forms_by false true spec next line ws told placed bare joined_is w0 h =
     bare_read spec next line ws told d.0 joined_is w0 f.0 (is_text ws 3 (codes ":") f.1) d.1 d.2
 forms_by false false spec next line ws told placed bare joined_is w0 h = absurd (let e = h in cc)
 
--- A line that is read as the line of an application has one spelling: the printed text.
+-- If a line is read as the line of an application, it is the printed text of the act and the area that are read.
 pub app_only : (spec : Parts) (next : ℕ) (line : List ℕ) (told : Done) → begins line (codes "app") ≡ true → app_read spec next line ≡ Ok told → AppRead spec next line told
 app_only spec next line told first h =
     let w = or_rule_ok NO_FORM (words_in line) (app_in spec next) told h in

@@ -16,7 +16,7 @@ abbrev pub least_from : ℕ → List Bool → Option ℕ
 least_from rule [] = None
 least_from rule (kept ∷ more) = cond kept (least_from (suc rule) more) (Some rule)
 
--- The rule with the number `rule` is broken, given the number of the rule of the list's first item.
+-- Whether the rule with the number `rule` is broken, given the number of the rule of the list's first item.
 abbrev pub breaks_from : ℕ → List Bool → ℕ → Bool
 breaks_from first [] rule = false
 breaks_from first (kept ∷ more) rule = cond (rule == first) (not kept) (breaks_from (suc first) more rule)

@@ -312,7 +312,7 @@ end_formed spec line words first =
     let c : begins line (codes "reconfiguration") ≡ false = other_word (word_at (words_of line) 0) (codes "end") (codes "reconfiguration") first refl in
     rw (a, b, c) refl
 
--- The result after a line reports the same rule as the reading of the line.
+-- Adding what a line contains to the state does not change the rule that is reported.
 
 row_told : (s : ReadingState) (read : Result Row ℕ) → told_by (with_row s read) ≡ told_by read
 row_told s (Ok row) = refl

@@ -103,8 +103,8 @@ few_up (proc ∷ procs) up = by (up % 2 == 1) (few_up procs (up / 2))
     by true h = omega (arith, h)
     by false h = omega (arith, h)
 
--- If the name of a processor differs from the names of all processors of a list, it is not the first of the names of
--- the processors in the list that are up.
+-- If a processor's name differs from the names of all processors of a list, it is not the first name among the
+-- processors of the list that are up.
 not_next : (proc : Proc) (procs : List Proc) (up : ℕ) → Each (λ (other : Proc). bytes_eq proc.name other.name ≡ false) procs → is_next proc (names_up procs up) ≡ false
 not_next proc [] up differ = refl
 not_next proc (other ∷ procs) up differ = by (up % 2 == 1) (not_next proc procs (up / 2) (λ i x there. differ (suc i) x there))
@@ -122,8 +122,8 @@ half_below n up below =
     let e : 2 ^ suc n ≡ 2 * 2 ^ n = omega arith in
     omega (arith, e, below)
 
--- If the bits of the processors after this processor are read from their names, the bits from this processor on are
--- read too, whether this processor is up or not.
+-- If the bits of the later processors are read from their names, the bits from this processor on are read from their
+-- names too, whether this processor is up or not.
 up_step : (t : Bool) (proc : Proc) (procs : List Proc) (bit sum up : ℕ) → (up % 2 == 1) ≡ t → Each (λ (other : Proc). bytes_eq proc.name other.name ≡ false) procs →
     ((k : ℕ) → up_from procs (names_up procs (up / 2)) (bit * 2) k ≡ Some (k + (bit * 2) * (up / 2))) →
     up_from (proc ∷ procs) (cond t (proc.name ∷ names_up procs (up / 2)) (names_up procs (up / 2))) bit sum ≡ Some (sum + bit * up)

@@ -1,5 +1,5 @@
--- A line that is read as the line of a reconfiguration is its printed text, and a line that is read as the end line
--- is the printed end line.
+-- A line that is read as the line of a reconfiguration is the printed text of the reconfiguration. A line that is
+-- read as the end line is the printed end line.
 use Rattle.std.proofs.Common.{ℕ, ◌≡◌, ◌-◌, ◌^◌, ◌∙◌, Bool, true, false, cond, List, [], ◌∷◌, ◌++◌, Option, Some, None, Ok, Err, length, decimal, refl, sym, ap}
 use Rattle.std.specs.Prelude.{◌==◌, ◌&&◌, bytes_eq, codes, nat_le, option_map, ⊤}
 use Rattle.std.specs.List.{join_with_byte}
@@ -135,7 +135,7 @@ dashes_by true false spec frames line ws report to end joined_is w0 form h = abs
 dashes_by false true spec frames line ws report to end joined_is w0 form h = absurd (let e = h in cc)
 dashes_by false false spec frames line ws report to end joined_is w0 form h = finished_read spec line ws report joined_is w0 form h
 
--- A line that is read as the line of a reconfiguration has one spelling: the printed text.
+-- If a line is read as the line of a reconfiguration, it is the printed text of the reconfiguration that is read.
 pub report_only : (spec : Parts) (frames : ℕ) (line : List ℕ) (report : Report) → begins line (codes "reconfiguration") ≡ true → report_read spec frames line ≡ Ok report →
     report_line spec report ≡ line ++ codes "\n"
 report_only spec frames line report first h =
@@ -146,7 +146,7 @@ report_only spec frames line report first h =
     dashes_by (is_word w.0 3 (codes "-")) (is_word w.0 7 (codes "-")) spec frames line w.0 report (is_text w.0 3 (codes "-")) (is_text w.0 7 (codes "-"))
     (line_joined line w.0 w.1) w0 (report_form w.0 f.0) f.1
 
--- A line that is read as the end line has one spelling: the printed text.
+-- If a line is read as the end line, it is the printed end line.
 pub end_only : (frames reports : ℕ) (line : List ℕ) (done : ⊤) → begins line (codes "end") ≡ true → end_read frames reports line ≡ Ok done →
     end_line frames reports ≡ line ++ codes "\n"
 end_only frames reports line done first h =

@@ -84,7 +84,7 @@ values_read (factor ∷ factors) list ws few form h =
     sym (joined_pieces list)
     ∙ ap joined (values_only (factor ∷ factors) (pieces_of 44 list) 0 (replicate 6 0) ws (omega (arith, few)) (eqb-true _ _ form) h)
 
--- The sum of `up`, `bit` and `m` times twice `bit` is `up` plus `bit` times 1 + 2 · `m`.
+-- `up + bit + 2 * bit * m` equals `up + bit * (1 + 2 * m)`.
 twice_more : (bit up m : ℕ) → (up + bit) + (bit * 2) * m ≡ up + bit * (1 + 2 * m)
 twice_more bit up m = let a : bit * (1 + 2 * m) ≡ bit * 1 + bit * (2 * m) = mul-add bit 1 (2 * m) in let b : (bit * 2) * m ≡ bit * (2 * m) = mul_assoc bit 2 m in omega (arith, a, b)
 
@@ -297,7 +297,7 @@ forms_by true m spec next line ws row stable moving h = stable refl h
 forms_by false true spec next line ws row stable moving h = moving refl h
 forms_by false false spec next line ws row stable moving h = absurd (let e = h in cc)
 
--- A line that is read as the first line of a row has one spelling: the printed text.
+-- If a line is read as the first line of a row, it is the printed text of the row that is read.
 pub row_only : (spec : Parts) (next : ℕ) (line : List ℕ) (row : Row) → length spec.factors ≤ 6 → begins line (codes "frame") ≡ true → row_read spec next line ≡ Ok row →
     RowRead spec next line row
 row_only spec next line row few first h =

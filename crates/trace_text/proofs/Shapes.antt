@@ -1,4 +1,4 @@
--- Lemmas that the text of each line of a trace is the words of the line, separated by single spaces and followed by a
+-- Proof that the text of each line of a trace is the words of the line, separated by single spaces and followed by a
 -- line feed.
 use Rattle.std.proofs.Common.{ℕ, ℤ, ◌≡◌, ◌∙◌, List, [], ◌∷◌, ◌++◌, append_assoc, append-nil, refl, sym, ap, map}
 use Rattle.std.specs.Prelude.{codes}
@@ -27,7 +27,7 @@ before_flat (fork a b) more = before_flat a (before b more) ∙ ap (λ (rest : L
 flattened : (t : Tree) → before t [] ≡ flat t
 flattened t = before_flat t [] ∙ append-nil (flat t)
 
--- The tree of `t` and the trees after it, nested in the way that `++` nests.
+-- The tree of `t` and the trees after it, nested to the left.
 abbrev chain : Tree → List Tree → Tree
 chain t [] = t
 chain t (u ∷ us) = chain (fork t u) us

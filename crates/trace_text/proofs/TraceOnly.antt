@@ -236,7 +236,7 @@ not_long : (t : Bool) (fault : TraceFault) (read : Result Flown TraceFault) (f :
 not_long true fault read f h = absurd (let e = h in cc)
 not_long false fault read f h = h
 
--- Bytes that are read as a trace have one spelling: the printed text.
+-- If bytes are read as a trace, they are the printed text of the rows and reports that are read.
 pub trace_only : (spec : Parts) (bytes : List ℕ) (f : Flown) → length spec.factors ≤ 6 → length spec.apps ≤ 8 → trace_of spec bytes ≡ Ok f → bytes ≡ text_of spec f.rows f.reports
 trace_only spec bytes f few small h =
     let read = not_long (nat_lt MAX_TRACE_BYTES (length bytes)) (fault_at 0 WRONG_END) (trace_from spec 1 before_first (pieces_of 10 bytes)) f h in

@@ -38,7 +38,7 @@ refused spec k s text rest behind bytes rule split step so_far =
     sym e ∙ line_then spec k s text (pieces_of 10 behind) (some_piece 10 behind)
     ∙ ap (λ (r : Result ReadingState ℕ). go_on k r (λ (u : ReadingState). trace_from spec (k + 1) u (pieces_of 10 behind))) step
 
--- If a line is not accepted, reading ends with its fault.
+-- If a line is not accepted, reading ends with the error for this line.
 pub not_taken : (spec : Parts) (k : ℕ) (s : ReadingState) (text rest behind bytes : List ℕ) (stop : Stop) →
     pieces_of 10 rest ≡ text ∷ pieces_of 10 behind → AnswersLine (after_line spec s text) (Err stop) → trace_from spec k s (pieces_of 10 rest) ≡ trace_of spec bytes →
     AnswersTrace (trace_of spec bytes) (Err (stopped k stop))

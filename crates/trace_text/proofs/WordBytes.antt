@@ -18,7 +18,7 @@ use Rattle.scram_types.specs.declared.limits.TheConstants.{MAX_LINE_BYTES}
 use Rattle.trace_text.specs.Pieces.{is_filled, pieces_of, words_in, words_of}
 use Rattle.trace_text.specs.TraceReading.{is_plain, is_printable}
 
--- The byte `b` is printable and at least `least`.
+-- Whether the byte `b` is printable and at least `least`.
 abbrev pub over : ℕ → ℕ → Bool
 over least b = nat_le least b && nat_le b 126
 
@@ -53,7 +53,7 @@ pieces_back separator least piece (next ∷ pieces) h e =
     slice_split_at (λ (b : ℕ). b == separator) piece separator (join_with_byte separator (next ∷ pieces)) (none_at separator least piece h p.0) (eq-eqb separator separator refl)
     ∙ ap (λ (rest : List (List ℕ)). piece ∷ rest) (pieces_back separator least next pieces h p.1)
 
--- The word can occur in a line: it is not empty, and all its bytes are printable and are not spaces.
+-- Whether the word can occur in a line: it is not empty, and all its bytes are printable and are not spaces.
 abbrev pub is_visible : List ℕ → Bool
 is_visible word = is_filled word && all_over 33 word
 

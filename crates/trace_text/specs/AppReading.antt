@@ -20,11 +20,13 @@ use Rattle.trace_text.specs.declared.rule.TheConstants.{NOT_NEXT, NO_FORM, OUT_O
 abbrev pub done : Act → List ℤ → Done
 done act area = record { act = act; area = area }
 
--- The words have the form of an act on a processor: the sixth word is `:`, and the eight words of the area follow it.
+-- Whether the words have the form of an act on a processor: the sixth word is `:`, and the eight words of the area
+-- follow it.
 abbrev pub is_placed_form : List (List ℕ) → Bool
 is_placed_form words = (length words == 14) && is_word words 5 (codes ":")
 
--- The words have the form of an act without a processor: the fourth word is `:`, and the area follows it.
+-- Whether the words have the form of an act without a processor: the fourth word is `:`, and the eight words of the
+-- area follow it.
 abbrev pub is_bare_form : List (List ℕ) → Bool
 is_bare_form words = (length words == 12) && is_word words 3 (codes ":")
 

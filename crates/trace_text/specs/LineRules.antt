@@ -16,7 +16,7 @@ use Rattle.trace_text.specs.Spelling.{signed_from, spelled_number}
 use Rattle.trace_text.specs.TraceReading.{ReadingState, after_line, begins, is_plain}
 
 -- The forms of lines. A row has a stable or a moving mode. An application ran, is in a phase, or has no processor. A
--- reconfiguration ended or was cut off. The last form is that of the end line.
+-- reconfiguration ended or was cut off. The end line has one form.
 pub data Form : Type 0 where
   StableRow : Form
   MovingRow : Form
@@ -31,13 +31,13 @@ pub data Form : Type 0 where
 abbrev pub Words : Type 0
 Words = List (List ℕ)
 
--- The option has a value, and the value passes the test `ask`.
+-- Whether the option has a value that passes the test `ask`.
 abbrev pub is_some_and : {A : Type 0} → Option A → (A → Bool) → Bool
 is_some_and None ask = false
 is_some_and (Some a) ask = ask a
 
--- Rule 2: the first word of the line is allowed here. After the end line any word passes, since rule 9 refuses the
--- line.
+-- Whether a line satisfies rule 2: its first word is allowed here. After the end line any word passes, since rule 9
+-- refuses the line.
 abbrev pub is_in_place : Expected → List ℕ → Bool
 is_in_place Rows line = begins line (codes "frame") || begins line (codes "reconfiguration") || begins line (codes "end")
 is_in_place (Apps a row) line = begins line (codes "app")
@@ -64,7 +64,7 @@ report_form words =
     else (if is_word words 7 (codes "-") then None else Some Finished))
     else None
 
--- The form of the words of the end line, or `None` if they do not match it.
+-- The form of the words of the end line, or `None` if the words do not match this form.
 abbrev pub end_form : Words → Option Form
 end_form words = if is_end_form words then Some Ending else None
 
@@ -79,14 +79,15 @@ form_by spec line words =
 abbrev pub line_form : Parts → List ℕ → Option Form
 line_form spec line = option_and_then (form_by spec line) (words_in line)
 
--- Rule 3: the words of the line match a form.
+-- Whether a line satisfies rule 3: its words match a form. After the end line any line passes, since rule 9 refuses
+-- it.
 abbrev pub has_form : Parts → Expected → List ℕ → Bool
 has_form spec Rows line = is_some (line_form spec line)
 has_form spec (Apps a row) line = is_some (line_form spec line)
 has_form spec Reports line = is_some (line_form spec line)
 has_form spec Over line = true
 
--- Rule 4: each name is known in its place.
+-- Whether the words of a line satisfy rule 4: each name is known in its place.
 abbrev pub knows_names : Parts → Words → Form → Bool
 knows_names spec words StableRow = is_some (conf_named spec (word_at words 3)) && is_some (env_names spec words 4)
 knows_names spec words MovingRow =
@@ -100,19 +101,19 @@ knows_names spec words Finished = is_some (conf_named spec (word_at words 1)) &&
 knows_names spec words Unfinished = is_some (conf_named spec (word_at words 1))
 knows_names spec words Ending = true
 
--- The word spells the number of a frame, which is below 20,000.
+-- Whether the word spells the number of a frame, which is below 20,000.
 abbrev pub is_frame_number : List ℕ → Bool
 is_frame_number word = is_some (spelled_number MAX_FRAMES word)
 
--- The word spells an unsigned number of 32 bits.
+-- Whether the word spells an unsigned number of 32 bits.
 abbrev pub is_count : List ℕ → Bool
 is_count word = is_some (spelled_number (2 ^ 32) word)
 
--- The text on each side of a slash spells an unsigned number of 8 bits.
+-- Whether the text on each side of a slash spells an unsigned number of 8 bits.
 abbrev pub are_bytes : List ℕ × List ℕ → Bool
 are_bytes sides = is_some (spelled_number 256 sides.0) && is_some (spelled_number 256 sides.1)
 
--- Rule 5: each number is spelled as it is printed, and is in its range.
+-- Whether the words of a line satisfy rule 5: each number is spelled as it is printed, and is in its range.
 abbrev pub spells_numbers : Words → Form → Bool
 spells_numbers words StableRow = is_frame_number (word_at words 1) && is_some (world_at words 9)
 spells_numbers words MovingRow = is_frame_number (word_at words 6) && is_frame_number (word_at words 1) && is_some (world_at words 12)
@@ -131,15 +132,16 @@ app_due (Apps a row) = a
 app_due Reports = 0
 app_due Over = 0
 
--- The line has the number of the frame that follows the rows that were read.
+-- Whether the line has the number of the frame that follows the rows that have been read.
 abbrev pub is_frame_due : ReadingState → Words → Bool
 is_frame_due s words = is_some_and (spelled_number MAX_FRAMES (word_at words 1)) (λ (frame : ℕ). frame == length s.rows)
 
--- The line names the application whose line is expected.
+-- Whether the line names the application whose line is expected.
 abbrev pub is_app_due : Parts → ReadingState → Words → Bool
 is_app_due spec s words = is_some_and (app_number spec (word_at words 1)) (λ (app : ℕ). app == app_due s.expected)
 
--- Rule 6: a row has the expected frame, and the line of an application names the expected application.
+-- Whether the words of a line satisfy rule 6: a row has the expected frame, and the line of an application names the
+-- expected application.
 abbrev pub is_due : Parts → ReadingState → Words → Form → Bool
 is_due spec s words StableRow = is_frame_due s words
 is_due spec s words MovingRow = is_frame_due s words
@@ -150,12 +152,13 @@ is_due spec s words Finished = true
 is_due spec s words Unfinished = true
 is_due spec s words Ending = true
 
--- The number before a slash is below the number after it. The number after it is at most 16.
+-- Whether the number before a slash is below the number after the slash, and the latter is at most 16.
 abbrev pub is_in_phase : List ℕ × List ℕ → Bool
 is_in_phase sides =
     is_some_and (spelled_number 256 sides.0) (λ (k : ℕ). is_some_and (spelled_number 256 sides.1) (λ (n : ℕ). nat_lt k n && nat_le n MAX_PHASE))
 
--- Rule 7: the frame of a phase is below the phase's length, and the processors that are up are listed in order.
+-- Whether the words of a line satisfy rule 7: the frame of a phase is below the phase's length, the length is at most
+-- 16, and the processors that are up are listed in order.
 abbrev pub is_in_order : Parts → Words → Form → Bool
 is_in_order spec words StableRow = is_some (up_in spec.procs (word_at words 7))
 is_in_order spec words MovingRow = is_some (up_in spec.procs (word_at words 10))
@@ -166,8 +169,8 @@ is_in_order spec words Finished = true
 is_in_order spec words Unfinished = true
 is_in_order spec words Ending = true
 
--- The words of a reconfiguration spell a first frame, a length and a bound. The first frame is no later than `end`,
--- the length is the difference between the two, and the bound is `given`.
+-- Whether the words of a reconfiguration spell its first frame, its length and its bound. The first frame must be no
+-- later than `end`, the length must be `end` minus the first frame, and the bound must be `given`.
 abbrev pub is_measured : Words → ℕ → Option ℕ → Bool
 is_measured words end given =
     is_some_and (spelled_number MAX_FRAMES (word_at words 5)) (λ (begin : ℕ).
@@ -175,8 +178,8 @@ is_measured words end given =
     is_some_and (bound_or_none (word_at words 11)) (λ (bound : Option ℕ).
     nat_le begin end && (took == end - begin) && same_bound bound given)))
 
--- Rule 8: the length and the bound of a reconfiguration, and the counts of the end line, are correct. A
--- reconfiguration begins no later than its end.
+-- Whether the words of a line satisfy rule 8: the length and the bound of a reconfiguration and the counts of the end
+-- line are correct, and a reconfiguration begins no later than its end.
 abbrev pub counts_rightly : Parts → ReadingState → Words → Form → Bool
 counts_rightly spec s words StableRow = true
 counts_rightly spec s words MovingRow = true
@@ -193,14 +196,14 @@ counts_rightly spec s words Ending =
     is_some_and (spelled_number (2 ^ 32) (word_at words 2)) (λ (frames : ℕ).
     is_some_and (spelled_number (2 ^ 32) (word_at words 4)) (λ (reports : ℕ). (frames == length s.rows) && (reports == length s.reports)))
 
--- Rule 9: the end line has not been read.
+-- Whether the end line has not been read, as rule 9 requires.
 abbrev pub is_open : Expected → Bool
 is_open Rows = true
 is_open (Apps a row) = true
 is_open Reports = true
 is_open Over = false
 
--- If there is a form, it passes the test `ask`.
+-- Whether there is no value, or the value passes the test `ask`.
 abbrev pub keeps : {A : Type 0} → Option A → (A → Bool) → Bool
 keeps None ask = true
 keeps (Some form) ask = ask form
@@ -212,7 +215,7 @@ asked_form spec (Apps a row) line = line_form spec line
 asked_form spec Reports line = line_form spec line
 asked_form spec Over line = None
 
--- A line that is read in state `s` breaks the rule of this number.
+-- Whether a line that is read in state `s` breaks the rule of this number.
 abbrev pub breaks_rule : Parts → ReadingState → List ℕ → ℕ → Bool
 breaks_rule spec s line rule =
     if rule == BROKEN_LINE then not (is_plain line)
@@ -230,6 +233,6 @@ abbrev pub ReportsLeast : {A : Type 0} → (ℕ → Bool) → Result A ℕ → T
 ReportsLeast breaks (Ok a) = (rule : ℕ) → breaks rule ≡ false
 ReportsLeast breaks (Err least) = (breaks least ≡ true) × ((rule : ℕ) → rule < least → breaks rule ≡ false)
 
--- A line that breaks no rule is read. For any other line the first rule that it breaks is reported.
+-- Reading a line reports the first rule that the line breaks, and succeeds if the line breaks no rule.
 abbrev pub LeastRuleIsReported : Type 0
 LeastRuleIsReported = (spec : Parts) (s : ReadingState) (line : List ℕ) → ReportsLeast (breaks_rule spec s line) (after_line spec s line)

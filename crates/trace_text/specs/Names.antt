@@ -21,13 +21,13 @@ abbrev pub joined : List (List ℕ) → List ℕ
 joined [] = codes "-"
 joined (name ∷ names) = name ++ further_joined names
 
--- The names of the values of these factors, given the number `i` of the first of these factors and the values of all
--- factors.
+-- For each of these factors, the name of the factor's value. `i` is the number of the first of these factors, and the
+-- list has the values of all factors.
 abbrev pub values_named : List Factor → ℕ → List ℕ → List (List ℕ)
 values_named [] i values = []
 values_named (factor ∷ factors) i values = value_name factor (slice_index values i) ∷ values_named factors (i + 1) values
 
--- The names of the processors whose bits are set in `up`. The lowest bit is that of the first processor.
+-- The names of the processors whose bits are set in `up`. The lowest bit belongs to the first processor.
 abbrev pub names_up : List Proc → ℕ → List (List ℕ)
 names_up [] up = []
 names_up (proc ∷ procs) up = if up % 2 == 1 then proc.name ∷ names_up procs (up / 2) else names_up procs (up / 2)

@@ -15,7 +15,7 @@ pieces_left separator (Some behind) = pieces_of separator behind
 abbrev pub words_of : List ℕ → List (List ℕ)
 words_of line = pieces_of 32 line
 
--- The word is not empty.
+-- Whether the word is not empty.
 abbrev pub is_filled : List ℕ → Bool
 is_filled word_at = nat_lt 0 (length word_at)
 
@@ -27,7 +27,7 @@ words_in line = if nat_le (length (words_of line)) 16 && list_all is_filled (wor
 abbrev pub word_at : List (List ℕ) → ℕ → List ℕ
 word_at words k = slice_index_or words k []
 
--- The word at index `k` is `text`.
+-- Whether the word at index `k` is `text`.
 abbrev pub is_word : List (List ℕ) → ℕ → List ℕ → Bool
 is_word words k text = bytes_eq (word_at words k) text
 

@@ -10,7 +10,7 @@ use Rattle.trace_text.specs.Rules.{or_rule}
 use Rattle.trace_text.specs.Spelling.{spelled_number}
 use Rattle.trace_text.specs.declared.rule.TheConstants.{NO_FORM, UNKNOWN_NAME, WRONG_COUNT, WRONG_NUMBER}
 
--- The words have the form of a reconfiguration.
+-- Whether the words have the form of a reconfiguration.
 abbrev pub is_report_form : List (List ℕ) → Bool
 is_report_form words =
     (length words == 12) && is_word words 2 (codes ">") && is_word words 4 (codes "begin") && is_word words 6 (codes "end")
@@ -20,7 +20,7 @@ is_report_form words =
 abbrev pub bound_or_none : List ℕ → Option (Option ℕ)
 bound_or_none text = if bytes_eq text (codes "-") then Some None else option_map (λ (b : ℕ). Some b) (spelled_number (2 ^ 32) text)
 
--- Two bounds are equal, or both are missing.
+-- Whether two bounds are equal or both missing.
 abbrev pub same_bound : Option ℕ → Option ℕ → Bool
 same_bound None None = true
 same_bound None (Some b) = false
@@ -40,7 +40,7 @@ report_end words from to end given =
     else Err WRONG_COUNT)))
 
 -- The result of reading the words of a reconfiguration that ended. The words must name a source and a target, and
--- spell the end. The bound must be that of the specification from the source to the target.
+-- spell the end. The bound must be the specification's bound from the source to the target.
 abbrev pub finished_report : Parts → List (List ℕ) → Result Report ℕ
 finished_report spec words =
     or_rule UNKNOWN_NAME (conf_named spec (word_at words 1)) (λ (from : ConfId).
@@ -68,7 +68,7 @@ report_in spec frames words =
 abbrev pub report_read : Parts → ℕ → List ℕ → Result Report ℕ
 report_read spec frames line = or_rule NO_FORM (words_in line) (report_in spec frames)
 
--- The words have the form of the end line.
+-- Whether the words have the form of the end line.
 abbrev pub is_end_form : List (List ℕ) → Bool
 is_end_form words = (length words == 5) && is_word words 1 (codes "frames") && is_word words 3 (codes "reconfigurations")
 

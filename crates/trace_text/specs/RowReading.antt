@@ -21,54 +21,54 @@ use Rattle.trace_text.specs.Rules.{or_rule}
 use Rattle.trace_text.specs.Spelling.{signed_of, spelled_number}
 use Rattle.trace_text.specs.declared.rule.TheConstants.{NOT_NEXT, NO_FORM, OUT_OF_ORDER, UNKNOWN_NAME, WRONG_NUMBER}
 
--- The list has one name for each factor, or is `-` if there are no factors.
+-- Whether the list has one name for each factor, or is `-` if there are no factors.
 abbrev pub are_values : List Factor → List ℕ → Bool
 are_values [] list = bytes_eq list (codes "-")
 are_values (factor ∷ factors) list = length (pieces_of 44 list) == length (factor ∷ factors)
 
--- The words from index `at` on have the form of an environment and a world.
+-- Whether the words from index `at` on have the form of an environment and a world.
 abbrev pub is_env_form : Parts → List (List ℕ) → ℕ → Bool
 is_env_form spec words at =
     is_word words at (codes "env") && are_values spec.factors (word_at words (at + 1)) && is_word words (at + 2) (codes "up")
     && is_word words (at + 4) (codes "world")
 
--- The words have the form of a row whose mode is stable.
+-- Whether the words have the form of a row whose mode is stable.
 abbrev pub is_stable_form : Parts → List (List ℕ) → Bool
 is_stable_form spec words = (length words == 13) && is_word words 2 (codes "stable") && is_env_form spec words 4
 
--- The words have the form of a row whose mode is moving.
+-- Whether the words have the form of a row whose mode is moving.
 abbrev pub is_moving_form : Parts → List (List ℕ) → Bool
 is_moving_form spec words = (length words == 16) && is_word words 2 (codes "moving") && is_env_form spec words 7
 
--- The list `values` in which the entries from factor `i` on are replaced by the numbers of the values that `names`
--- names, or `None` if a name is unknown or missing.
+-- The list `values` with new entries from factor `i` on: the numbers of the values that `names` lists. The result is
+-- `None` if a name is unknown or missing.
 abbrev pub values_from : List Factor → List (List ℕ) → ℕ → List ℕ → Option (List ℕ)
 values_from [] names i values = Some values
 values_from (factor ∷ factors) [] i values = None
 values_from (factor ∷ factors) (name ∷ names) i values =
     option_and_then (λ (v : ℕ). values_from factors names (i + 1) (slice_set values i v)) (value_named factor name)
 
--- The numbers of the values that a list names, one for each factor, followed by zeros up to six numbers, or `None` if
--- a name is unknown or missing.
+-- The numbers of the values that a list names, one for each factor, padded with zeros to six numbers. The result is
+-- `None` if a name is unknown or missing.
 abbrev pub values_in : List Factor → List ℕ → Option (List ℕ)
 values_in factors list = values_from factors (pieces_of 44 list) 0 (replicate 6 0)
 
--- A processor has this name.
+-- Whether a processor has this name.
 abbrev pub is_proc_name : Parts → List ℕ → Bool
 is_proc_name spec name = option_map_or (λ (p : ProcId). true) (proc_named spec name) false
 
--- The values of the factors of the environment whose words begin at index `at`, or `None` if the name of a value or
--- of a processor is unknown.
+-- The factor values of the environment whose words begin at index `at`, or `None` if the name of a value or of a
+-- processor is unknown.
 abbrev pub env_names : Parts → List (List ℕ) → ℕ → Option (List ℕ)
 env_names spec words at =
     if list_all (is_proc_name spec) (items_of (word_at words (at + 3))) then values_in spec.factors (word_at words (at + 1)) else None
 
--- The first of the names is that of the processor.
+-- Whether there is a first name, and it is the name of the processor.
 abbrev pub is_next : Proc → List (List ℕ) → Bool
 is_next proc [] = false
 is_next proc (name ∷ names) = bytes_eq proc.name name
 
--- The names without the first one if it is that of the processor, or else all of them.
+-- The names after the first name if the first name is the name of the processor, or else all names.
 abbrev pub names_left : Proc → List (List ℕ) → List (List ℕ)
 names_left proc [] = []
 names_left proc (name ∷ names) = if bytes_eq proc.name name then names else name ∷ names

@@ -28,7 +28,7 @@ kernel_mode_text spec (Moving from halting to since) =
 abbrev pub values_text : Parts → List ℕ → List ℕ
 values_text spec values = joined (values_named spec.factors 0 values)
 
--- The names of the processors that are up, joined by commas, or `-` if none is.
+-- The names of the processors that are up, joined by commas, or `-` if no processor is up.
 abbrev pub up_text : Parts → ℕ → List ℕ
 up_text spec up = joined (names_up spec.procs up)
 
@@ -49,7 +49,8 @@ row_line spec row =
 abbrev pub phase_text : Parts → ℕ → ℕ → ℕ → List ℕ
 phase_text spec k n proc = decimal k ++ codes "/" ++ decimal n ++ codes " " ++ proc_name spec proc
 
--- The text of an act of an application of a kind, with the mode and the processor if the act has them.
+-- The text of an act, with the mode and the processor if the act has them. The names of the modes depend on the kind
+-- of the application.
 abbrev pub act_text : Parts → ℕ → Act → List ℕ
 act_text spec kind (Ran mode proc) = codes "ran " ++ mode_text kind mode.0 ++ codes " " ++ proc_name spec proc.0
 act_text spec kind (Halting k n proc) = codes "halting " ++ phase_text spec k n proc.0
@@ -88,7 +89,7 @@ abbrev pub rows_text : Parts → List Row → List ℕ
 rows_text spec [] = []
 rows_text spec (row ∷ rows) = row_text spec row ++ rows_text spec rows
 
--- A bound, or `-` if none is given.
+-- The text of a bound, or `-` if there is no bound.
 abbrev pub bound_text : Option ℕ → List ℕ
 bound_text None = codes "-"
 bound_text (Some frames) = decimal frames

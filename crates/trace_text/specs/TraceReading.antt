@@ -40,15 +40,16 @@ rows_before Over = MAX_FRAMES
 abbrev pub before_first : ReadingState
 before_first = record { rows = []; reports = []; expected = Rows }
 
--- The byte is printable in ASCII. The space counts as printable.
+-- Whether the byte is printable in ASCII. The space counts as printable.
 abbrev pub is_printable : ℕ → Bool
 is_printable b = nat_le 32 b && nat_le b 126
 
--- Rule 1 for a line that has its line feed: the line is short enough, and each of its bytes is printable.
+-- Whether a line, given without its line feed, satisfies rule 1: the line is short enough, and each of its bytes is
+-- printable.
 abbrev pub is_plain : List ℕ → Bool
 is_plain line = nat_le (length line) MAX_LINE_BYTES && list_all is_printable line
 
--- The first word of the line is `text`.
+-- Whether the first word of the line is `text`.
 abbrev pub begins : List ℕ → List ℕ → Bool
 begins line text = bytes_eq (word_at (words_of line) 0) text
 
@@ -105,7 +106,7 @@ expected_line spec s Over line = Err WRONG_END
 abbrev pub after_line : Parts → ReadingState → List ℕ → Result ReadingState ℕ
 after_line spec s line = if is_plain line then expected_line spec s s.expected line else Err BROKEN_LINE
 
--- The fault of breaking a rule in a line. Lines are counted from 1.
+-- The fault of a line that breaks a rule. Lines are counted from 1.
 abbrev pub fault_at : ℕ → ℕ → TraceFault
 fault_at line rule = record { line = line; rule = rule }
 
@@ -121,13 +122,13 @@ at_end k s Reports = Err (fault_at k WRONG_END)
 abbrev pub at_last : ℕ → ReadingState → List ℕ → Result Flown TraceFault
 at_last k s last = if is_filled last then Err (fault_at k BROKEN_LINE) else at_end k s s.expected
 
--- The result after line `k`: that of `next` for the state after the line, or a fault if the line breaks a rule.
+-- The result of `next` for the state after line `k`, or the fault of the line if it breaks a rule.
 abbrev pub go_on : ℕ → Result ReadingState ℕ → (ReadingState → Result Flown TraceFault) → Result Flown TraceFault
 go_on k (Ok s) next = next s
 go_on k (Err rule) next = Err (fault_at k rule)
 
--- The result of reading from line `k` on, given the state before the line, the remaining lines, and the bytes after
--- the last line feed as the last item of the list.
+-- The result of reading from line `k` on, given the state before the line and the remaining lines. The last item of
+-- the list has the bytes after the last line feed.
 abbrev pub trace_from : Parts → ℕ → ReadingState → List (List ℕ) → Result Flown TraceFault
 trace_from spec k s [] = at_end k s s.expected
 trace_from spec k s (last ∷ []) = at_last k s last
@@ -144,13 +145,13 @@ abbrev pub stopped : ℕ → Stop → TraceError
 stopped line (stop.Rule rule) = Fault (fault_at line rule)
 stopped line stop.NoMemory = NoMemory
 
--- The reader's result for a line is the result of the definition, or the reader is out of memory.
+-- The reader's result for a line equals the specified result `reading`, unless the reader is out of memory.
 abbrev pub AnswersLine : Result ReadingState ℕ → Result ReadingState Stop → Type 0
 AnswersLine reading (Ok s) = reading ≡ Ok s
 AnswersLine reading (Err (stop.Rule rule)) = reading ≡ Err rule
 AnswersLine reading (Err stop.NoMemory) = ⊤
 
--- The reader's result for a whole trace is the result of the definition, or the reader is out of memory.
+-- The reader's result for a whole trace equals the specified result `reading`, unless the reader is out of memory.
 abbrev pub AnswersTrace : Result Flown TraceFault → Result Flown TraceError → Type 0
 AnswersTrace reading (Ok flown) = reading ≡ Ok flown
 AnswersTrace reading (Err (Fault fault)) = reading ≡ Err fault

@@ -27,10 +27,11 @@ pub enum Phase {
     Initialising,
 }
 
-// The exclusive upper limit of the numbers that a line spells for a frame of a phase and for the length of the phase.
+// The frame of a phase and the length of the phase are below this limit, so that they fit in 8 bits.
 const PHASE_LIMIT: u64 = 256;
 
-/// Reads a line as the line of application `next`. Returns its act and area, or the first rule that the line breaks.
+/// Reads a line as the line of application `next`. Returns the application's act and area, or the first rule that the
+/// line breaks.
 pub fn read_app(spec: &Spec, next: u8, line: &[u8]) -> Result<Done, u8>
     ensures done { result ≡ app_read spec.now next line.now }
     ensures below { IfOk result (λ done. next < length spec.now.apps) }
@@ -108,7 +109,7 @@ fn act_of(phase: Phase, k: u8, n: u8, proc: ProcId) -> Act
     }
 }
 
-// Reads the words of an act on a processor.
+// Reads the words of an application whose act has a processor. The third word has to be `ran` or the name of a phase.
 fn read_placed(spec: &Spec, next: u8, words: &Words<'_>) -> Result<Done, u8>
     ensures done { result ≡ placed_line spec.now next words.now }
     ensures below { IfOk result (λ done. next < length spec.now.apps) }

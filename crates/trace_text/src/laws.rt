@@ -3,8 +3,8 @@
 ghost use Rattle.trace_text.specs.Flights.{PrintedIsRead};
 ghost use Rattle.trace_text.specs.LineRules.{LeastRuleIsReported};
 
-/// States that a line that breaks no rule is read, and that for any other line the first rule that it breaks is
-/// reported. Each rule is stated separately for each form of line, independently of the order of tests.
+/// States that reading a line reports the first rule that the line breaks, and succeeds if the line breaks no rule.
+/// Each rule is stated separately for each form of line, independently of the order of tests.
 pub fn least_rule_is_reported()
     ensures { LeastRuleIsReported }
 {}

@@ -84,8 +84,8 @@ pub fn read_up(procs: &[Proc], list: &[u8]) -> Option<u8>
     }
 }
 
-// Returns `true` if the first name of `left` is that of the processor, and the names that follow it. If it is not,
-// returns `false` and all names.
+// Returns `true` and the remaining names if the first name of `left` is the name of the processor. Returns `false`
+// and all names otherwise.
 fn pass<'a>(proc: &Proc, left: Option<&'a [u8]>) -> (bool, Option<&'a [u8]>)
     ensures named { result.0 ≡ is_next proc.now (pieces_left 44 (option_map (λ b. b.now) left.entry)) }
     ensures left { pieces_left 44 (option_map (λ b. b.now) result.1) ≡ names_left proc.now (pieces_left 44 (option_map (λ b. b.now) left.entry)) }

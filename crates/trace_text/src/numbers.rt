@@ -45,7 +45,7 @@ pub fn read_signed(text: &[u8]) -> Option<i64>
     Some(number)
 }
 
-/// Returns the signed numbers that eight words from index `from` on spell, or `None` if a word spells no number.
+/// Returns the signed numbers that the eight words from index `from` on spell, or `None` if a word spells no number.
 pub fn read_eight(words: &Words<'_>, from: usize) -> Option<ArrayVec<i64, 8>>
     requires { from ≤ 6 }
     ensures { option_map (λ v. v.items) result ≡ signed_from 8 from words.now }

@@ -39,7 +39,7 @@ pub fn split_once(bytes: &[u8], separator: u8) -> Option<(&[u8], &[u8])>
     }
 }
 
-/// Returns the first piece of `bytes`, and the bytes after its separator, or `None` in their place if there is no
+/// Returns the first piece of `bytes` and the bytes after its separator. The second value is `None` if there is no
 /// separator.
 pub fn first_piece(bytes: &[u8], separator: u8) -> (&[u8], Option<&[u8]>)
     ensures pieces { pieces_of separator bytes.now ≡ result.0.now ∷ pieces_left separator (option_map (λ b. b.now) result.1) }
@@ -58,7 +58,7 @@ pub fn is_dash(word: &[u8]) -> bool
     word == b"-".as_slice()
 }
 
-/// Returns the texts before and after the slash of a word, or `None` if the word has no slash or several.
+/// Returns the texts before and after the slash of a word, or `None` if the word does not have exactly one slash.
 pub fn slash_sides(word: &[u8]) -> Option<(&[u8], &[u8])>
     ensures { option_map (λ halves. (halves.0.now, halves.1.now)) result ≡ sides_of word.now }
 {

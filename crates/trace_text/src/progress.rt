@@ -141,7 +141,7 @@ impl Progress {
         Ok(self)
     }
 
-    // Reads a line that has to be a reconfiguration or the end line.
+    // Reads a line that has to be the line of a reconfiguration or the end line.
     fn read_closing(self, spec: &Spec, line: &[u8]) -> Result<Progress, Stop>
         requires { length self.rows ≤ MAX_FRAMES }
         ensures { AnswersLine (closing spec.now self line.now) result }
@@ -201,7 +201,7 @@ fn is_printable_line(line: &[u8]) -> bool
     line.len() <= MAX_LINE_BYTES && is_printable_text(line)
 }
 
-/// Returns `true` if each byte of a text is printable.
+/// Returns `true` if each byte of a text is printable in ASCII. The space counts as printable.
 pub fn is_printable_text(text: &[u8]) -> bool
     ensures { result ≡ list_all is_printable text.now }
 {

@@ -128,8 +128,8 @@ fn is_same_bound(one: Option<u32>, other: Option<u32>) -> bool
     }
 }
 
-/// Reads the end line of a trace with these numbers of frames and reports. Returns the first rule that the line
-/// breaks as the error.
+/// Reads the end line of a trace with these numbers of frames and reports. The error is the first rule that the line
+/// breaks.
 pub fn read_end(frames: usize, reports: usize, line: &[u8]) -> Result<(), u8>
     ensures { result ≡ end_read frames reports line.now }
 {

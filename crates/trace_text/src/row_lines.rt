@@ -123,7 +123,7 @@ fn add_further_values(line: &mut Line, factors: &[Factor], values: &[u8; 6])
     }
 }
 
-/// Appends the names of the processors that are up, joined by commas, or `-` if none is.
+/// Appends the names of the processors that are up, joined by commas, or `-` if no processor is up.
 pub fn add_up(line: &mut Line, spec: &Spec, up: u8)
     requires { length line.old + 137 ≤ MAX_LINE_BYTES }
     ensures text { line.new ≡ line.old ++ up_text spec.now up }

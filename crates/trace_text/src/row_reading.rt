@@ -116,8 +116,8 @@ fn read_moving(spec: &Spec, next: usize, words: &Words<'_>) -> Result<Row, u8>
     read_row_end(spec, next, words, 7, Begun { mode, values })
 }
 
-// Returns the values of the factors of the environment whose words begin at index `at`, or `None` if the name of a
-// value or of a processor is unknown.
+// Returns the factor values of the environment whose words begin at index `at`, or `None` if the name of a value or
+// of a processor is unknown.
 fn find_environment(spec: &Spec, words: &Words<'_>, at: usize) -> Option<[u8; 6]>
     requires { at ≤ 7 }
     ensures { result ≡ env_names spec.now words.now at }

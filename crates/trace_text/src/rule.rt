@@ -1,4 +1,4 @@
-//! The numbers of the rules of a trace. Faults show these numbers, and therefore they never change.
+//! The numbers of the rules of a trace. Faults show these numbers, so the numbers never change.
 
 /// The line lacks its line feed, has a byte that is not printable, or is too long.
 pub const BROKEN_LINE: u8 = 1;

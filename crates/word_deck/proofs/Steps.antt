@@ -69,14 +69,14 @@ halts m p f s place here some =
     step_is m p f (m.procs + 1 + s) place _ here (omega arith)
     (let is : halts_at m (m.procs + 1 + s) (m.halt p f) ≡ true = ap (halts_at m (m.procs + 1 + s)) some ∙ halted_at m s in rw is refl)
 
--- The step of a halt of the script is at most the number of words plus one.
+-- If the script has a halt, the step of the halt is at most the number of words plus one.
 pub halt_in_width : (spec : Parts) (script : ScriptParts) (p f : ℕ) (halt : HaltAt) (step width : ℕ) → Flies (flight_of spec script) → halt_in script p f ≡ Some halt → step ≡ halt.step → width ≡ words spec
     → step ≤ width + 1
 halt_in_width spec script p f halt step width flies there is same =
     let low : halt.step ≤ words spec + 1 = flies.step p f halt.step (ap (option_map (λ (h : HaltAt). h.step)) there) in
     omega (arith, low, is, same)
 
--- Lemmas on the next step of a seat that has moved, given its place before.
+-- Lemmas on the next step of a seat that has moved, given the place before the move.
 
 pub looks_on : (m : Flight) (p q n f : ℕ) (place : Place) → place ≡ At f (1 + q) → n ≡ m.procs → q < n → step_at m p place ≡ Some (Look (proc_id p) (proc_id q))
 looks_on m p q n f place here same low = looks m p f q place here (rw (sym same) low)

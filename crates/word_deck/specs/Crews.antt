@@ -31,7 +31,8 @@ place_after NotYet m p place = place
 place_after Worked m p place = place_flown m p place
 place_after Finished m p place = if is_done m p place then place else place_flown m p place
 
--- The number of loads that found nothing ready, after a turn with the given result and `tries` such loads before it.
+-- The number of loads that found nothing ready after a turn with the given result, if there were `tries` such loads
+-- before the turn.
 abbrev pub tries_after : Turn → ℕ → ℕ
 tries_after NotYet tries = suc tries
 tries_after Worked tries = tries

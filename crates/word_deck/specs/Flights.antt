@@ -42,8 +42,8 @@ numbers_boarded (Threaded flying) p numbers = numbers
 numbers_boarded Own p numbers = numbers ++ p ∷ []
 numbers_boarded (Landed seat) p numbers = numbers
 
--- The numbers are those of the processors that fly in the caller's turns after processor `p` has boarded in the given
--- way. If `p` flies in the caller's turns, then `p` is the last of the numbers.
+-- `numbers` are the numbers of the processors that fly in the caller's turns after processor `p` has boarded in the
+-- given way. If `p` flies in the caller's turns, then `p` is the last of the numbers.
 pub record IsBoardedLast (boarding : Boarding) (p : ℕ) (numbers : List ℕ) : Type 0 where
   pub front : List ℕ
   pub same : numbers ≡ numbers_boarded boarding p front

@@ -32,7 +32,7 @@ pub record IsKernelBetween (procs frames : ℕ) (kseat : KSeat) : Type 0 where
   pub steps : kernel_steps kseat ≤ procs
   pub last : kernel_steps kseat ≡ procs → suc (kernel_frame kseat) ≡ frames
 
--- The invariant of a kernel between two turns. The log is that of the frames in which the kernel has noted all
+-- The invariant of a kernel between two turns. The log contains the frames in which the kernel has noted all
 -- processors. The marks and images of the processors noted in the current frame are those that these processors have
 -- committed by the end of that frame.
 pub record KernelCrewKeeps (mission : MissionParts) (kseat : KSeat) (kernel : KernelParts) (noted : Noted) : Type 0 where

@@ -66,7 +66,7 @@ impl Crew {
 
     /// Tries to fly the frame for which the processor waits, whole or up to the processor's halt in it. A processor
     /// that has halted restarts with its spare rack at the start of the frame of its restart. Returns `NotYet` only
-    /// if the release word that the call loads says that the frame is not yet released. Returns `Finished` if and
+    /// if the release word that the call loads shows that the frame is not yet released. Returns `Finished` if and
     /// only if the processor has then flown all frames or has halted for good. This method does not block.
     #[tactic(auto, using(crate::proofs::Places::waits, crate::proofs::Places::done_by, crate::proofs::Places::flown_after, crate::proofs::Places::finished_by, crate::proofs::Places::tried_by))]
     pub fn turn(&mut self, mission: &Mission, words: &WordTable) -> Turn
@@ -167,8 +167,8 @@ impl Crew {
             .draft(mission.spec(), &self.snap, &mut self.image);
     }
 
-    // Ends the frame of which the processor has made the draft. The processor commits the frame, or halts if the
-    // script has a halt in the frame.
+    // Ends the frame whose draft the processor has made. The processor commits the frame, or halts if the script has
+    // a halt in the frame.
     fn end(&mut self, mission: &Mission, words: &WordTable)
         requires mission { mission_in words.now ≡ mission.now }
         requires flies { CrewFlies words.now (length mission.now.spec.procs + 1) self.old }

@@ -30,7 +30,7 @@ pub(crate) fn look_at_all(words: &WordTable, procs: u8, seat: &mut Seat, images:
     }
 }
 
-/// Stores the first `count` words of the draft of the seat's frame. `image` is that draft.
+/// Stores the first `count` words of `image`, which must be the draft of the seat's frame.
 #[tactic(auto, using(crate::proofs::Steps::stores_on, crate::proofs::Steps::word_drafted))]
 pub(crate) fn store_words(words: &WordTable, seat: &mut Seat, image: &Image, count: u32)
     requires seat { IsSeatOf words.now seat.old }

@@ -35,7 +35,7 @@ pub(crate) trait KernelActor: Drop {
         ensures done { result ≡ Finished → done words.now self.new }
         ensures lent { lent self.new ≡ lent self.old };
 
-    /// Spins and then parks until the kernel may note its next processor. May return earlier, without a cause.
+    /// Spins and then parks until the kernel may note its next processor. May also return spuriously.
     fn rest<R: Wait>(&self, rt: &R, words: &WordTable);
 }
 

@@ -14,8 +14,8 @@ use scram_kernel::Kernel;
 use scram_types::{Image, ProcId, Row};
 use word_table::{KSeat, WordTable};
 
-/// The marks and images that processors have committed by the end of the kernel's frame. Only the entries of the
-/// processors that the kernel has noted in this frame have a meaning.
+/// The marks and images that processors have committed by the end of the kernel's frame. The entries of the
+/// processors that the kernel has not noted in this frame are arbitrary.
 #[derive(Clone, Copy)]
 pub(crate) struct Noted {
     pub(crate) marks: [u64; 8],
@@ -116,7 +116,7 @@ impl<'a> KernelCrew<'a> {
     }
 }
 
-// Notes processors in order, until all are noted or one may not be noted.
+// Notes processors in order, until all are noted or the next processor may not be noted.
 fn note_all(words: &WordTable, procs: u32, kseat: &mut KSeat, noted: &mut Noted)
     requires seat { IsKernelSeatOf words.now kseat.old }
     requires procs { procs ≡ length (mission_in words.now).spec.procs }

@@ -61,7 +61,7 @@ pub(crate) struct Landing {
 }
 
 /// The promise of a thread for a processor, given the table and the seat with which the processor started. The
-/// processor has landed, or it has not flown and returns this seat.
+/// processor has landed, or has not flown and returns this seat.
 #[derive(Drop)]
 pub(crate) struct Lander(Snapshot<WordTable>, Snapshot<Seat>);
 

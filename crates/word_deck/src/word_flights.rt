@@ -55,8 +55,8 @@ pub struct Landed<'a> {
 }
 
 impl<'a> WordFlight<'a> {
-    /// Creates a flight of a mission. All memory of the flight is allocated here. The only error is that memory runs
-    /// out.
+    /// Creates a flight of a mission. All memory of the flight is allocated here. Returns an error only if memory
+    /// runs out.
     // No clause uses this precondition, and every `Boxes` satisfies it. Without it, Rattle reports this function, whose
     // result contains boxes, under `hides`, as one that may create boxes.
     #[tactic(auto, using(crate::proofs::Outcomes::at_table))]
@@ -90,7 +90,7 @@ impl<'a> WordFlight<'a> {
     /// Flies the mission with a thread for each processor and the kernel on the caller's thread. A processor for
     /// which no thread can be created flies in the caller's turns. Returns the one-thread trace, for which SP1 to SP6
     /// hold, and the words with all seats. The actors of the seats have no more steps. This method blocks until the
-    /// threads have ended, and has no error.
+    /// threads have ended, and cannot fail.
     pub fn run<R: Threads + Wait + Sync>(self, rt: &R) -> Landed<'a>
         ensures flown { IsTraceOf self.entry.mission.now result.flown }
         ensures mission { result.words.mission ≡ self.entry.mission }
@@ -231,8 +231,8 @@ fn land_all<'a>(
 // The smallest measured number of spins (docs/PERFORMANCE.md) at which no thread parks if each thread has a processor.
 const SPINS: u32 = 10_000;
 
-// Returns the number of spins before a wait parks. This is `SPINS` if the machine is known to have several
-// processors. Otherwise it is 0.
+// Returns the number of spins before a wait parks: `SPINS` if the machine is known to have several processors, or
+// else 0.
 fn spins_of<R: Threads>(rt: &R) -> u32 {
     match thread::available_parallelism(rt) {
         Ok(count) if count.get() > 1 => SPINS,

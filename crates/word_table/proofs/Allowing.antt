@@ -27,13 +27,13 @@ module _ (mission : MissionParts) (slots id : ℕ) (me : Sat) (y : IsSound (miss
   abbrev m : Flight
   m = mission_flight mission
 
-  -- A load that is no event keeps the rule.
+  -- A load that is not an event keeps the rule.
   pub read_allows : (i : ℕ) → me.0.mission ≡ Some mission → Allows (Ruled m mission) slots id me i (λ n. n) (reads (step slots i 0 0 none) me)
   read_allows i planned = λ s r homes here small.
       (me.0, keeps, tt, loaded m mission s id me.0 y r here me.0 i refl refl, ((refl, empty), shown mission s id me.0 i r here planned))
 
   -- Lemmas on the load that a seat with only one actor makes in place of a store. If the load finds the word `v` that
-  -- the store would write, the actor has made a step. Otherwise the seat stays as it is.
+  -- the store would write, the actor has made a step. Otherwise the seat does not change.
   module _ (a : Actor) (v : ℕ) (alone : me.0.actors ≡ a ∷ []) (planned : me.0.mission ≡ Some mission) (due : word_due m (a ∷ []) ≡ v) where
     confirm_told : (i : ℕ) (w : View) (n : ℕ) (b : Bool) → nat_eq n v ≡ b → MatchBool b (Has (w, me.1) (each_actor one_more me.0)) (Has (w, me.1) me.0) → confirms (step slots i 0 0 none) me n (w, me.1)
     confirm_told i w n b is told =
@@ -132,7 +132,7 @@ module _ (mission : MissionParts) (slots id : ℕ) (me : Sat) (y : IsSound (miss
           (refl, empty),
         )
 
-  -- A load of the release by a processor that waits for a frame is a start or a try. The processor may be halted.
+  -- A load of the release by a processor that waits for a frame is a start or a try. The processor may have halted.
   module _ (p f : ℕ) (x : Place) (l : p < m.procs) (alone : me.0.actors ≡ actor_at p x ∷ []) (planned : me.0.mission ≡ Some mission)
       (next : (release : ℕ) → nat_lt f release ≡ true → next_from m p release x ≡ Some (Start (proc_id p))) (to : moved m (Start (proc_id p)) p x ≡ At f 1)
       (wait : awaited m (actor_at p x) ≡ f) (go : begun m (actor_at p x) ≡ Runs p f 1) (awaits : AwaitsRelease m 0 (actor_at p x ∷ [])) where
@@ -172,7 +172,7 @@ module _ (mission : MissionParts) (slots id : ℕ) (me : Sat) (y : IsSound (miss
   start_allows p (At f (suc n)) l alone planned waits = absurd (let none = waits.0 in omega (arith, none))
   start_allows p (Halted h) l alone planned waits = back_allows p h (m.restart p) l alone planned refl waits
 
-  -- A load by the kernel of the end word of the processor that it notes next is a note or a try.
+  -- If the kernel loads the end word of the processor that it notes next, the load is a note or a try.
   module _ (k p : ℕ) (l : p < m.procs) (flown : k < m.frames) (alone : me.0.actors ≡ Kernel k p ∷ []) (planned : me.0.mission ≡ Some mission) where
     note_told : (i : ℕ) → i ≡ index_of (EndWord p) → (w : View) (n : ℕ) (b : Bool) → may_note m p k n ≡ b → MatchBool b (Has (w, me.1) (each_actor one_more me.0)) (Has (w, me.1) (tried me.0))
         → IfSome me.0.mission (λ mission. IsAfterNote (mission_flight mission) i n me.0 (w, me.1))

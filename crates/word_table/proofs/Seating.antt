@@ -200,7 +200,7 @@ module _ (m : Flight) (mission : MissionParts) (s : State (Unit {0}) View) (id :
       pub kernel_by : (go : Actor → Actor) → go (Kernel k j) ≡ Kernel k2 j2 → Ruled m mission (stepped s i n id [] (each_actor go v) keeps)
       kernel_by go is = subst (λ (w : View). Ruled m mission (stepped s i n id [] w keeps)) (ap (with_actor v) (sym is) ∙ alone_moved v (Kernel k j) go alone) kernel_ruled
 
-  -- A load that is no event keeps the rule.
+  -- A load that is not an event keeps the rule.
   module _ (w : View) (i : ℕ) (same : w.actors ≡ v.actors) (plan : w.mission ≡ v.mission) where
     load_each : (j : ℕ) (u : View) → ((j ≡ id) × (w ≡ u)) ⊎ ((j ≢ id) × (get_elem? s.views j ≡ some u)) → Hosts r.at r.home j u.actors
     load_each j u (inl a) = rw (← a.1, a.0, same) (r.each id v here)

@@ -19,7 +19,7 @@ who (Runs p f n) = Some p
 who (Stopped p h) = Some p
 who (Kernel k j) = None
 
--- The actor is at the place that `at` has for it.
+-- The actor is at its place in `at`.
 abbrev pub StandsAt : Places → Actor → Type 0
 StandsAt at (Runs p f n) = at.proc p ≡ At f n
 StandsAt at (Stopped p h) = at.proc p ≡ Halted h
@@ -73,25 +73,25 @@ awaited m (Runs p f n) = frame_awaited m p (At f n)
 awaited m (Stopped p h) = frame_awaited m p (Halted h)
 awaited m (Kernel k j) = k
 
--- An actor after it has started the frame for which it waits. The kernel stays as it is.
+-- An actor after it has started the frame for which it waits. The kernel does not change.
 abbrev pub begun : Flight → Actor → Actor
 begun m (Runs p f n) = Runs p f 1
 begun m (Stopped p h) = Runs p (restart_or h (m.restart p)) 1
 begun m (Kernel k j) = Kernel k j
 
--- An actor after one more step. A halted processor stays as it is.
+-- An actor after one more step. A halted processor does not change.
 abbrev pub one_more : Actor → Actor
 one_more (Runs p f n) = Runs p f (suc n)
 one_more (Stopped p h) = Stopped p h
 one_more (Kernel k j) = Kernel k (suc j)
 
--- An actor at the start of its next frame. A halted processor stays as it is.
+-- An actor at the start of its next frame. A halted processor does not change.
 abbrev pub next_frame : Actor → Actor
 next_frame (Runs p f n) = Runs p (suc f) 0
 next_frame (Stopped p h) = Stopped p h
 next_frame (Kernel k j) = Kernel (suc k) 0
 
--- An actor after its processor has halted in its frame. The kernel stays as it is.
+-- An actor after its processor has halted in its frame. The kernel does not change.
 abbrev pub halted_actor : Actor → Actor
 halted_actor (Runs p f n) = Stopped p f
 halted_actor (Stopped p h) = Stopped p h

@@ -12,7 +12,7 @@ use Rattle.word_table.specs.declared.actors.Actor.TheVariants.{Runs, Stopped, Ke
 use Rattle.word_table.specs.declared.actors.View.{View}
 use Rattle.word_table.specs.Actors.{StandsAt, Waits, awaited, begun, halted_actor, mission_flight, next_frame, one_more, tried, with_actors}
 
--- A seat in the table. A seat has a view and no slots.
+-- A seat of the table, which has a view and no slots.
 abbrev pub Sat : Type 0
 Sat = Me (Unit {0}) View
 
@@ -24,7 +24,7 @@ Stepped = Step (Unit {0})
 abbrev pub Has : Sat → View → Type 0
 Has me v = (me.0 ≡ v) × (me.1 ≡ [])
 
--- Each of these actors is at the place that `at` has for it.
+-- Each of these actors is at its place in `at`.
 abbrev pub AllStand : Places → List Actor → Type 0
 AllStand at [] = Unit {0}
 AllStand at (a ∷ rest) = StandsAt at a × AllStand at rest
@@ -105,7 +105,7 @@ word_due m (Kernel k j ∷ rest) = word_in (m.kernel_image (suc k)) (j - m.procs
 abbrev pub StepsIf : Bool → View → Sat → Type 0
 StepsIf condition v after = MatchBool condition (Has after (each_actor one_more v)) (Has after v)
 
--- A load that is no event finds a word and leaves the seat as it is.
+-- A load that is not an event finds a word and does not change the seat.
 abbrev pub reads : Stepped → Sat → ℕ → Sat → Type 0
 reads s me n after = Has after me.0 × ShowsWord me.0 s.word n
 
@@ -113,11 +113,11 @@ reads s me n after = Has after me.0 × ShowsWord me.0 s.word n
 abbrev pub looks : Stepped → Sat → ℕ → Sat → Type 0
 looks s me n after = Has after (each_actor one_more me.0) × ShowsWord me.0 s.word n
 
--- A load of the release for which a processor waits is a start or a try. Any other load leaves the seat as it is.
+-- A load of the release for which a processor waits is a start or a try. Any other load does not change the seat.
 abbrev pub starts : Stepped → Sat → ℕ → Sat → Type 0
 starts s me n after = IfSome me.0.mission (λ mission. IsAfterStart (mission_flight mission) s.word n me.0 after)
 
--- A load of the end word for which the kernel waits is a note or a try. Any other load leaves the seat as it is. In
+-- A load of the end word for which the kernel waits is a note or a try. Any other load does not change the seat. In
 -- each case, the word found is one that the seat may find.
 abbrev pub notes : Stepped → Sat → ℕ → Sat → Type 0
 notes s me n after = IfSome me.0.mission (λ mission. IsAfterNote (mission_flight mission) s.word n me.0 after) × ShowsWord me.0 s.word n
@@ -126,7 +126,7 @@ notes s me n after = IfSome me.0.mission (λ mission. IsAfterNote (mission_fligh
 abbrev pub stores : Stepped → Sat → ℕ → Sat → Type 0
 stores s me n after = Has after (each_actor one_more me.0)
 
--- A load that finds the value to be stored is a step of the actor. Any other load leaves the seat as it is.
+-- A load that finds the value to be stored is a step of the actor. Any other load does not change the seat.
 abbrev pub confirms : Stepped → Sat → ℕ → Sat → Type 0
 confirms s me n after = IfSome me.0.mission (λ mission. StepsIf (nat_eq n (word_due (mission_flight mission) me.0.actors)) me.0 after)
 

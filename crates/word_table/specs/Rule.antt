@@ -13,7 +13,7 @@ use Rattle.word_table.specs.declared.actors.Actor.TheVariants.{Runs, Kernel}
 use Rattle.word_table.specs.declared.actors.View.{View}
 use Rattle.word_table.specs.Actors.{StandsAt, mission_flight, who}
 
--- Each actor of a list has view `j` as its home, and is at the place that `at` has for it.
+-- Each actor of a list has view `j` as its home, and is at its place in `at`.
 abbrev pub Hosts : Places → (Option ℕ → ℕ) → ℕ → List Actor → Type 0
 Hosts at home j [] = Unit {0}
 Hosts at home j (a ∷ rest) = (home (who a) ≡ j) × StandsAt at a × Hosts at home j rest
@@ -45,7 +45,8 @@ pub record IsViewOf (views : List View) (o : Option ℕ) (j : ℕ) : Type 0 wher
   pub among : IsAmong o view.actors
 
 -- The rule for a flight and its mission. The law of events holds for the words and for the places of the actors. Each
--- actor of the flight is at its place and in exactly one view, its home. Each view with an actor knows the mission.
+-- actor of the flight is at its place and in exactly one view, its home. Each view with an actor contains the
+-- mission.
 pub record Ruled (m : Flight) (mission : MissionParts) (s : State (Unit {0}) View) : Type 0 where
   pub at : Places
   pub home : Option ℕ → ℕ

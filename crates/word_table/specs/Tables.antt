@@ -48,7 +48,7 @@ kernel_steps kseat = kseat.step
 abbrev pub kernel_tries : KSeat → ℕ
 kernel_tries kseat = kseat.inner.me.0.tries
 
--- A seat belongs to a table. Its processor is one of the mission's, and its place is within the flight.
+-- A seat belongs to a table. Its processor is a processor of the mission, and its place is within the flight.
 pub record IsSeatOf (words : WordTable) (seat : Seat) : Type 0 where
   pub holds : IsFlown (mission_in words)
   pub table : seat.inner.table_id ≡ words.table.shared.table_id

@@ -13,8 +13,8 @@ pub enum Actor {
     Kernel(u64, u64),
 }
 
-/// The mission that is flown, the number of loads that found nothing ready, and the actors of the seat. A view that is
-/// spent has no mission and no actor.
+/// The view of a seat: the mission that is flown, the number of loads that found nothing ready, and the actors of the
+/// seat. A spent view has no mission and no actor.
 pub struct View {
     pub mission: Option<Mission>,
     pub tries: u64,
@@ -34,7 +34,7 @@ impl TableRule<(), View, Mission> for WordRule {
     ghost first = { first_view };
 }
 
-/// A load that is no event. The seat stays as it is.
+/// A load that is not an event. It does not change the seat.
 pub struct Reads;
 
 impl Play<(), View> for Reads {

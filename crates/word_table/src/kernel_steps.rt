@@ -54,7 +54,7 @@ impl WordTable {
         })
     }
 
-    /// Returns whether the kernel may note processor `p` in a frame if the processor's end word is `end`.
+    /// Returns `true` if the kernel may note processor `p` in a frame, given the processor's end word `end`.
     pub(crate) fn may_note(&self, p: ProcId, frame: u32, end: u64) -> bool
         requires { p.0 < 8 }
         ensures { result ≡ may_note (flight_in self.now) p.0 frame end }
@@ -75,7 +75,7 @@ impl WordTable {
         ensures tries { kernel_tries kseat.new ≡ kernel_tries kseat.old }
     {
         let at = kernel_index(i as usize);
-        // If the word already has that value, a load is the step, as in `store`.
+        // If the word already has that value, a load makes the step, as in `store`.
         if self.table.shared.load::<Confirms>(&mut kseat.inner, at) != word {
             self.table
                 .shared

@@ -1,4 +1,4 @@
-//! Loads that are no events, and the images and words that they read.
+//! Loads that are not events, and the images and words that they read.
 
 ghost use Rattle.std.specs.Prelude.{◌≡◌, ◌+◌, ◌≤◌, ◌<◌, ℕ, [], Some, length, slice_index};
 ghost use Rattle.frame_model.specs.Storage.{image_bank_after};

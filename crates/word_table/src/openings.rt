@@ -27,7 +27,7 @@ use std::alloc::Global;
 
 impl WordTable {
     /// Creates the table of a mission before its first frame. Returns the table, the kernel's seat, and the seats of
-    /// the processors in order. Each actor is at its opening place. The only error is that memory runs out.
+    /// the processors in order. Each actor is at its opening place. Returns an error only if memory runs out.
     pub fn open(alloc: Global, mission: &Mission) -> Result<(WordTable, KSeat, Vec<Seat>), NoMemory>
         ensures mission { IfOk result (λ t. mission_in t.0 ≡ mission.now) }
         ensures kernel { IfOk result (λ t. IsKernelSeatOf t.0 t.1) }
@@ -46,7 +46,7 @@ impl WordTable {
         Ok((table, kseat, seats))
     }
 
-    // Creates the table and its first seat, which has all actors. The only error is that memory runs out.
+    // Creates the table and its first seat, which has all actors. Returns an error only if memory runs out.
     fn lay(
         alloc: Global,
         mission: &Mission,
@@ -77,7 +77,7 @@ impl WordTable {
     }
 
     // Splits a seat for each processor off the first seat, in order. The kernel is then the only actor of the first
-    // seat. The only error is that memory runs out.
+    // seat. Returns an error only if memory runs out.
     fn deal(
         &self,
         rest: &mut atomic_table::Seat<(), View>,

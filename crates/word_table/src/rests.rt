@@ -18,8 +18,8 @@ use scram_types::ProcId;
 use std::sync::Wait;
 use std::sync::atomic::{AtomicU64, Ordering};
 
-/// The numbers of threads that sleep on the words of a table, or are about to. The kernel and the processors are
-/// counted separately.
+/// The numbers of threads that sleep, or are about to sleep, on the words of a table. The kernel and the processors
+/// are counted separately.
 #[derive(Drop)]
 pub(crate) struct Sleepers {
     kernel: AtomicU64,
@@ -53,8 +53,7 @@ impl WordTable {
         }
     }
 
-    /// Spins and then parks until the frame for which the seat waits is released. May return earlier, without a
-    /// cause.
+    /// Spins and then parks until the frame for which the seat waits is released. May also return spuriously.
     pub fn rest<R: Wait>(&self, rt: &R, seat: &Seat)
         requires { IsSeatOf self.now seat.now }
     {
@@ -75,7 +74,7 @@ impl WordTable {
     }
 
     /// Spins and then parks until the kernel may note its next processor. Returns at once if the kernel has noted all
-    /// processors. May return earlier, without a cause.
+    /// processors. May also return spuriously.
     pub fn rest_kernel<R: Wait>(&self, rt: &R, kseat: &KSeat) {
         if kseat.step >= self.procs {
             return;

@@ -57,7 +57,7 @@ impl Seat {
         self.step
     }
 
-    /// Returns whether the processor has halted.
+    /// Returns `true` if the processor has halted.
     pub fn halted(&self) -> bool
         ensures { result ≡ is_halted (seat_place self.now) }
     {

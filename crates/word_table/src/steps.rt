@@ -19,7 +19,7 @@ use scram_types::{Image, ProcId};
 impl WordTable {
     /// Tries to start the frame for which the seat waits, and returns the kernel image of that frame. A processor
     /// that has halted starts the frame of its restart. Returns `None` only if the release word that the call loads
-    /// says that the frame is not yet released. This method does not block.
+    /// shows that the frame is not yet released. This method does not block.
     pub fn started(&self, seat: &mut Seat) -> Option<KernelImage>
         requires seat { IsSeatOf self.now seat.old }
         requires waits { Waits (flight_in self.now) (proc_of seat.old) (seat_place seat.old) }
@@ -75,7 +75,7 @@ impl WordTable {
 
     /// Stores `word` as word `i` of the frame's draft, in the bank that the processor's mark does not name. This
     /// method does not block.
-    // If the word already has that value, a load is the step. A store would remove the word's cache line from the
+    // If the word already has that value, a load makes the step. A store would remove the word's cache line from the
     // readers' caches.
     pub fn store(&self, seat: &mut Seat, i: u32, word: u64)
         requires seat { IsSeatOf self.now seat.old }

@@ -32,8 +32,8 @@ impl<'a> Words<'a> {
     ghost use Rattle.word_table.specs.Tables.{AreImagesOf, AreMarksOf, AreOpening, AreSeatsOf, IsAwaitedImage, IsKernelSeatOf, IsSeatOf, committed_image, committed_mark, drafted_words, flight_in, has_halted_by, kernel_frame, kernel_steps, kernel_tries, kernel_words_of, mission_in, next_step, proc_of, seat_place, started_place, tries_of};
     ghost use Rattle.word_table.specs.declared.seats.Seat as seat_types;
 
-    /// Creates the words of a mission before its first frame. Returns them with the kernel's seat and the seats of
-    /// the processors in order. Each actor is at its opening place. The only error is that memory runs out.
+    /// Creates the words of a mission before its first frame. Returns the words, the kernel's seat, and the seats of
+    /// the processors in order. Each actor is at its opening place. Returns an error only if memory runs out.
     pub fn open(
         alloc: Global,
         mission: &'a Mission,
@@ -57,7 +57,7 @@ impl<'a> Words<'a> {
 
     /// Tries to start the frame for which the seat waits, and returns the kernel image of that frame. A processor
     /// that has halted starts the frame of its restart. Returns `None` only if the release word that the call loads
-    /// says that the frame is not yet released. This method does not block.
+    /// shows that the frame is not yet released. This method does not block.
     pub fn started(&self, seat: &mut Seat) -> Option<KernelImage>
         requires seat { IsSeatOf self.now.table seat.old }
         requires waits { Waits (flight_in self.now.table) (proc_of seat.old) (seat_place seat.old) }
@@ -184,8 +184,7 @@ impl<'a> Words<'a> {
         self.table.release(kseat);
     }
 
-    /// Spins and then parks until the frame for which the seat waits is released. May return earlier, without a
-    /// cause.
+    /// Spins and then parks until the frame for which the seat waits is released. May also return spuriously.
     pub fn rest<R: Wait>(&self, rt: &R, seat: &Seat)
         requires { IsSeatOf self.now.table seat.now }
     {
@@ -193,7 +192,7 @@ impl<'a> Words<'a> {
     }
 
     /// Spins and then parks until the kernel may note its next processor. Returns at once if the kernel has noted all
-    /// processors. May return earlier, without a cause.
+    /// processors. May also return spuriously.
     pub fn rest_kernel<R: Wait>(&self, rt: &R, kseat: &KSeat) {
         self.table.rest_kernel(rt, kseat);
     }
