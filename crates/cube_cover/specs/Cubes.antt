@@ -29,6 +29,10 @@ allows cube v x = has_bit cube.bits (4 * x + digit_in v x)
 unfoldable pub holds : Cube → Env → Bool
 holds cube v = all_below (allows cube v) 14
 
+-- The cube holds exactly the environments that pass a test.
+abbrev pub HoldsExactly : Cube → (Env → Bool) → Type 0
+HoldsExactly cube test = (v : Env) → HasDigits v → holds cube v ≡ test v
+
 -- Whether processor `p` may be up in a cube: digit 0 is open at the processor's place.
 abbrev pub may_be_up : Cube → ℕ → Bool
 may_be_up cube p = has_bit cube.bits (4 * (6 + p) + 0)

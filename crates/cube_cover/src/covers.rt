@@ -1,12 +1,10 @@
 //! The computation of the cover of a configuration.
 
-ghost use Rattle.std.specs.Prelude.{◌≡◌, ◌+◌, ◌^◌, ◌<◌, ◌≤◌, ◌&&◌, ◌==◌, IfOk, if◌then◌else◌, length, not, true};
-ghost use Rattle.scram_types.specs.Lookups.{conf_id};
+ghost use Rattle.std.specs.Prelude.{◌≡◌, ◌+◌, ◌^◌, ◌<◌, ◌≤◌, ◌&&◌, ◌==◌, IfOk, if◌then◌else◌, length, true};
 ghost use Rattle.scram_types.specs.Specification.{IsSpec};
-ghost use Rattle.choice_table.specs.Choices.{choose};
 ghost use Rattle.cube_cover.specs.Covers.{IsCover, IsLeastEnv, earlier_env};
 ghost use Rattle.cube_cover.specs.Cubes.{Agree, IsInScope, holders, is_in};
-ghost use Rattle.cube_cover.specs.Findings.{IsFinding, is_chosen_at};
+ghost use Rattle.cube_cover.specs.Findings.{IsFinding, is_chosen_at, is_left_at};
 ghost use Rattle.cube_cover.specs.Regions.{AreAll, MarksMore};
 
 use crate::answers::Cover;
@@ -116,7 +114,7 @@ fn find_unsettled(
 ) -> Result<Option<Env>, NoMemory>
     requires known { IsSpec spec.now }
     requires chosen { Agree spec.now (is_in cubes.items) (is_chosen_at spec.now i t) }
-    ensures { IfOk result (λ found. IsLeastEnv spec.now (λ v. is_chosen_at spec.now i t v && not ((choose spec.now (conf_id t) v).0 == t)) found) }
+    ensures { IfOk result (IsLeastEnv spec.now (is_left_at spec.now i t)) }
 {
     if t == i.0 {
         return Ok(None);

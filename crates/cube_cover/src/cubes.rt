@@ -9,7 +9,7 @@ ghost use Rattle.choice_table.specs.Demands.{all_down, applies_in};
 ghost use Rattle.choice_table.specs.Environments.{IsEnv};
 ghost use Rattle.choice_table.specs.Numbering.{value_count};
 ghost use Rattle.scram_types.specs.Searches.{all_below};
-ghost use Rattle.cube_cover.specs.Cubes.{HasDigits, allows, digit_in, holds, is_digit, field_of};
+ghost use Rattle.cube_cover.specs.Cubes.{HasDigits, allows, digit_in, holds, is_digit, field_of, HoldsExactly};
 
 use scram_types::bits::has_bit;
 use scram_types::{Choice, ConfId, Demand, Env, Place, Spec, Want};
@@ -63,21 +63,21 @@ pub(crate) fn count_values(spec: &Spec, x: u8) -> u8
 // Returns the cube of the environments in which each factor that a rule names has the required value and each
 // processor of the rule is up. The rule's source is ignored.
 pub(crate) fn rule_cube(rule: &Choice) -> Cube
-    ensures { (v : Env) → HasDigits v → holds result v ≡ (list_all (has_wanted v) rule.now.wants && all_up rule.now.up v) }
+    ensures { HoldsExactly result (λ v. list_all (has_wanted v) rule.now.wants && all_up rule.now.up v) }
 {
     with_up(with_wants(rule.wants.items()), rule.up)
 }
 
 // Returns the cube of the environments to which a demand applies.
 pub(crate) fn demand_cube(demand: &Demand) -> Cube
-    ensures { (v : Env) → HasDigits v → holds result v ≡ applies_in demand.now v }
+    ensures { HoldsExactly result (applies_in demand.now) }
 {
     let up = with_up(with_wants(demand.wants.items()), demand.up);
     with_down(up, demand.down)
 }
 
 fn with_wants(wants: &[Want]) -> Cube
-    ensures { (v : Env) → HasDigits v → holds result v ≡ list_all (has_wanted v) wants.now }
+    ensures { HoldsExactly result (λ v. list_all (has_wanted v) wants.now) }
 {
     let mut cube = Cube { bits: u64::MAX };
     for want in wants {
@@ -89,7 +89,7 @@ fn with_wants(wants: &[Want]) -> Cube
 // Returns the part of the cube in which a factor has a required value. A factor from number 6 on has value 0 in each
 // environment.
 fn with_wanted(cube: Cube, want: &Want) -> Cube
-    ensures { (v : Env) → HasDigits v → holds result v ≡ (holds cube v && has_wanted v want.now) }
+    ensures { HoldsExactly result (λ v. holds cube v && has_wanted v want.now) }
 {
     if want.factor.0 < 6 {
         with_digit(cube, want.factor.0, want.value)
@@ -102,21 +102,21 @@ fn with_wanted(cube: Cube, want: &Want) -> Cube
 
 // Returns the part of the cube in which each processor of the set is up.
 fn with_up(cube: Cube, set: u8) -> Cube
-    ensures { (v : Env) → HasDigits v → holds result v ≡ (holds cube v && all_up set v) }
+    ensures { HoldsExactly result (λ v. holds cube v && all_up set v) }
 {
     with_processors(cube, set, 0)
 }
 
 // Returns the part of the cube in which each processor of the set is down.
 fn with_down(cube: Cube, set: u8) -> Cube
-    ensures { (v : Env) → HasDigits v → holds result v ≡ (holds cube v && all_down set v) }
+    ensures { HoldsExactly result (λ v. holds cube v && all_down set v) }
 {
     with_processors(cube, set, 1)
 }
 
 // Returns the part of the cube with digit `d` at the place of each processor of the set.
 fn with_processors(cube: Cube, set: u8, d: u8) -> Cube
-    ensures { (v : Env) → HasDigits v → holds result v ≡ (holds cube v && all_below (λ p. not (has_bit set p) || (digit_in v (6 + p) == d)) 8) }
+    ensures { HoldsExactly result (λ v. holds cube v && all_below (λ p. not (has_bit set p) || (digit_in v (6 + p) == d)) 8) }
 {
     let mut narrow = cube;
     for p in 0..8 {
@@ -127,7 +127,7 @@ fn with_processors(cube: Cube, set: u8, d: u8) -> Cube
 
 fn with_member(cube: Cube, set: u8, p: u8, d: u8) -> Cube
     requires { p < 8 }
-    ensures { (v : Env) → HasDigits v → holds result v ≡ (holds cube v && (not (has_bit set p) || (digit_in v (6 + p) == d))) }
+    ensures { HoldsExactly result (λ v. holds cube v && (not (has_bit set p) || (digit_in v (6 + p) == d))) }
 {
     if has_bit(set, p) {
         with_digit(cube, 6 + p, d)
@@ -139,7 +139,7 @@ fn with_member(cube: Cube, set: u8, p: u8, d: u8) -> Cube
 // Returns the cube of the environments in which configuration `c` can run, or the cube of all environments if there
 // is no configuration `c`.
 pub(crate) fn running(spec: &Spec, c: ConfId) -> Cube
-    ensures { (v : Env) → HasDigits v → holds result v ≡ is_runnable spec.now c v }
+    ensures { HoldsExactly result (is_runnable spec.now c) }
 {
     match spec.conf(c) {
         Some(conf) => with_places(&conf.places),
@@ -148,7 +148,7 @@ pub(crate) fn running(spec: &Spec, c: ConfId) -> Cube
 }
 
 fn with_places(places: &[Option<Place>; 8]) -> Cube
-    ensures { (v : Env) → HasDigits v → holds result v ≡ list_all (is_place_up v) places.now }
+    ensures { HoldsExactly result (λ v. list_all (is_place_up v) places.now) }
 {
     let mut cube = Cube { bits: u64::MAX };
     for place in places {
@@ -158,7 +158,7 @@ fn with_places(places: &[Option<Place>; 8]) -> Cube
 }
 
 fn with_place(cube: Cube, place: &Option<Place>) -> Cube
-    ensures { (v : Env) → HasDigits v → holds result v ≡ (holds cube v && is_place_up v place.now) }
+    ensures { HoldsExactly result (λ v. holds cube v && is_place_up v place.now) }
 {
     match place {
         Some(place) => {
@@ -175,7 +175,7 @@ fn with_place(cube: Cube, place: &Option<Place>) -> Cube
 // Returns the part of the cube with digit `d` at place `x`.
 fn with_digit(cube: Cube, x: u8, d: u8) -> Cube
     requires { x < 14 }
-    ensures { (v : Env) → HasDigits v → holds result v ≡ (holds cube v && (digit_in v x == d)) }
+    ensures { HoldsExactly result (λ v. holds cube v && (digit_in v x == d)) }
 {
     if d < 4 {
         let digit = Cube {
@@ -190,7 +190,7 @@ fn with_digit(cube: Cube, x: u8, d: u8) -> Cube
 // Returns the cube of the environments of `cube` whose digit at place `x` is open in the cube `by`.
 pub(crate) fn inside_at(cube: Cube, by: Cube, x: u8) -> Cube
     requires { x < 14 }
-    ensures { (v : Env) → HasDigits v → holds result v ≡ (holds cube v && allows by v x) }
+    ensures { HoldsExactly result (λ v. holds cube v && allows by v x) }
 {
     Cube {
         bits: cube.bits & (by.bits | !field(x)),
@@ -200,7 +200,7 @@ pub(crate) fn inside_at(cube: Cube, by: Cube, x: u8) -> Cube
 // Returns the cube of the environments of `cube` whose digit at place `x` is not open in the cube `by`.
 pub(crate) fn outside_at(cube: Cube, by: Cube, x: u8) -> Cube
     requires { x < 14 }
-    ensures { (v : Env) → HasDigits v → holds result v ≡ (holds cube v && not (allows by v x)) }
+    ensures { HoldsExactly result (λ v. holds cube v && not (allows by v x)) }
 {
     Cube {
         bits: cube.bits & !(by.bits & field(x)),

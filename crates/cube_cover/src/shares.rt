@@ -4,7 +4,7 @@ ghost use Rattle.std.specs.Prelude.{◌≡◌, ◌&&◌, IfOk};
 ghost use Rattle.scram_types.specs.Specification.{IsSpec};
 ghost use Rattle.choice_table.specs.Choices.{rule_fits};
 ghost use Rattle.choice_table.specs.Environments.{IsEnv};
-ghost use Rattle.cube_cover.specs.Cubes.{AreDisjoint, HasDigits, holds, is_in};
+ghost use Rattle.cube_cover.specs.Cubes.{AreDisjoint, HasDigits, HoldsExactly, holds, is_in};
 ghost use Rattle.cube_cover.specs.Shares.{AreShares, HoldsRest, IsShare, first_rule};
 
 use crate::covers::all_cubes;
@@ -89,7 +89,7 @@ fn take_rule(
 
 // Returns the cube of the environments in which a rule fits configuration `c`.
 fn fitting_cube(rule: &Choice, c: ConfId) -> Cube
-    ensures { (v : Env) → HasDigits v → holds result v ≡ rule_fits c v rule.now }
+    ensures { HoldsExactly result (λ v. rule_fits c v rule.now) }
 {
     if is_source(rule.from, c) {
         rule_cube(rule)

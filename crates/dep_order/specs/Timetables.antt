@@ -105,6 +105,11 @@ phase_length times offsets n =
 abbrev pub offset_where_on : List ℕ → List ℕ → ℕ → ℕ
 offset_where_on times offsets a = if nat_lt 0 (slice_index times a) then slice_index offsets a else 0
 
+-- The number of frames after which all applications that go before application `a` have ended a phase, given the times
+-- and offsets of the applications.
+abbrev pub offset_from : Parts → Phase → List ℕ → List ℕ → ℕ → ℕ
+offset_from spec phase times offsets a = greatest_below (time_added (timed_chart spec phase times) (slice_index offsets) a) (length spec.apps)
+
 -- A list holds a function's values for all arguments below `n`.
 abbrev pub IsTableOf : (ℕ → ℕ) → ℕ → List ℕ → Type 0
 IsTableOf value n xs = (a : ℕ) → a < n → slice_index xs a ≡ value a

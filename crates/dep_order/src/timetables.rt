@@ -5,7 +5,7 @@ ghost use Rattle.scram_types.specs.Specification.{IsSpec};
 ghost use Rattle.scram_types.specs.Searches.{greatest_below};
 ghost use Rattle.scram_types.specs.Eights.{eight};
 ghost use Rattle.dep_order.specs.Chains.{offset, time_added};
-ghost use Rattle.dep_order.specs.Timetables.{AtMost, IsTableOf, goes_before, is_named, needs, offset_where_on, phase_length, phase_time, timed_chart, timetable};
+ghost use Rattle.dep_order.specs.Timetables.{AtMost, IsTableOf, goes_before, is_named, needs, offset_from, offset_where_on, phase_length, phase_time, timed_chart, timetable};
 
 use scram_types::{AppId, ConfId, Spec};
 
@@ -68,9 +68,7 @@ fn offsets_in(spec: &Spec, phase: Phase, times: &[u8; 8]) -> [u16; 8]
 fn offsets_after(spec: &Spec, phase: Phase, times: &[u8; 8], before: &[u16; 8]) -> [u16; 8]
     requires times { AtMost 16 (length spec.now.apps) times.now }
     requires before { AtMost 112 (length spec.now.apps) before.now }
-    ensures { IsTableOf
-        (λ a. greatest_below (time_added (timed_chart spec.now phase times.now) (slice_index before.now) a) (length spec.now.apps))
-        (length spec.now.apps) result }
+    ensures { IsTableOf (offset_from spec.now phase times.now before.now) (length spec.now.apps) result }
 {
     let mut offsets = [0; 8];
     for a in 0..count_apps(spec) {
@@ -84,7 +82,7 @@ fn offsets_after(spec: &Spec, phase: Phase, times: &[u8; 8], before: &[u16; 8]) 
 fn offset_after(spec: &Spec, phase: Phase, times: &[u8; 8], offsets: &[u16; 8], a: usize) -> u16
     requires times { AtMost 16 (length spec.now.apps) times.now }
     requires offsets { AtMost 112 (length spec.now.apps) offsets.now }
-    ensures { result ≡ greatest_below (time_added (timed_chart spec.now phase times.now) (slice_index offsets.now) a) (length spec.now.apps) }
+    ensures { result ≡ offset_from spec.now phase times.now offsets.now a }
 {
     let mut last = 0;
     for b in 0..count_apps(spec) {

@@ -43,9 +43,13 @@ core_places core = machine_places core.places
 abbrev pub core_words : CoreParts → Word → ℕ
 core_words core = stored_in core.stored
 
--- The flight of a core is over: no event remains.
+-- The flight of a core is over.
 abbrev pub IsOverIn : CoreParts → Type 0
 IsOverIn core = IsOver (core_flight core) (core_places core)
+
+-- The maximum number of events that can still come in a core.
+abbrev pub events_left_in : CoreParts → ℕ
+events_left_in core = events_left (core_flight core) (core_places core)
 
 -- The event is the next event of its actor in the core.
 abbrev pub IsNextIn : CoreParts → Event → Type 0

@@ -49,16 +49,14 @@ impl<'a> Core<'a> {
     ghost use Rattle.event_core.specs.Replays.{IsReplay};
     ghost use Rattle.fail_stop.specs.Events.{frame_of, next_kernel, next_of, next_of_actor};
     ghost use Rattle.fail_stop.specs.Drafts.{IsSnapshot};
-    ghost use Rattle.fail_stop.specs.Ends.{IsOver};
     ghost use Rattle.fail_stop.specs.Flights.{word_in};
     ghost use Rattle.fail_stop.specs.ScriptFlights.{kernel_words};
     ghost use Rattle.frame_model.specs.Flights.{reports_of, rows_of};
     ghost use Rattle.scram_kernel.specs.Kernels.{rows_below};
     ghost use Rattle.event_core.specs.Counts.{notes_in};
-    ghost use Rattle.event_core.specs.Cores.{HappensIn, IsNextIn, IsWordIn, RefusesEvent, core_places, core_words, core_flight, frames_ended, next_event};
+    ghost use Rattle.event_core.specs.Cores.{HappensIn, IsNextIn, IsOverIn, IsWordIn, RefusesEvent, events_left_in, core_places, core_words, core_flight, frames_ended, next_event};
     ghost use Rattle.fault_script.specs.Fits.{Fits};
     ghost use Rattle.event_core.specs.Places.{HasLooked, kept_opening};
-    ghost use Rattle.event_core.specs.Rooms.{events_left};
 
     /// Returns the core of a flight before the first event, with capacity for every event that can come. Returns an
     /// error only if memory runs out.
@@ -215,8 +213,7 @@ impl<'a> Core<'a> {
         ensures script { self.new.script ≡ self.old.script }
         ensures next { IfOk result (λ _. IsNextIn self.old event) }
         ensures happens { IfOk result (λ _. HappensIn self.old event self.new) }
-        ensures fewer { IfOk result (λ _. events_left (core_flight self.new) (core_places self.new)
-            < events_left (core_flight self.old) (core_places self.old)) }
+        ensures fewer { IfOk result (λ _. events_left_in self.new < events_left_in self.old) }
         ensures history { IfOk result (λ _. self.new.history ≡ self.old.history ++ event ∷ []) }
         ensures illegal { IfErr result (RefusesEvent self.old event) }
         ensures same { IfErr result (λ _. self.new ≡ self.old) }
@@ -258,7 +255,6 @@ pub fn finish_both<'a>(one: Core<'a>, other: Core<'a>) -> (Flown, Flown)
 
 ghost use Rattle.std.specs.Prelude.{◌≡◌, ◌==◌, ◌*◌, ◌+◌, ◌<◌, ◌^◌, Some, IsTrue, ◌↔◌, length};
 ghost use Rattle.scram_types.specs.Specification.{IsSpec};
-ghost use Rattle.fail_stop.specs.Ends.{IsOver};
 ghost use Rattle.frame_model.specs.Flights.{reports_of, rows_of};
 ghost use Rattle.event_core.specs.Cores.{core_places, ends_frame, core_flight, IsOverIn};
 ghost use Rattle.event_core.specs.Places.{kept_opening};

@@ -12,6 +12,7 @@ use Rattle.coverage_check.specs.Timing.{greatest_bound}
 use Rattle.fault_family.specs.declared.faults.Fault.{Fault}
 use Rattle.fault_family.specs.declared.faults.FaultKind.{FaultKind}
 use Rattle.fault_family.specs.declared.faults.FaultKind.TheVariants as kind
+use Rattle.fault_family.specs.declared.scripts.FaultScript.{FaultScript}
 
 -- The change that a kind of fault makes in a frame, or `None` if the kind is not a change.
 abbrev pub change_fault_in : ℕ → FaultKind → Option Change
@@ -68,3 +69,7 @@ script_of_faults spec faults = script_in_frames (frames_of_faults spec faults) f
 -- Whether a script keeps the failure assumption.
 abbrev pub is_within : Parts → ScriptParts → Bool
 is_within spec script = is_none (first_outside spec script)
+
+-- The script with the frames and the faults of a `FaultScript`.
+abbrev pub as_script : FaultScript → ScriptParts
+as_script script = script_in_frames script.frames script.faults.now

@@ -6,7 +6,7 @@ ghost use Rattle.std.specs.List.{list_all, list_any};
 ghost use Rattle.fault_script.specs.Times.{is_over, is_restart_between, is_up, value_after};
 ghost use Rattle.fault_script.specs.Orders.{is_halt_before};
 ghost use Rattle.coverage_check.specs.Timing.{greatest_bound};
-ghost use Rattle.fault_family.specs.Scripts.{change_of_fault, halt_of_fault, last_fault_frame, restart_of_fault, script_in_frames};
+ghost use Rattle.fault_family.specs.Scripts.{as_script, change_of_fault, halt_of_fault, last_fault_frame, restart_of_fault};
 
 use crate::faults::{Fault, FaultKind};
 use coverage_check::greatest_bound;
@@ -126,7 +126,7 @@ fn newest(fault: &Fault, factor: FactorId, frame: u32, value: u8) -> u8
 
 /// Returns `true` if a processor is up in a frame of a script.
 pub fn is_up(script: &FaultScript<'_>, p: u8, frame: u32) -> bool
-    ensures { result ≡ is_up (script_in_frames script.now.frames script.now.faults.now) p frame }
+    ensures { result ≡ is_up (as_script script.now) p frame }
 {
     are_halts_over(script, p, frame)
 }
@@ -134,7 +134,7 @@ pub fn is_up(script: &FaultScript<'_>, p: u8, frame: u32) -> bool
 // Returns `true` if a processor has restarted, up to and including a frame, after each of its halts in earlier
 // frames.
 fn are_halts_over(script: &FaultScript<'_>, p: u8, frame: u32) -> bool
-    ensures { result ≡ list_all (is_over (script_in_frames script.now.frames script.now.faults.now) p frame) (filter_map halt_of_fault script.now.faults.now) }
+    ensures { result ≡ list_all (is_over (as_script script.now) p frame) (filter_map halt_of_fault script.now.faults.now) }
 {
     for fault in script.faults {
         if !is_over(script, fault, p, frame) {
@@ -147,7 +147,7 @@ fn are_halts_over(script: &FaultScript<'_>, p: u8, frame: u32) -> bool
 // Returns `true` if a fault leaves a processor up in a frame: the fault is not a halt of the processor in an earlier
 // frame, or the processor has restarted since the halt, up to and including the frame.
 fn is_over(script: &FaultScript<'_>, fault: &Fault, p: u8, frame: u32) -> bool
-    ensures { result ≡ list_all (is_over (script_in_frames script.now.frames script.now.faults.now) p frame) (filter_map halt_of_fault (fault.now ∷ [])) }
+    ensures { result ≡ list_all (is_over (as_script script.now) p frame) (filter_map halt_of_fault (fault.now ∷ [])) }
 {
     match fault.kind {
         FaultKind::Halt { proc, .. } => {

@@ -6,7 +6,7 @@ ghost use Rattle.fault_script.specs.Assumption.{brings_too_many_down, changes_up
 ghost use Rattle.fault_script.specs.Environments.{env_at};
 ghost use Rattle.fault_script.specs.Times.{factors_at, is_up};
 ghost use Rattle.fault_family.specs.Counting.{AreChangeFrameCounts};
-ghost use Rattle.fault_family.specs.Scripts.{is_within, script_in_frames};
+ghost use Rattle.fault_family.specs.Scripts.{as_script, is_within};
 
 use crate::scripts::{FaultScript, is_up, value_at};
 use scram_types::{Env, FactorId, Spec};
@@ -16,7 +16,7 @@ use scram_types::{Env, FactorId, Spec};
 /// contain at most `changes + 1` frames whose environment differs from the environment of the previous frame.
 pub fn is_within(spec: &Spec, script: &FaultScript<'_>) -> bool
     requires { script.now.frames ≤ 5003 }
-    ensures { result ≡ is_within spec.now (script_in_frames script.now.frames script.now.faults.now) }
+    ensures { result ≡ is_within spec.now (as_script script.now) }
 {
     let mut counts = Counts { upto: 0, past: 0 };
     for frame in 0..script.frames + 1 {
@@ -39,8 +39,8 @@ struct Counts {
 // Returns the counts of a frame, given the counts of the previous frame.
 fn counts_with(spec: &Spec, script: &FaultScript<'_>, counts: &Counts, frame: u32) -> Counts
     requires frame { frame ≤ 5003 }
-    requires counts { AreChangeFrameCounts spec.now (script_in_frames script.now.frames script.now.faults.now) (frame - 1) counts.now }
-    ensures { AreChangeFrameCounts spec.now (script_in_frames script.now.frames script.now.faults.now) frame result }
+    requires counts { AreChangeFrameCounts spec.now (as_script script.now) (frame - 1) counts.now }
+    ensures { AreChangeFrameCounts spec.now (as_script script.now) frame result }
 {
     let past = if spec.window <= frame {
         count_with(spec, script, counts.past, frame - spec.window)
@@ -57,8 +57,8 @@ fn counts_with(spec: &Spec, script: &FaultScript<'_>, counts: &Counts, frame: u3
 // previous frame.
 fn count_with(spec: &Spec, script: &FaultScript<'_>, count: u32, frame: u32) -> u32
     requires frame { frame ≤ 5003 }
-    requires count { count ≡ changes_upto spec.now (script_in_frames script.now.frames script.now.faults.now) (frame - 1) }
-    ensures { result ≡ changes_upto spec.now (script_in_frames script.now.frames script.now.faults.now) frame }
+    requires count { count ≡ changes_upto spec.now (as_script script.now) (frame - 1) }
+    ensures { result ≡ changes_upto spec.now (as_script script.now) frame }
 {
     if is_change_frame(spec, script, frame) {
         count + 1
@@ -71,8 +71,8 @@ fn count_with(spec: &Spec, script: &FaultScript<'_>, count: u32, frame: u32) -> 
 fn is_outside_at(spec: &Spec, script: &FaultScript<'_>, counts: &Counts, frame: u32) -> bool
     requires few { script.now.frames ≤ 5003 }
     requires frame { frame ≤ script.now.frames }
-    requires counts { AreChangeFrameCounts spec.now (script_in_frames script.now.frames script.now.faults.now) frame counts.now }
-    ensures { result ≡ is_some (outside_at spec.now (script_in_frames script.now.frames script.now.faults.now) frame) }
+    requires counts { AreChangeFrameCounts spec.now (as_script script.now) frame counts.now }
+    ensures { result ≡ is_some (outside_at spec.now (as_script script.now) frame) }
 {
     brings_too_many_down(spec, script, frame) || is_change_too_many(spec, script, counts, frame)
 }
@@ -80,14 +80,14 @@ fn is_outside_at(spec: &Spec, script: &FaultScript<'_>, counts: &Counts, frame: 
 // Returns `true` if a frame changes the environment and thereby exceeds the limit of the window that ends with the
 // frame.
 fn is_change_too_many(spec: &Spec, script: &FaultScript<'_>, counts: &Counts, frame: u32) -> bool
-    requires counts { AreChangeFrameCounts spec.now (script_in_frames script.now.frames script.now.faults.now) frame counts.now }
-    ensures { result ≡ is_change_too_many spec.now (script_in_frames script.now.frames script.now.faults.now) frame }
+    requires counts { AreChangeFrameCounts spec.now (as_script script.now) frame counts.now }
+    ensures { result ≡ is_change_too_many spec.now (as_script script.now) frame }
 {
     is_change_frame(spec, script, frame) && u32::from(spec.changes) + 1 < counts.upto - counts.past
 }
 
 fn is_change_frame(spec: &Spec, script: &FaultScript<'_>, frame: u32) -> bool
-    ensures { result ≡ is_change_frame spec.now (script_in_frames script.now.frames script.now.faults.now) frame }
+    ensures { result ≡ is_change_frame spec.now (as_script script.now) frame }
 {
     frame != 0
         && differs(
@@ -103,7 +103,7 @@ fn differs(env: &Env, other: &Env) -> bool
 }
 
 fn env_at(spec: &Spec, script: &FaultScript<'_>, frame: u32) -> Env
-    ensures { result ≡ env_at spec.now (script_in_frames script.now.frames script.now.faults.now) frame }
+    ensures { result ≡ env_at spec.now (as_script script.now) frame }
 {
     Env {
         up: up_set_at(spec, script, frame),
@@ -112,7 +112,7 @@ fn env_at(spec: &Spec, script: &FaultScript<'_>, frame: u32) -> Env
 }
 
 fn factors_at(script: &FaultScript<'_>, frame: u32) -> [u8; 6]
-    ensures { result ≡ factors_at (script_in_frames script.now.frames script.now.faults.now) frame }
+    ensures { result ≡ factors_at (as_script script.now) frame }
 {
     [
         value_at(script.faults, FactorId(0), frame),
@@ -125,7 +125,7 @@ fn factors_at(script: &FaultScript<'_>, frame: u32) -> [u8; 6]
 }
 
 fn up_set_at(spec: &Spec, script: &FaultScript<'_>, frame: u32) -> u8
-    ensures { result ≡ bits_below (λ p. is_up (script_in_frames script.now.frames script.now.faults.now) p frame) (length spec.now.procs) }
+    ensures { result ≡ bits_below (λ p. is_up (as_script script.now) p frame) (length spec.now.procs) }
 {
     let mut up = 0;
     for p in 0..spec.procs.items().len() as u8 {
@@ -139,20 +139,20 @@ fn up_set_at(spec: &Spec, script: &FaultScript<'_>, frame: u32) -> u8
 fn brings_too_many_down(spec: &Spec, script: &FaultScript<'_>, frame: u32) -> bool
     requires frame { frame ≤ script.now.frames }
     requires few { script.now.frames ≤ 5003 }
-    ensures { result ≡ brings_too_many_down spec.now (script_in_frames script.now.frames script.now.faults.now) frame }
+    ensures { result ≡ brings_too_many_down spec.now (as_script script.now) frame }
 {
     frame != script.frames && has_too_many_down(spec, script, frame + 1)
 }
 
 fn has_too_many_down(spec: &Spec, script: &FaultScript<'_>, frame: u32) -> bool
-    ensures { result ≡ has_too_many_down spec.now (script_in_frames script.now.frames script.now.faults.now) frame }
+    ensures { result ≡ has_too_many_down spec.now (as_script script.now) frame }
 {
     spec.halts < count_down(script, spec.procs.items().len() as u8, frame)
 }
 
 // Returns how many of the first `processors` processors are down in a frame.
 fn count_down(script: &FaultScript<'_>, processors: u8, frame: u32) -> u8
-    ensures value { result ≡ down_below (script_in_frames script.now.frames script.now.faults.now) frame processors }
+    ensures value { result ≡ down_below (as_script script.now) frame processors }
     ensures most { result ≤ processors }
 {
     let mut down = 0;

@@ -4,7 +4,7 @@ ghost use Rattle.std.specs.Prelude.{◌≡◌, ◌+◌, ◌*◌, ◌≤◌, ◌+
 ghost use Rattle.serde_json.specs.Written.{comma_if};
 ghost use Rattle.scram_types.specs.declared.limits.TheConstants.{MAX_LINE_BYTES};
 ghost use Rattle.fault_script.specs.Texts.{new_value_name, script_text};
-ghost use Rattle.fault_family.specs.Scripts.{change_of_fault, halt_of_fault, restart_of_fault, script_in_frames};
+ghost use Rattle.fault_family.specs.Scripts.{as_script, change_of_fault, halt_of_fault, restart_of_fault};
 ghost use Rattle.faults_form.specs.Lines.{spelled_change, spelled_halt, listed_text, spelled_restart, spelled_script, version_text};
 
 use fault_family::faults::Fault;
@@ -15,7 +15,7 @@ use trace_text::lines::Line;
 /// Returns the line of a script: its canonical text and a line feed.
 pub fn make_script_line(spec: &Spec, script: &FaultScript<'_>) -> Line
     requires { length script.now.faults.now ≤ 3 }
-    ensures { result ≡ script_text spec.now (script_in_frames script.now.frames script.now.faults.now) ++ codes "\n" }
+    ensures { result ≡ script_text spec.now (as_script script.now) ++ codes "\n" }
 {
     // A use of a field proves that the specification satisfies its invariant.
     let _ = &spec.procs;
@@ -24,7 +24,7 @@ pub fn make_script_line(spec: &Spec, script: &FaultScript<'_>) -> Line
 
 fn spelled_script(spec: &Spec, script: &FaultScript<'_>) -> Line
     requires { length script.now.faults.now ≤ 3 }
-    ensures { result ≡ spelled_script spec.now (script_in_frames script.now.frames script.now.faults.now) ++ codes "\n" }
+    ensures { result ≡ spelled_script spec.now (as_script script.now) ++ codes "\n" }
 {
     let mut line = open_line();
     add_changes(&mut line, spec, script.faults);

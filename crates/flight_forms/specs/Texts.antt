@@ -5,7 +5,7 @@ use Rattle.scram_types.specs.declared.rows.Row.{Row}
 use Rattle.scram_types.specs.Specification.{Parts}
 use Rattle.coverage_check.specs.Missions.{MissionParts}
 use Rattle.frame_model.specs.Flights.{reports_of, rows_of}
-use Rattle.telemetry_tap.specs.Summaries.{summary_after}
+use Rattle.telemetry_tap.specs.Summaries.{whole_summary}
 use Rattle.trace_text.specs.Text.{text_of}
 use Rattle.flight_forms.specs.declared.runs.FlightText.{FlightText}
 use Rattle.flight_forms.specs.declared.runs.FlightText.TheVariants.{Trace, Summary}
@@ -22,4 +22,4 @@ flight_text told mission = flown_text told mission.spec (rows_of mission.spec mi
 
 -- The line for a watched flight, with the summary of all its frames.
 abbrev pub watch_text : MissionParts → List ℕ
-watch_text mission = watch_line mission.spec (summary_after mission mission.script.frames)
+watch_text mission = watch_line mission.spec (whole_summary mission)

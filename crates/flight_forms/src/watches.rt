@@ -5,7 +5,7 @@ ghost use Rattle.std.specs.Prelude.{◌≡◌, ◌∷◌, [], IfOk};
 ghost use Rattle.form_base.specs.Answers.{Gives};
 ghost use Rattle.form_base.specs.Endings.{Ends, IsTaken, Tells};
 ghost use Rattle.form_base.specs.declared.status.TheConstants.{ANSWERED};
-ghost use Rattle.telemetry_tap.specs.Summaries.{summary_after};
+ghost use Rattle.telemetry_tap.specs.Summaries.{whole_summary};
 ghost use Rattle.telemetry_tap.specs.Taps.{IsReaderOf, rows_published, tap_mission};
 ghost use Rattle.flight_forms.specs.Answers.{WatchAnswers};
 ghost use Rattle.flight_forms.specs.Texts.{watch_text};
@@ -77,7 +77,7 @@ fn fly_watched<R: AllocGlobal + Threads + Wait + Sync>(
     mission: &Mission,
     boxes: Boxes,
 ) -> Result<Summary, NoMemory>
-    ensures { IfOk result (λ summary. summary ≡ summary_after mission.now mission.now.script.frames) }
+    ensures { IfOk result (λ summary. summary ≡ whole_summary mission.now) }
 {
     let flight = WordFlight::open(rt.alloc(), mission, boxes)?;
     let (tap, writer, mut readers) = Tap::open(rt.alloc(), mission, 2)?;
@@ -139,7 +139,7 @@ fn fly_read<'a, W: Watch, R: Threads + Wait + Sync>(
 // Returns the summary of all frames. The writer must have published all rows.
 fn last_summary(publisher: Publisher) -> Summary
     requires { rows_published publisher.writer ≡ (tap_mission publisher.tap.now).script.frames }
-    ensures { result ≡ summary_after (tap_mission publisher.entry.tap.now) (tap_mission publisher.entry.tap.now).script.frames }
+    ensures { result ≡ whole_summary (tap_mission publisher.entry.tap.now) }
 {
     let Publisher { tap, mut writer } = publisher;
     let mut reader = tap.note(&mut writer);

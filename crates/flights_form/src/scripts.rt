@@ -1,10 +1,9 @@
 //! A file of scripts, one on each line.
 
-ghost use Rattle.std.specs.Prelude.{◌≡◌, ◌<◌, ◌≤◌, ◌∷◌, [], IfErr, IfOk, IfSome, MatchOption, length};
-ghost use Rattle.scram_io.specs.Outside.{Rose, StaysSteady};
-ghost use Rattle.form_base.specs.Loads.{Loads};
+ghost use Rattle.std.specs.Prelude.{◌≡◌, ◌<◌, ◌≤◌, ◌∷◌, [], IfOk, IfSome, MatchOption, length};
+ghost use Rattle.scram_io.specs.Outside.{StaysSteady};
+ghost use Rattle.form_base.specs.Loads.{Loads, UnreadIsFault};
 ghost use Rattle.form_base.specs.Refusals.{answer_of};
-ghost use Rattle.form_base.specs.declared.status.TheConstants.{UNREAD_FILE};
 ghost use Rattle.flight_forms.specs.Documents.{long_script};
 ghost use Rattle.trace_text.specs.Pieces.{pieces_of};
 ghost use Rattle.flights_form.specs.Scripts.{BreaksScripts, SaysScripts, lines_of};
@@ -29,7 +28,7 @@ pub fn load_scripts<F: Files>(alloc: Global, name: &str, files: &mut F) -> Resul
     ensures loads { Loads SaysScripts BreaksScripts MAX_SCRIPTS_BYTES long_script name.now (F.state files.old) (F.state files.new) result }
     ensures few { IfOk result (λ scripts. length scripts ≤ MAX_SCRIPTS_BYTES) }
     ensures steady { StaysSteady (F.state files.old) (F.state files.new) name.now }
-    ensures unread { IfErr result (λ refusal. (answer_of refusal).0 ≡ UNREAD_FILE → Rose (F.state files.old).faults (F.state files.new).faults) }
+    ensures unread { UnreadIsFault (F.state files.old) (F.state files.new) result }
 {
     match files.read(alloc, name, MAX_SCRIPTS_BYTES) {
         Ok(bytes) => Ok(List::of(bytes)),

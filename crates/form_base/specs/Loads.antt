@@ -1,5 +1,5 @@
 -- The results of loading a file.
-use Rattle.std.specs.Prelude.{◌≡◌, ◌≢◌, ◌⊎◌, ◌≤◌, ℕ, List, [], ◌∷◌, length, Result, Ok, Err, ⊤}
+use Rattle.std.specs.Prelude.{◌≡◌, ◌≢◌, ◌⊎◌, ◌≤◌, ℕ, [], ◌∷◌, ⊤, List, length, Result, Ok, Err, IfErr}
 use Rattle.scram_io.specs.Outside.{FilesState, FoundLonger, Grew, Rose}
 use Rattle.form_base.specs.declared.refusals.Refusal.{Refusal}
 use Rattle.form_base.specs.declared.status.TheConstants.{OUT_OF_MEMORY, UNREAD_FILE}
@@ -37,3 +37,7 @@ abbrev pub Loads : {T : Type 0} → (T → List ℕ → Type 0) → (ℕ × List
     → FilesState → FilesState → Result T Refusal → Type 0
 Loads Says Breaks limit long name before after (Ok value) = HasRead limit name (Says value) before after
 Loads Says Breaks limit long name before after (Err refusal) = IsUnloaded Breaks limit long name before after (answer_of refusal)
+
+-- If a file was refused because it could not be read, the number of faults of the files rose.
+abbrev pub UnreadIsFault : {A : Type 0} → FilesState → FilesState → Result A Refusal → Type 0
+UnreadIsFault before after result = IfErr result (λ (refusal : Refusal). (answer_of refusal).0 ≡ UNREAD_FILE → Rose before.faults after.faults)

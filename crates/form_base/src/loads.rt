@@ -1,8 +1,8 @@
 //! The loading of the files that the command's words name.
 
 ghost use Rattle.std.specs.Prelude.{◌≡◌, ◌≢◌, IfErr, ℕ, List};
-ghost use Rattle.scram_io.specs.Outside.{Rose, StaysSteady};
-ghost use Rattle.form_base.specs.Loads.{Loads, ReadsAs};
+ghost use Rattle.scram_io.specs.Outside.{StaysSteady};
+ghost use Rattle.form_base.specs.Loads.{Loads, ReadsAs, UnreadIsFault};
 ghost use Rattle.form_base.specs.Refusals.{answer_of};
 ghost use Rattle.form_base.specs.declared.status.TheConstants.{UNREAD_FILE};
 
@@ -54,7 +54,7 @@ pub fn load<T, D: Document<T>, F: Files>(
     ensures loads { Loads (D.Says document.now) (D.Breaks document.now) (D.limit document.now) (D.long document.now) name.now
         (F.state files.old) (F.state files.new) result }
     ensures steady { StaysSteady (F.state files.old) (F.state files.new) name.now }
-    ensures unread { IfErr result (λ refusal. (answer_of refusal).0 ≡ UNREAD_FILE → Rose (F.state files.old).faults (F.state files.new).faults) }
+    ensures unread { UnreadIsFault (F.state files.old) (F.state files.new) result }
 {
     match files.read(alloc, name, document.limit()) {
         Ok(bytes) => document.read(alloc, &bytes),

@@ -1,5 +1,5 @@
 -- The kernels and the processors of a flight on two units, related to the state of its pair.
-use Rattle.std.specs.Prelude.{◌≡◌, ℕ, List, Option, Some, None}
+use Rattle.std.specs.Prelude.{◌≡◌, ℕ, List, Option, Some, None, take}
 use Rattle.scram_kernel.specs.Kernels.{KernelParts, kernel_after}
 use Rattle.fail_stop.specs.declared.flyers.Flyer.{Flyer}
 use Rattle.fail_stop.specs.Events.{Place}
@@ -7,8 +7,10 @@ use Rattle.fail_stop.specs.Flyers.{AreFlyersAt, flyer_halted}
 use Rattle.kernel_pair.specs.declared.events.PairEvent.{PairEvent}
 use Rattle.kernel_pair.specs.declared.events.PairEvent.TheVariants.{Fly, Note, Store, Ready, Meet, Release, Stop}
 use Rattle.kernel_pair.specs.Laws.{noted_frames}
-use Rattle.kernel_pair.specs.Machines.{PairParts, pair_flight, pair_in}
+use Rattle.kernel_pair.specs.Machines.{PairParts, pair_flight, pair_in, unit_in}
 use Rattle.kernel_pair.specs.Pairs.{Pair}
+use Rattle.frame_model.specs.Flights.{rows_of}
+use Rattle.scram_types.specs.declared.rows.Row.{Row}
 
 -- The place of each processor in a state.
 abbrev pub places_in : Pair → ℕ → Place
@@ -16,7 +18,11 @@ places_in s p = (s.proc p).place
 
 -- The kernel of unit `u` has ended the frames in which the unit has noted every processor.
 abbrev pub IsKernelOf : PairParts → ℕ → KernelParts → Type 0
-IsKernelOf pair u kernel = kernel ≡ kernel_after pair.spec pair.script (noted_frames (pair_flight pair) ((pair_in pair).unit u))
+IsKernelOf pair u kernel = kernel ≡ kernel_after pair.spec pair.script (noted_frames (pair_flight pair) (unit_in pair u))
+
+-- The rows of the frames in which unit `u` of the pair has noted every processor.
+abbrev pub rows_noted : PairParts → ℕ → List Row
+rows_noted pair u = take (noted_frames (pair_flight pair) (unit_in pair u)) (rows_of pair.spec pair.script)
 
 -- `kernel` is the kernel of unit 0, and `other` is the kernel of unit 1. The processors in flight are at the places
 -- that they have in the state of the pair.

@@ -1,15 +1,16 @@
 -- A pair with the list of its events, and the invariant of such a pair.
-use Rattle.std.specs.Prelude.{◌≡◌, ℕ, suc, ◌+◌, ◌++◌, ◌≤◌, List, [], ◌∷◌, Option, Some, slice_index_or}
+use Rattle.std.specs.Prelude.{◌≡◌, ℕ, ◌+◌, ◌++◌, ◌≤◌, [], ◌∷◌, suc, List, Option, Some, slice_index_or, length}
 use Rattle.scram_types.specs.Scripts.{ScriptParts}
 use Rattle.scram_types.specs.Specification.{IsSpec, Parts}
 use Rattle.fault_script.specs.Fits.{Fits}
+use Rattle.fault_script.specs.Times.{restart_of}
 use Rattle.fail_stop.specs.Flights.{Flight, word_in}
 use Rattle.fail_stop.specs.ScriptFlights.{flight_of}
 use Rattle.kernel_pair.specs.declared.events.UnitHalt.{UnitHalt}
 use Rattle.kernel_pair.specs.declared.events.PairEvent.{PairEvent}
 use Rattle.kernel_pair.specs.declared.events.PairEvent.TheVariants.{Fly, Note, Store, Ready, Meet, Release, Stop}
 use Rattle.kernel_pair.specs.declared.states.PairState.{PairState}
-use Rattle.kernel_pair.specs.Pairs.{IsPairReplay, Pair, frame_to_make, pair_after}
+use Rattle.kernel_pair.specs.Pairs.{IsPairNext, IsPairOver, IsPairReplay, KernelUnit, Pair, frame_to_make, next_unit, pair_after}
 use Rattle.kernel_pair.specs.Rooms.{pair_left}
 use Rattle.kernel_pair.specs.States.{pair_of}
 
@@ -36,6 +37,30 @@ pair_in k = pair_of k.state
 -- The state of a pair after an event.
 abbrev pub pair_with : PairParts → PairEvent → Pair
 pair_with k event = pair_after (pair_flight k) k.halt (pair_in k) event
+
+-- Unit `u` in the state of a pair.
+abbrev pub unit_in : PairParts → ℕ → KernelUnit
+unit_in pair u = (pair_in pair).unit u
+
+-- The event is the next event of its actor in the pair.
+abbrev pub IsPairNextIn : PairParts → PairEvent → Type 0
+IsPairNextIn pair event = IsPairNext (pair_flight pair) pair.halt (pair_in pair) event
+
+-- The next event of unit `u` in the pair, or `None` if the unit has no next event.
+abbrev pub next_unit_in : PairParts → ℕ → Option PairEvent
+next_unit_in pair u = next_unit (pair_flight pair) pair.halt (pair_in pair) u
+
+-- The frame that processor `p` makes next in the pair, or `None` if the processor has halted for good.
+abbrev pub next_frame : PairParts → ℕ → Option ℕ
+next_frame pair p = frame_to_make (restart_of pair.script p) ((pair_in pair).proc p).place
+
+-- Unit `u` of the pair has noted every processor in its frame.
+abbrev pub HasNotedAll : PairParts → ℕ → Type 0
+HasNotedAll pair u = length pair.spec.procs ≤ (unit_in pair u).step
+
+-- The flight of the pair is over.
+abbrev pub IsPairOverIn : PairParts → Type 0
+IsPairOverIn pair = IsPairOver (pair_flight pair) (pair_in pair)
 
 -- The invariant of a pair whose list contains `count` events and has a capacity of `room` events. The events are a
 -- schedule from the opening to the state, and the list has space for every remaining event.

@@ -35,17 +35,15 @@ impl<'a> std::marker::Model for PairCore<'a> {
 }
 
 impl<'a> PairCore<'a> {
-    ghost use Rattle.std.specs.Prelude.{◌≡◌, ◌<◌, ℕ, [], IfErr, IfOk, IsTrue, ◌↔◌, Some, length, take};
+    ghost use Rattle.std.specs.Prelude.{◌≡◌, ◌<◌, ℕ, [], IfErr, IfOk, IsTrue, ◌↔◌, Some};
     ghost use Rattle.scram_types.specs.Specification.{IsSpec};
     ghost use Rattle.fault_script.specs.Fits.{Fits};
-    ghost use Rattle.fault_script.specs.Times.{restart_of};
     ghost use Rattle.fail_stop.specs.Drafts.{IsSnapshot};
     ghost use Rattle.frame_model.specs.Flights.{reports_of, rows_of};
-    ghost use Rattle.scram_kernel.specs.Kernels.{kernel_after};
-    ghost use Rattle.kernel_pair.specs.Cores.{IsTurn};
-    ghost use Rattle.kernel_pair.specs.Laws.{PairHolds, noted_frames};
-    ghost use Rattle.kernel_pair.specs.Machines.{IsPairStep, pair_flight, pair_in};
-    ghost use Rattle.kernel_pair.specs.Pairs.{IsPairNext, IsPairOpening, IsPairOver, IsPairReplay, frame_to_make, next_unit};
+    ghost use Rattle.kernel_pair.specs.Cores.{IsKernelOf, IsTurn, rows_noted};
+    ghost use Rattle.kernel_pair.specs.Laws.{PairHolds};
+    ghost use Rattle.kernel_pair.specs.Machines.{IsPairNextIn, IsPairOverIn, IsPairStep, next_frame, next_unit_in, pair_flight, pair_in};
+    ghost use Rattle.kernel_pair.specs.Pairs.{IsPairOpening, IsPairReplay};
     ghost use Rattle.kernel_pair.specs.declared.events.PairEvent.TheVariants.{Fly, Note, Store};
 
     /// Creates a flight before its first event. All memory of the flight is allocated here: the rows and reports of
@@ -86,7 +84,7 @@ impl<'a> PairCore<'a> {
     /// other unit, has halted or has made its last note, or the flight has no frame.
     pub fn next(&self, unit: u8) -> Option<PairEvent>
         requires { unit < 2 }
-        ensures { result ≡ next_unit (pair_flight self.now) self.now.halt (pair_in self.now) unit }
+        ensures { result ≡ next_unit_in self.now unit }
     {
         self.machine.next(unit)
     }
@@ -98,9 +96,9 @@ impl<'a> PairCore<'a> {
     /// Returns the event if and only if it is not a next event of its actor. An event whose processor, unit or word
     /// does not exist is never a next event.
     pub fn step(&mut self, event: PairEvent) -> Result<(), PairEvent>
-        ensures next { IfOk result (λ _. IsPairNext (pair_flight self.old) self.old.halt (pair_in self.old) event) }
+        ensures next { IfOk result (λ _. IsPairNextIn self.old event) }
         ensures step { IfOk result (λ _. IsPairStep self.old event self.new) }
-        ensures not_next { IfErr result (λ _. IsPairNext (pair_flight self.old) self.old.halt (pair_in self.old) event → ⊥) }
+        ensures not_next { IfErr result (λ _. IsPairNextIn self.old event → ⊥) }
         ensures back { IfErr result (λ given. given ≡ event) }
         ensures same { IfErr result (λ _. self.new ≡ self.old) }
     {
@@ -121,7 +119,7 @@ impl<'a> PairCore<'a> {
 
     // Makes the next frame of processor `p` by the words of unit `u`.
     fn fly(&mut self, p: ProcId, u: u8)
-        requires { IsPairNext (pair_flight self.old) self.old.halt (pair_in self.old) (Fly p u) }
+        requires { IsPairNextIn self.old (Fly p u) }
         ensures { IsPairStep self.old (Fly p u) self.new }
     {
         let words = draft(&mut self.flyers, &self.machine, p, u);
@@ -130,7 +128,7 @@ impl<'a> PairCore<'a> {
 
     // Notes processor `p` in unit `u`. If this is the last note of the unit's frame, the unit's kernel ends the frame.
     fn note(&mut self, u: u8, p: ProcId)
-        requires { IsPairNext (pair_flight self.old) self.old.halt (pair_in self.old) (Note u p) }
+        requires { IsPairNextIn self.old (Note u p) }
         ensures { IsPairStep self.old (Note u p) self.new }
     {
         self.machine.holds();
@@ -144,7 +142,7 @@ impl<'a> PairCore<'a> {
 
     // Stores word `i` of the kernel image of the next frame in unit `u`.
     fn store(&mut self, u: u8, i: u8)
-        requires { IsPairNext (pair_flight self.old) self.old.halt (pair_in self.old) (Store u i) }
+        requires { IsPairNextIn self.old (Store u i) }
         ensures { IsPairStep self.old (Store u i) self.new }
     {
         self.machine.holds();
@@ -156,7 +154,7 @@ impl<'a> PairCore<'a> {
     // Makes an event of a unit that involves no processor and no word, such as a release.
     fn turn(&mut self, event: PairEvent)
         requires turn { IsTurn event }
-        requires next { IsPairNext (pair_flight self.old) self.old.halt (pair_in self.old) event }
+        requires next { IsPairNextIn self.old event }
         ensures { IsPairStep self.old event self.new }
     {
         self.machine.holds();
@@ -166,7 +164,7 @@ impl<'a> PairCore<'a> {
     // Returns the kernel of unit `u`. It has ended the frames in which the unit has noted every processor.
     fn kernel(&self, u: u8) -> &Kernel<'a>
         requires { u < 2 }
-        ensures { result.now ≡ kernel_after self.now.spec self.now.script (noted_frames (pair_flight self.now) ((pair_in self.now).unit u)) }
+        ensures { IsKernelOf self.now u result.now }
     {
         if u == 0 { &self.first } else { &self.second }
     }
@@ -183,7 +181,7 @@ impl<'a> PairCore<'a> {
     /// one-thread trace.
     pub fn rows(&self, unit: u8) -> &[Row]
         requires { unit < 2 }
-        ensures { result.now ≡ take (noted_frames (pair_flight self.now) ((pair_in self.now).unit unit)) (rows_of self.now.spec self.now.script) }
+        ensures { result.now ≡ rows_noted self.now unit }
     {
         self.kernel(unit).rows()
     }
@@ -191,8 +189,8 @@ impl<'a> PairCore<'a> {
     /// Returns the snapshot of processor `p`, which may make frame `frame` by the words of unit `unit`. The snapshot
     /// contains the kernel image of that frame and the image of every processor as of the start of the frame.
     pub fn snapshot(&self, p: ProcId, unit: u8, frame: u32) -> Snapshot
-        requires next { IsPairNext (pair_flight self.now) self.now.halt (pair_in self.now) (Fly p unit) }
-        requires frame { frame_to_make (restart_of self.now.script p.0) ((pair_in self.now).proc p.0).place ≡ Some frame }
+        requires next { IsPairNextIn self.now (Fly p unit) }
+        requires frame { next_frame self.now p.0 ≡ Some frame }
         ensures { IsSnapshot self.now.spec self.now.script frame result }
     {
         self.machine.snapshot(p, unit, frame)
@@ -212,7 +210,7 @@ impl<'a> PairCore<'a> {
     /// Returns `true` if no further event is possible. In that case the flight has no frame, or each processor has
     /// made all frames or has halted for good and each unit that has not halted has made its last note.
     pub fn over(&self) -> bool
-        ensures { IsTrue result ↔ IsPairOver (pair_flight self.now) (pair_in self.now) }
+        ensures { IsTrue result ↔ IsPairOverIn self.now }
     {
         self.machine.over()
     }
@@ -220,7 +218,7 @@ impl<'a> PairCore<'a> {
     /// Returns the rows and reports of a unit that has not halted. The flight must be over. The rows and reports are
     /// those of the one-thread trace.
     pub fn finish(self) -> Flown
-        requires { IsPairOver (pair_flight self) (pair_in self) }
+        requires { IsPairOverIn self }
         ensures rows { result.rows ≡ rows_of self.entry.spec self.entry.script }
         ensures reports { result.reports ≡ reports_of self.entry.spec self.entry.script }
     {

@@ -9,8 +9,8 @@ ghost use Rattle.fail_stop.specs.ScriptFlights.{draft_words};
 ghost use Rattle.scram_types.specs.Specification.{IsSpec};
 ghost use Rattle.scram_types.specs.declared.scripts.HaltAt.{HaltAt};
 ghost use Rattle.kernel_pair.specs.Cores.{flyer_after, places_in};
-ghost use Rattle.kernel_pair.specs.Machines.{AreEventWords, pair_flight, pair_in, pair_with};
-ghost use Rattle.kernel_pair.specs.Pairs.{IsPairNext, frame_to_make};
+ghost use Rattle.kernel_pair.specs.Machines.{AreEventWords, IsPairNextIn, pair_flight, pair_in, pair_with};
+ghost use Rattle.kernel_pair.specs.Pairs.{frame_to_make};
 ghost use Rattle.kernel_pair.specs.declared.events.PairEvent.TheVariants.{Fly};
 ghost use Rattle.kernel_pair.specs.States.{flight_by};
 ghost use Rattle.kernel_pair.specs.declared.setups.Setup.{Setup};
@@ -25,7 +25,7 @@ use scram_types::{HaltAt, ProcId};
 /// Returns the words of the draft of processor `p` in the frame that it may make by the words of unit `u`. A processor
 /// that has halted restarts with its spare rack. A processor that halts in this frame drops its boxes.
 pub(crate) fn draft(flyers: &mut [Flyer], machine: &PairMachine, p: ProcId, u: u8) -> [u64; 64]
-    requires next { IsPairNext (pair_flight machine.now) machine.now.halt (pair_in machine.now) (Fly p u) }
+    requires next { IsPairNextIn machine.now (Fly p u) }
     requires flyers { AreFlyersAt (pair_flight machine.now) (places_in (pair_in machine.now)) flyers.old }
     ensures words { AreEventWords (pair_flight machine.now) (pair_in machine.now) (Fly p u) result 0 }
     ensures flyers { AreFlyersAt (pair_flight machine.now) (places_in (pair_with machine.now (Fly p u))) flyers.new }

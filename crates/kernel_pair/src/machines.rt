@@ -35,7 +35,6 @@ impl<'a> PairMachine<'a> {
     ghost use Rattle.std.specs.Prelude.{◌≡◌, ◌<◌, ◌≤◌, ◌+◌, ◌*◌, ℕ, ◌++◌, ◌∷◌, [], IfOk, IsTrue, ◌↔◌, Some, is_some, vec_capacity, vec_len, length};
     ghost use Rattle.scram_types.specs.Specification.{IsSpec};
     ghost use Rattle.fault_script.specs.Fits.{Fits};
-    ghost use Rattle.fault_script.specs.Times.{restart_of};
     ghost use Rattle.fail_stop.specs.Drafts.{IsSnapshot};
     ghost use Rattle.fail_stop.specs.Events.{At};
     ghost use Rattle.fail_stop.specs.ScriptFlights.{kernel_words};
@@ -43,8 +42,8 @@ impl<'a> PairMachine<'a> {
     ghost use Rattle.kernel_pair.specs.Cores.{places_in};
     ghost use Rattle.kernel_pair.specs.Kept.{PairKept};
     ghost use Rattle.kernel_pair.specs.Laws.{PairHolds};
-    ghost use Rattle.kernel_pair.specs.Machines.{AreEventWords, IsPairStep, pair_flight, pair_in};
-    ghost use Rattle.kernel_pair.specs.Pairs.{IsPairNext, IsPairOpening, IsPairOver, IsPairReplay, frame_to_make, next_unit};
+    ghost use Rattle.kernel_pair.specs.Machines.{AreEventWords, HasNotedAll, IsPairNextIn, IsPairOverIn, IsPairStep, next_frame, next_unit_in, pair_flight, pair_in, unit_in};
+    ghost use Rattle.kernel_pair.specs.Pairs.{IsPairOpening, IsPairReplay, next_unit};
     ghost use Rattle.kernel_pair.specs.declared.events.PairEvent.TheVariants.{Fly};
 
     /// Creates a pair at its opening, with the kernel's words of the first frame and room for every possible event.
@@ -99,14 +98,14 @@ impl<'a> PairMachine<'a> {
     /// Returns the next event of unit `u`, or `None` if it has none.
     pub(crate) fn next(&self, u: u8) -> Option<PairEvent>
         requires { u < 2 }
-        ensures { result ≡ next_unit (pair_flight self.now) self.now.halt (pair_in self.now) u }
+        ensures { result ≡ next_unit_in self.now u }
     {
         next_unit(&self.setup, &self.state, u)
     }
 
     /// Returns `true` if an event is a next event of its actor.
     pub(crate) fn is_next(&self, event: PairEvent) -> bool
-        ensures { IsTrue result ↔ IsPairNext (pair_flight self.now) self.now.halt (pair_in self.now) event }
+        ensures { IsTrue result ↔ IsPairNextIn self.now event }
     {
         is_next(&self.setup, &self.state, event)
     }
@@ -114,7 +113,7 @@ impl<'a> PairMachine<'a> {
     /// Makes `event`, which must be a next event of its actor. For a `Fly`, `draft` holds the words of the frame's
     /// draft. For a `Store`, `word` is the word to store. Other events use neither.
     pub(crate) fn make(&mut self, event: PairEvent, draft: &[u64; 64], word: u64)
-        requires next { IsPairNext (pair_flight self.old) self.old.halt (pair_in self.old) event }
+        requires next { IsPairNextIn self.old event }
         requires words { AreEventWords (pair_flight self.old) (pair_in self.old) event draft.now word }
         ensures { IsPairStep self.old event self.new }
     {
@@ -125,15 +124,15 @@ impl<'a> PairMachine<'a> {
     /// Returns the frame that a processor makes next, or `None` if it has halted for good.
     pub(crate) fn frame_of(&self, p: ProcId) -> Option<u32>
         requires { p.0 < 8 }
-        ensures { result ≡ frame_to_make (restart_of self.now.script p.0) ((pair_in self.now).proc p.0).place }
+        ensures { result ≡ next_frame self.now p.0 }
     {
         frame_of(self.setup.script, &self.state, p)
     }
 
     /// Returns the snapshot of a processor that may make this frame by the words of a unit.
     pub(crate) fn snapshot(&self, p: ProcId, u: u8, frame: u32) -> Snapshot
-        requires next { IsPairNext (pair_flight self.now) self.now.halt (pair_in self.now) (Fly p u) }
-        requires frame { frame_to_make (restart_of self.now.script p.0) ((pair_in self.now).proc p.0).place ≡ Some frame }
+        requires next { IsPairNextIn self.now (Fly p u) }
+        requires frame { next_frame self.now p.0 ≡ Some frame }
         ensures { IsSnapshot self.now.spec self.now.script frame result }
     {
         self.holds();
@@ -144,7 +143,7 @@ impl<'a> PairMachine<'a> {
     /// Returns `true` if a unit has noted every processor in its frame.
     pub(crate) fn has_noted_all(&self, u: u8) -> bool
         requires { u < 2 }
-        ensures { IsTrue result ↔ (length self.now.spec.procs ≤ ((pair_in self.now).unit u).step) }
+        ensures { IsTrue result ↔ HasNotedAll self.now u }
     {
         let spec = self.setup.spec;
         spec.procs.items().len() <= usize::from(self.state.units[usize::from(u)].step)
@@ -153,7 +152,7 @@ impl<'a> PairMachine<'a> {
     /// Returns `true` if a unit has halted.
     pub(crate) fn has_halted(&self, u: u8) -> bool
         requires { u < 2 }
-        ensures { result ≡ is_some ((pair_in self.now).unit u).stopped }
+        ensures { result ≡ is_some (unit_in self.now u).stopped }
     {
         self.state.units[usize::from(u)].stopped.is_some()
     }
@@ -161,8 +160,8 @@ impl<'a> PairMachine<'a> {
     /// Returns the noted marks of a unit that has noted all processors in its frame.
     pub(crate) fn marks(&self, u: u8) -> [u64; 8]
         requires u { u < 2 }
-        requires noted { length self.now.spec.procs ≤ ((pair_in self.now).unit u).step }
-        ensures { AreMarks self.now.spec self.now.script (((pair_in self.now).unit u).frame + 1) result }
+        requires noted { HasNotedAll self.now u }
+        ensures { AreMarks self.now.spec self.now.script ((unit_in self.now u).frame + 1) result }
     {
         self.holds();
         self.state.units[usize::from(u)].marks
@@ -171,8 +170,8 @@ impl<'a> PairMachine<'a> {
     /// Returns the noted images of a unit that has noted all processors in its frame.
     pub(crate) fn images(&self, u: u8) -> [Image; 8]
         requires u { u < 2 }
-        requires noted { length self.now.spec.procs ≤ ((pair_in self.now).unit u).step }
-        ensures { AreImages self.now.spec self.now.script (((pair_in self.now).unit u).frame + 1) result }
+        requires noted { HasNotedAll self.now u }
+        ensures { AreImages self.now.spec self.now.script ((unit_in self.now u).frame + 1) result }
     {
         self.holds();
         images_decoded(self.setup.spec, &self.state.units[usize::from(u)].images)
@@ -188,7 +187,7 @@ impl<'a> PairMachine<'a> {
 
     /// Returns `true` if the pair is over, which means that no further event is possible.
     pub(crate) fn over(&self) -> bool
-        ensures { IsTrue result ↔ IsPairOver (pair_flight self.now) (pair_in self.now) }
+        ensures { IsTrue result ↔ IsPairOverIn self.now }
     {
         let Setup { spec, script, .. } = self.setup;
         script.frames == 0

@@ -1,8 +1,7 @@
 //! The flight of a pair on one thread.
 
-ghost use Rattle.std.specs.Prelude.{◌≡◌, ◌<◌, ◌≤◌, ℕ, None, length};
-ghost use Rattle.kernel_pair.specs.Machines.{pair_flight, pair_in};
-ghost use Rattle.kernel_pair.specs.Pairs.{IsPairNext, IsPairOver, next_unit};
+ghost use Rattle.std.specs.Prelude.{◌≡◌, ◌<◌, ◌≤◌, ℕ, None};
+ghost use Rattle.kernel_pair.specs.Machines.{IsPairNextIn, IsPairOverIn, next_unit_in};
 ghost use Rattle.kernel_pair.specs.Rounds.{IsFlownOn, left_in};
 ghost use Rattle.kernel_pair.specs.declared.events.PairEvent.TheVariants.{Fly};
 
@@ -15,7 +14,7 @@ use scram_types::ProcId;
 pub fn fly_on(core: &mut PairCore)
     ensures spec { core.new.spec ≡ core.old.spec }
     ensures script { core.new.script ≡ core.old.script }
-    ensures over { IsPairOver (pair_flight core.new) (pair_in core.new) }
+    ensures over { IsPairOverIn core.new }
 {
     'rounds: while !core.over() {
         fly_round(core);
@@ -23,7 +22,7 @@ pub fn fly_on(core: &mut PairCore)
 }
 
 fn fly_round(core: &mut PairCore)
-    requires { IsPairOver (pair_flight core.old) (pair_in core.old) → ⊥ }
+    requires { IsPairOverIn core.old → ⊥ }
     ensures spec { core.new.spec ≡ core.old.spec }
     ensures script { core.new.script ≡ core.old.script }
     ensures fewer { left_in core.new < left_in core.old }
@@ -38,7 +37,7 @@ fn fly_round(core: &mut PairCore)
 
 // Makes the next frame of a processor if some unit has released it.
 fn fly_processor(core: &mut PairCore, p: ProcId)
-    ensures { IsFlownOn core.old core.new ((u : ℕ) → u < 2 → IsPairNext (pair_flight core.old) core.old.halt (pair_in core.old) (Fly p u) → ⊥) }
+    ensures { IsFlownOn core.old core.new ((u : ℕ) → u < 2 → IsPairNextIn core.old (Fly p u) → ⊥) }
 {
     attempt(core, PairEvent::Fly(p, 0));
     attempt(core, PairEvent::Fly(p, 1));
@@ -46,7 +45,7 @@ fn fly_processor(core: &mut PairCore, p: ProcId)
 
 // Makes an event if it is a next event of its actor.
 fn attempt(core: &mut PairCore, event: PairEvent)
-    ensures { IsFlownOn core.old core.new (IsPairNext (pair_flight core.old) core.old.halt (pair_in core.old) event → ⊥) }
+    ensures { IsFlownOn core.old core.new (IsPairNextIn core.old event → ⊥) }
 {
     match core.step(event) {
         Ok(()) => {}
@@ -57,7 +56,7 @@ fn attempt(core: &mut PairCore, event: PairEvent)
 // Makes the events of a unit until it has no next event.
 fn run_unit(core: &mut PairCore, u: u8)
     requires { u < 2 }
-    ensures { IsFlownOn core.old core.new (next_unit (pair_flight core.old) core.old.halt (pair_in core.old) u ≡ None) }
+    ensures { IsFlownOn core.old core.new (next_unit_in core.old u ≡ None) }
 {
     while let Some(event) = core.next(u) {
         attempt(core, event);

@@ -1,5 +1,5 @@
 -- The summary of a mission after some of its frames.
-use Rattle.std.specs.Prelude.{ℕ, zero, suc, ◌==◌, List, length, filter, take, Option, Some, None, if◌then◌else◌}
+use Rattle.std.specs.Prelude.{ℕ, ◌==◌, ◌≡◌, zero, suc, List, length, filter, take, Option, Some, None, if◌then◌else◌, slice_get}
 use Rattle.scram_types.specs.Lookups.{conf_id}
 use Rattle.scram_types.specs.Specification.{Parts}
 use Rattle.scram_types.specs.declared.rows.Row.{Row}
@@ -51,3 +51,11 @@ first_rows mission m = take m (rows_of mission.spec mission.script)
 abbrev pub begun_with : Parts → Reading → List Act → ℕ
 begun_with spec (Steady c) acts = if runs spec acts c then 0 else 1
 begun_with spec (Leaving c begin) acts = 0
+
+-- The row is row `n` of the mission's flight.
+abbrev pub IsRowAt : MissionParts → ℕ → Row → Type 0
+IsRowAt mission n row = slice_get (rows_of mission.spec mission.script) n ≡ Some row
+
+-- The summary of all frames of the mission.
+abbrev pub whole_summary : MissionParts → Summary
+whole_summary mission = summary_after mission mission.script.frames

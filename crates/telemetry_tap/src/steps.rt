@@ -1,8 +1,7 @@
 //! The steps of writers and readers at a tap.
 
 ghost use Rattle.std.specs.Prelude.{◌≡◌, ◌≤◌, ◌+◌, Some, slice_get};
-ghost use Rattle.frame_model.specs.Flights.{rows_of};
-ghost use Rattle.telemetry_tap.specs.Summaries.{summary_after};
+ghost use Rattle.telemetry_tap.specs.Summaries.{IsRowAt, summary_after};
 ghost use Rattle.telemetry_tap.specs.Taps.{IsReaderOf, IsWriterOf, loads_of, rows_published, rows_seen, tap_mission};
 ghost use Rattle.telemetry_tap.specs.Words.{FitsWord};
 
@@ -26,7 +25,7 @@ impl<'a> Tap<'a> {
     /// Publishes the summary after the next row of the mission. This method does not allocate and does not block.
     pub fn publish(&self, writer: &mut Writer, row: &Row)
         requires writer { IsWriterOf self.now writer.old }
-        requires row { slice_get (rows_of (tap_mission self.now).spec (tap_mission self.now).script) (rows_published writer.old) ≡ Some row.now }
+        requires row { IsRowAt (tap_mission self.now) (rows_published writer.old) row.now }
         ensures writer { IsWriterOf self.now writer.new }
         ensures published { rows_published writer.new ≡ rows_published writer.old + 1 }
     {

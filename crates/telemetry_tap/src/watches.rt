@@ -1,7 +1,7 @@
 //! Watches, which take the rows of a flight while it runs.
 
 ghost use Rattle.std.specs.Prelude.{◌≡◌, ◌+◌, Some, slice_get};
-ghost use Rattle.frame_model.specs.Flights.{rows_of};
+ghost use Rattle.telemetry_tap.specs.Summaries.{IsRowAt};
 ghost use Rattle.telemetry_tap.specs.Taps.{IsWriterOf};
 
 use crate::taps::{Tap, Writer};
@@ -20,7 +20,7 @@ pub trait Watch: Drop {
 
     /// Takes the next row.
     fn row(&mut self, row: &Row)
-        requires { slice_get (rows_of (watched self.old).spec (watched self.old).script) (taken self.old) ≡ Some row.now }
+        requires { IsRowAt (watched self.old) (taken self.old) row.now }
         ensures watched { watched self.new ≡ watched self.old }
         ensures taken { taken self.new ≡ taken self.old + 1 };
 }

@@ -2,9 +2,8 @@
 //! a core whose flight is over.
 
 ghost use Rattle.std.specs.Prelude.{◌≡◌, ◌<◌, ◌≤◌, ◌⊎◌, ◌++◌, [], ◌∷◌, IfOk, length};
-ghost use Rattle.event_core.specs.Cores.{HappensIn, IsNextIn, IsWordIn, core_places, core_flight, IsOverIn};
+ghost use Rattle.event_core.specs.Cores.{HappensIn, IsNextIn, IsOverIn, IsWordIn, events_left_in};
 ghost use Rattle.event_core.specs.Flyers.{FlyBy};
-ghost use Rattle.event_core.specs.Rooms.{events_left};
 ghost use Rattle.fault_script.specs.Fits.{Fits};
 ghost use Rattle.test_schedules.specs.Ruled.{IsFlownBy};
 
@@ -123,7 +122,7 @@ fn make(core: &mut Core, spec: &Spec, flyers: &mut Flyers, event: Event)
     ensures script { core.new.script ≡ core.old.script }
     ensures happens { HappensIn core.old event core.new }
     ensures history { core.new.history ≡ core.old.history ++ event ∷ [] }
-    ensures fewer { events_left (core_flight core.new) (core_places core.new) < events_left (core_flight core.old) (core_places core.old) }
+    ensures fewer { events_left_in core.new < events_left_in core.old }
     ensures fits { FlyBy core.new flyers.new }
 {
     let word = flyers.word(core, spec, event);
@@ -138,7 +137,7 @@ fn step(core: &mut Core, event: Event, word: u64)
     ensures script { core.new.script ≡ core.old.script }
     ensures happens { HappensIn core.old event core.new }
     ensures history { core.new.history ≡ core.old.history ++ event ∷ [] }
-    ensures fewer { events_left (core_flight core.new) (core_places core.new) < events_left (core_flight core.old) (core_places core.old) }
+    ensures fewer { events_left_in core.new < events_left_in core.old }
 {
     match core.step(event, word) {
         Ok(()) => {}

@@ -79,6 +79,10 @@ abbrev pub difference : List Report → Agreement → Option ℕ
 difference told (Alike place) = begin_told (slice_get told place)
 difference told (Apart frame) = Some frame
 
+-- The first of the numbers from `from` to `to` that passes a test, or `None` if all of them fail.
+abbrev pub first_within : (ℕ → Bool) → ℕ → ℕ → Option ℕ
+first_within test from to = least_from test from (to + 1 - from)
+
 -- Whether the table chooses configuration `to` from `from` in the environment of a row (SP2). The value is `false` if
 -- there is no row.
 abbrev pub chooses_in : Parts → ConfId → ConfId → Option Row → Bool
@@ -98,7 +102,7 @@ unless_chosen (Some f) end = None
 -- reconfiguration has no target and keeps SP2.
 abbrev pub unchosen_to : Parts → List Row → Report → Option ConfId → Option ℕ
 unchosen_to spec rows r None = None
-unchosen_to spec rows r (Some to) = unless_chosen (least_from (chooses spec rows r.from to) r.begin (r.end + 1 - r.begin)) r.end
+unchosen_to spec rows r (Some to) = unless_chosen (first_within (chooses spec rows r.from to) r.begin r.end) r.end
 
 -- The frame in which SP2 is broken, or `None` if SP2 is kept. SP2 is broken in the end of the reconfiguration if the
 -- table does not choose the target in the environment of any row of the reconfiguration.
@@ -134,7 +138,7 @@ breaks_at rows inv f = row_breaks inv (slice_get rows f)
 
 -- The first frame in which an invariant is broken, or `None` if the invariant is kept or is not for the source.
 abbrev pub unkept_from : List Row → Report → Invariant → Option ℕ
-unkept_from rows r inv = if has_source inv.from r.from then least_from (breaks_at rows inv) r.begin (r.end + 1 - r.begin) else None
+unkept_from rows r inv = if has_source inv.from r.from then first_within (breaks_at rows inv) r.begin r.end else None
 
 -- The smaller of two optional frames, the only one present, or `None` if both are absent.
 abbrev pub lesser_frame : Option ℕ → Option ℕ → Option ℕ
@@ -201,7 +205,7 @@ settles Settle = true
 abbrev pub follows : Parts → List Row → Option Report → Report → Bool
 follows spec rows None r = false
 follows spec rows (Some before) r =
-    settles spec.policy && before.end + 1 == r.begin && is_some (least_from (changes_in spec rows) (before.begin + 1) (before.end + 1 - (before.begin + 1)))
+    settles spec.policy && before.end + 1 == r.begin && is_some (first_within (changes_in spec rows) (before.begin + 1) before.end)
 
 -- Whether a reconfiguration has a cause: the environment changes in its begin, in the row after its begin, or, under
 -- `Settle`, during the reconfiguration just before (`follows`).

@@ -1,9 +1,8 @@
 //! The causes of reconfigurations: changes of the environment (SP5).
 
 ghost use Rattle.std.specs.Prelude.{◌≡◌, ◌+◌, ◌-◌};
-ghost use Rattle.scram_types.specs.Searches.{least_from};
 ghost use Rattle.fault_script.specs.Assumption.{is_same_env};
-ghost use Rattle.trace_props.specs.Judging.{causeless_at, changes_in, follows, has_cause, is_another_env, settles};
+ghost use Rattle.trace_props.specs.Judging.{causeless_at, changes_in, first_within, follows, has_cause, is_another_env, settles};
 
 use scram_types::lookups::{env_before, env_in};
 use scram_types::{Env, Policy, Report, Row, Spec};
@@ -63,7 +62,7 @@ fn settles(policy: Policy) -> bool
 // Returns the first row of a reconfiguration after its begin in which the environment changes, or `None` if there is
 // none.
 fn first_change(spec: &Spec, rows: &[Row], read: Report) -> Option<usize>
-    ensures { result ≡ least_from (changes_in spec.now rows.now) (read.begin + 1) (read.end + 1 - (read.begin + 1)) }
+    ensures { result ≡ first_within (changes_in spec.now rows.now) (read.begin + 1) read.end }
 {
     for frame in read.begin as usize + 1..read.end as usize + 1 {
         if changes_in(spec, rows, frame) {

@@ -1,11 +1,10 @@
 //! The invariants for a reconfiguration's source and the preconditions of its target (SP4).
 
 ghost use Rattle.std.specs.Prelude.{◌≡◌, ◌+◌, ◌-◌};
-ghost use Rattle.scram_types.specs.Searches.{least_from};
 ghost use Rattle.scram_types.specs.Numbers.{word};
 ghost use Rattle.choice_table.specs.Choices.{has_source};
 ghost use Rattle.frame_model.specs.States.{area_at};
-ghost use Rattle.trace_props.specs.Judging.{breaks_at, breaks_target_precondition, breaks_invariant, goes_to, breaks_precondition, lesser_frame, lies_in, unkept_at, unkept_from, unmet_at, unmet_in};
+ghost use Rattle.trace_props.specs.Judging.{breaks_at, breaks_target_precondition, breaks_invariant, goes_to, breaks_precondition, lesser_frame, lies_in, unkept_at, unkept_from, unmet_at, unmet_in, first_within};
 
 use scram_types::{AppId, Area, ConfId, Invariant, Precondition, Report, Row, Spec};
 
@@ -33,7 +32,7 @@ fn unkept_from(rows: &[Row], read: Report, inv: &Invariant) -> Option<u32>
 }
 
 fn first_breach(rows: &[Row], read: Report, inv: &Invariant) -> Option<u32>
-    ensures { result ≡ least_from (breaks_at rows.now inv.now) read.begin (read.end + 1 - read.begin) }
+    ensures { result ≡ first_within (breaks_at rows.now inv.now) read.begin read.end }
 {
     for frame in read.begin as usize..read.end as usize + 1 {
         if breaks_at(rows, inv, frame) {

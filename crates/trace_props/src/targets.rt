@@ -1,9 +1,8 @@
 //! The choice of a reconfiguration's target, and its bound (SP2 and SP3).
 
 ghost use Rattle.std.specs.Prelude.{◌≡◌, ◌+◌, ◌-◌};
-ghost use Rattle.scram_types.specs.Searches.{least_from};
 ghost use Rattle.trace_props.specs.Breaks.{last_frame};
-ghost use Rattle.trace_props.specs.Judging.{chooses, late_at, unchosen_at};
+ghost use Rattle.trace_props.specs.Judging.{chooses, first_within, late_at, unchosen_at};
 ghost use Rattle.trace_props.specs.Properties.{bound_on};
 
 use choice_table::choose;
@@ -26,7 +25,7 @@ pub(crate) fn unchosen_at(spec: &Spec, rows: &[Row], read: Report) -> Option<u32
 // Returns the first frame of a reconfiguration in whose environment the table chooses configuration `to`, or `None` if
 // there is none.
 fn first_choice(spec: &Spec, rows: &[Row], read: Report, to: ConfId) -> Option<usize>
-    ensures { result ≡ least_from (chooses spec.now rows.now read.from to) read.begin (read.end + 1 - read.begin) }
+    ensures { result ≡ first_within (chooses spec.now rows.now read.from to) read.begin read.end }
 {
     for frame in read.begin as usize..read.end as usize + 1 {
         if chooses(spec, rows, read.from, to, frame) {

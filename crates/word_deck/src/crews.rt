@@ -30,7 +30,6 @@ pub struct Crew {
 impl Crew {
     ghost use Rattle.std.specs.Prelude.{◌↔◌, ◌+◌, MatchOption, if◌then◌else◌, length};
     ghost use Rattle.scram_types.specs.Lookups.{proc_id};
-    ghost use Rattle.frame_model.specs.Flights.{draft};
     ghost use Rattle.frame_model.specs.Storage.{kernel_image};
     ghost use Rattle.fail_stop.specs.Drafts.{IsSnapshot};
     ghost use Rattle.fail_stop.specs.Ends.{IsDone};
@@ -38,6 +37,7 @@ impl Crew {
     ghost use Rattle.fail_stop.specs.Events.{At, frame_of, is_halted};
     ghost use Rattle.word_table.specs.Actors.{Waits, mission_flight};
     ghost use Rattle.word_table.specs.Tables.{IsSeatOf, flight_in, mission_in, tries_of};
+    ghost use Rattle.word_deck.specs.Frames.{IsSeatDraft};
     ghost use Rattle.word_deck.specs.Crews.{IsCrewOf, CrewFlies, is_done, place_after, tries_after};
     ghost use Rattle.word_table.specs.declared.tables.WordTable as word_tables;
     ghost use Rattle.word_deck.specs.declared.turns.Turn.TheVariants.{Finished, Worked};
@@ -158,7 +158,7 @@ impl Crew {
         requires lives { is_halted (seat_place self.old.seat) ≡ false }
         requires known { proc_of self.old.seat < length mission.now.spec.procs }
         requires snap { IsSnapshot mission.now.spec mission.now.script (frame_of (seat_place self.old.seat)) self.old.snap }
-        ensures image { self.new.image ≡ draft mission.now.spec mission.now.script (proc_of self.old.seat) (frame_of (seat_place self.old.seat)) }
+        ensures image { IsSeatDraft mission.now self.old.seat self.new.image }
         ensures seat { self.new.seat ≡ self.old.seat }
         ensures spare { self.new.flyer.spare ≡ self.old.flyer.spare }
     {
@@ -172,7 +172,7 @@ impl Crew {
     fn end(&mut self, mission: &Mission, words: &WordTable)
         requires mission { mission_in words.now ≡ mission.now }
         requires flies { CrewFlies words.now (length mission.now.spec.procs + 1) self.old }
-        requires image { self.old.image ≡ draft mission.now.spec mission.now.script (proc_of self.old.seat) (frame_of (seat_place self.old.seat)) }
+        requires image { IsSeatDraft mission.now self.old.seat self.old.image }
         ensures fits { IsCrewOf words.now self.new }
         ensures proc { proc_of self.new.seat ≡ proc_of self.old.seat }
         ensures place { seat_place self.new.seat ≡ frame_end words.now self.old.seat }

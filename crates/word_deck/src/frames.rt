@@ -5,7 +5,7 @@ ghost use Rattle.fault_script.specs.Times.{words as words_of};
 ghost use Rattle.frame_model.specs.Flights.{draft, image_in};
 ghost use Rattle.fail_stop.specs.Events.{At, Halted, frame_of};
 ghost use Rattle.word_table.specs.Tables.{IsSeatOf, committed_image, flight_in, mission_in, proc_of, seat_place, tries_of};
-ghost use Rattle.word_deck.specs.Frames.{HaltsLate, IsAfter};
+ghost use Rattle.word_deck.specs.Frames.{HaltsLate, IsAfter, IsSeatDraft};
 
 use bank_words::encode;
 use scram_types::{Image, ProcId};
@@ -35,7 +35,7 @@ pub(crate) fn look_at_all(words: &WordTable, procs: u8, seat: &mut Seat, images:
 pub(crate) fn store_words(words: &WordTable, seat: &mut Seat, image: &Image, count: u32)
     requires seat { IsSeatOf words.now seat.old }
     requires after { IsAfter (length (mission_in words.now).spec.procs + 1) (seat_place seat.old) }
-    requires image { image.now ≡ draft (mission_in words.now).spec (mission_in words.now).script (proc_of seat.old) (frame_of (seat_place seat.old)) }
+    requires image { IsSeatDraft (mission_in words.now) seat.old image.now }
     requires count { count ≤ words_of (mission_in words.now).spec }
     requires few { count ≤ 64 }
     requires late { HaltsLate (flight_in words.now) (proc_of seat.old) (frame_of (seat_place seat.old)) count }
@@ -54,7 +54,7 @@ pub(crate) fn store_words(words: &WordTable, seat: &mut Seat, image: &Image, cou
 pub(crate) fn commit(words: &WordTable, seat: &mut Seat, image: &Image, width: u32)
     requires seat { IsSeatOf words.now seat.old }
     requires after { IsAfter (length (mission_in words.now).spec.procs + 1) (seat_place seat.old) }
-    requires image { image.now ≡ draft (mission_in words.now).spec (mission_in words.now).script (proc_of seat.old) (frame_of (seat_place seat.old)) }
+    requires image { IsSeatDraft (mission_in words.now) seat.old image.now }
     requires width { width ≡ words_of (mission_in words.now).spec }
     requires few { width ≤ 64 }
     requires halt { (flight_in words.now).halt (proc_of seat.old) (frame_of (seat_place seat.old)) ≡ None }
@@ -74,7 +74,7 @@ pub(crate) fn commit(words: &WordTable, seat: &mut Seat, image: &Image, width: u
 pub(crate) fn halt_after(words: &WordTable, seat: &mut Seat, image: &Image, width: u32, step: u32)
     requires seat { IsSeatOf words.now seat.old }
     requires after { IsAfter (length (mission_in words.now).spec.procs + 1) (seat_place seat.old) }
-    requires image { image.now ≡ draft (mission_in words.now).spec (mission_in words.now).script (proc_of seat.old) (frame_of (seat_place seat.old)) }
+    requires image { IsSeatDraft (mission_in words.now) seat.old image.now }
     requires width { width ≡ words_of (mission_in words.now).spec }
     requires few { width ≤ 64 }
     requires step { step ≤ width + 1 }
@@ -93,7 +93,7 @@ pub(crate) fn halt_after(words: &WordTable, seat: &mut Seat, image: &Image, widt
 fn make_steps(words: &WordTable, seat: &mut Seat, image: &Image, width: u32, step: u32)
     requires seat { IsSeatOf words.now seat.old }
     requires after { IsAfter (length (mission_in words.now).spec.procs + 1) (seat_place seat.old) }
-    requires image { image.now ≡ draft (mission_in words.now).spec (mission_in words.now).script (proc_of seat.old) (frame_of (seat_place seat.old)) }
+    requires image { IsSeatDraft (mission_in words.now) seat.old image.now }
     requires width { width ≡ words_of (mission_in words.now).spec }
     requires few { width ≤ 64 }
     requires step { step ≤ width + 1 }
