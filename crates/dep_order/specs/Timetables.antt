@@ -14,7 +14,7 @@ use Rattle.scram_types.specs.Searches.{greatest_below}
 use Rattle.dep_order.specs.declared.timetables.Phase.{Phase}
 use Rattle.dep_order.specs.declared.timetables.Phase.TheVariants as phase
 use Rattle.dep_order.specs.declared.timetables.Times.{Times}
-use Rattle.dep_order.specs.Chains.{Chart, HasFirst, IsOffset, offset}
+use Rattle.dep_order.specs.Chains.{Chart, HasFirst, IsOffset, offset, time_added}
 
 -- The number of frames in which application `a` halts in a configuration, or 0 if it is off.
 abbrev pub halt_time : Parts → ConfId → ℕ → ℕ

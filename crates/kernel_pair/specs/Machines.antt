@@ -51,8 +51,8 @@ abbrev pub next_unit_in : PairParts → ℕ → Option PairEvent
 next_unit_in pair u = next_unit (pair_flight pair) pair.halt (pair_in pair) u
 
 -- The frame that processor `p` makes next in the pair, or `None` if the processor has halted for good.
-abbrev pub next_frame : PairParts → ℕ → Option ℕ
-next_frame pair p = frame_to_make (restart_of pair.script p) ((pair_in pair).proc p).place
+abbrev pub frame_to_make_in : PairParts → ℕ → Option ℕ
+frame_to_make_in pair p = frame_to_make (restart_of pair.script p) ((pair_in pair).proc p).place
 
 -- Unit `u` of the pair has noted every processor in its frame.
 abbrev pub HasNotedAll : PairParts → ℕ → Type 0

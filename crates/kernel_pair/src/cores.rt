@@ -42,7 +42,7 @@ impl<'a> PairCore<'a> {
     ghost use Rattle.frame_model.specs.Flights.{reports_of, rows_of};
     ghost use Rattle.kernel_pair.specs.Cores.{IsKernelOf, IsTurn, rows_noted};
     ghost use Rattle.kernel_pair.specs.Laws.{PairHolds};
-    ghost use Rattle.kernel_pair.specs.Machines.{IsPairNextIn, IsPairOverIn, IsPairStep, next_frame, next_unit_in, pair_flight, pair_in};
+    ghost use Rattle.kernel_pair.specs.Machines.{IsPairNextIn, IsPairOverIn, IsPairStep, frame_to_make_in, next_unit_in, pair_flight, pair_in};
     ghost use Rattle.kernel_pair.specs.Pairs.{IsPairOpening, IsPairReplay};
     ghost use Rattle.kernel_pair.specs.declared.events.PairEvent.TheVariants.{Fly, Note, Store};
 
@@ -190,7 +190,7 @@ impl<'a> PairCore<'a> {
     /// contains the kernel image of that frame and the image of every processor as of the start of the frame.
     pub fn snapshot(&self, p: ProcId, unit: u8, frame: u32) -> Snapshot
         requires next { IsPairNextIn self.now (Fly p unit) }
-        requires frame { next_frame self.now p.0 ≡ Some frame }
+        requires frame { frame_to_make_in self.now p.0 ≡ Some frame }
         ensures { IsSnapshot self.now.spec self.now.script frame result }
     {
         self.machine.snapshot(p, unit, frame)

@@ -42,7 +42,7 @@ impl<'a> PairMachine<'a> {
     ghost use Rattle.kernel_pair.specs.Cores.{places_in};
     ghost use Rattle.kernel_pair.specs.Kept.{PairKept};
     ghost use Rattle.kernel_pair.specs.Laws.{PairHolds};
-    ghost use Rattle.kernel_pair.specs.Machines.{AreEventWords, HasNotedAll, IsPairNextIn, IsPairOverIn, IsPairStep, next_frame, next_unit_in, pair_flight, pair_in, unit_in};
+    ghost use Rattle.kernel_pair.specs.Machines.{AreEventWords, HasNotedAll, IsPairNextIn, IsPairOverIn, IsPairStep, frame_to_make_in, next_unit_in, pair_flight, pair_in, unit_in};
     ghost use Rattle.kernel_pair.specs.Pairs.{IsPairOpening, IsPairReplay, next_unit};
     ghost use Rattle.kernel_pair.specs.declared.events.PairEvent.TheVariants.{Fly};
 
@@ -124,7 +124,7 @@ impl<'a> PairMachine<'a> {
     /// Returns the frame that a processor makes next, or `None` if it has halted for good.
     pub(crate) fn frame_of(&self, p: ProcId) -> Option<u32>
         requires { p.0 < 8 }
-        ensures { result ≡ next_frame self.now p.0 }
+        ensures { result ≡ frame_to_make_in self.now p.0 }
     {
         frame_of(self.setup.script, &self.state, p)
     }
@@ -132,7 +132,7 @@ impl<'a> PairMachine<'a> {
     /// Returns the snapshot of a processor that may make this frame by the words of a unit.
     pub(crate) fn snapshot(&self, p: ProcId, u: u8, frame: u32) -> Snapshot
         requires next { IsPairNextIn self.now (Fly p u) }
-        requires frame { next_frame self.now p.0 ≡ Some frame }
+        requires frame { frame_to_make_in self.now p.0 ≡ Some frame }
         ensures { IsSnapshot self.now.spec self.now.script frame result }
     {
         self.holds();
