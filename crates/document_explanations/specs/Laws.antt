@@ -22,6 +22,6 @@ pub record TablesAreRead : Type 0 where
   pub specification_count : (d : Data) → length (names_of d object.Specification) ≡ members_count d
   pub script_count : (d : Data) → length (names_of d object.Script) ≡ member_count (version_of d)
 
--- At most 62 characters of any text are shown.
+-- `cut` shortens each text to at most 62 characters, including the two dots at the end of a shortened text.
 abbrev pub FoundIsShort : Type 0
 FoundIsShort = (text : List ℕ) → char_count (cut text) ≤ 62

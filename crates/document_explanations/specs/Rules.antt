@@ -18,8 +18,8 @@ abbrev pub root_of : DocumentKind → Object
 root_of Specification = object.Specification
 root_of Script = object.Script
 
--- A rule, with its number, its text, the limit in bytes that follows the text, and the parts of an explanation that are
--- shown if the rule is broken.
+-- A rule: its number, its text, the limit in bytes that is shown after the text, if the rule has one, and the parts
+-- of an explanation that are shown if the rule is broken.
 pub record DocumentRule : Type 0 where
   pub number : ℕ
   pub text : List ℕ

@@ -8,7 +8,8 @@ pub fn tables_are_read()
     ensures { TablesAreRead }
 {}
 
-/// States that at most 62 characters of any text are shown.
+/// States that `cut` shortens each text to at most 62 characters, including the two dots at the end of a shortened
+/// text.
 pub fn found_is_short()
     ensures { FoundIsShort }
 {}
