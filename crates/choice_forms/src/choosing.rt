@@ -20,7 +20,7 @@ use form_base::loads::load;
 use form_base::refusals::{Refusal, RefusalLine, Refused};
 use form_base::specifications::Specification;
 use form_base::status::{ANSWERED, Status};
-use form_base::telling::{status_after, tell_refusal};
+use form_base::printing::{status_after, print_refusal};
 use scram_io::{Files, Sink, SinkFault};
 use scram_types::bits::has_bit;
 use scram_types::{ConfId, Env, Name, Spec};
@@ -56,7 +56,7 @@ pub fn choose<F: Files, K: Sink>(
 {
     match read_chosen(alloc, question, files) {
         Ok(chosen) => status_after(put_chosen(out, &chosen), ANSWERED),
-        Err(refusal) => tell_refusal(out, &refusal),
+        Err(refusal) => print_refusal(out, &refusal),
     }
 }
 

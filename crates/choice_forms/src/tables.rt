@@ -20,7 +20,7 @@ use form_base::loads::load;
 use form_base::refusals::{Refusal, Refused};
 use form_base::specifications::Specification;
 use form_base::status::{ANSWERED, Status};
-use form_base::telling::{status_after, tell_refusal};
+use form_base::printing::{status_after, print_refusal};
 use scram_io::{Files, Sink, SinkFault};
 use scram_types::{ConfId, List, NoMemory, Spec};
 use std::alloc::Global;
@@ -32,10 +32,10 @@ struct Table {
     shares: Vec<List<Share>>,
 }
 
-/// Prints the lines of each configuration. There is a line for each rule that is the first that fits in some
-/// environment in scope, and a line for the environments in scope in which no rule fits, if there are any. Each line
-/// has the number of these environments and the first of them. If too many environments are in scope, the refusal is
-/// printed instead.
+/// Prints what the specification in a file chooses from each configuration. There is a line for each rule that is the
+/// first that fits in some environment in scope. If no rule fits in some environments in scope, there is a further
+/// line for those environments. Each line has the number of its environments and the first of them. If too many
+/// environments are in scope, the refusal is printed instead.
 pub fn choices<F: Files, K: Sink>(
     alloc: Global,
     specification: &str,
@@ -51,7 +51,7 @@ pub fn choices<F: Files, K: Sink>(
             drop(table);
             status
         }
-        Err(refusal) => tell_refusal(out, &refusal),
+        Err(refusal) => print_refusal(out, &refusal),
     }
 }
 

@@ -11,7 +11,7 @@ use crate::fields::{make_app_fields, make_row_fields};
 use crate::heads::{make_app_head, make_row_head};
 use flight_facts::acts::count_apps;
 use form_base::status::{ANSWERED, Status};
-use form_base::telling::{status_after, tell_refusal};
+use form_base::printing::{status_after, print_refusal};
 use scram_io::{Files, Sink, SinkFault};
 use scram_types::{Row, Spec};
 use std::alloc::Global;
@@ -33,7 +33,7 @@ pub fn columns_form<F: Files, K: Sink>(
             drop(flight);
             status_after(put, ANSWERED)
         }
-        Err(refusal) => tell_refusal(out, &refusal),
+        Err(refusal) => print_refusal(out, &refusal),
     }
 }
 

@@ -22,7 +22,8 @@ pub struct Illegal {
     pub next: Option<Event>,
 }
 
-/// A flight of a specification and a script after a schedule of events.
+/// The core of a flight of a specification and a script. It holds the state of the flight after the events that it
+/// has made so far, which are its history.
 #[derive(Drop)]
 pub struct Core<'a> {
     spec: &'a Spec,

@@ -35,8 +35,8 @@ impl Flyers {
     /// # Errors
     ///
     /// Returns an error if memory runs out.
-    // No clause uses this precondition, and every `Boxes` satisfies it. Without it, Rattle reports this function, whose
-    // result contains boxes, under `hides`, as one that may create boxes.
+    // Neither the body nor a postcondition depends on the precondition, which every `Boxes` satisfies. Without it,
+    // Rattle lists this function, whose result contains boxes, under `hides` as a function that may create boxes.
     pub fn open(alloc: Global, boxes: Boxes) -> Result<Flyers, NoMemory>
         requires { vec_len boxes.racks ≡ 8 }
         ensures fits { (spec : Parts) (script : ScriptParts) → IfOk result (λ flyers. FlyersFit spec script (λ p. At 0 0) flyers) }

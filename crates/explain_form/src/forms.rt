@@ -18,9 +18,9 @@ use document_explanations::specifications::ExplainedSpecification;
 use fault_script::{Outside, within};
 use flight_forms::MissionFiles;
 use form_base::loads::load;
+use form_base::printing::{print_refusal, print_text};
 use form_base::refusals::Refusal;
 use form_base::status::{ANSWERED, NOT_ACCEPTED, Status, UNASSUMED_SCRIPT};
-use form_base::telling::{tell, tell_refusal};
 use scram_io::{Files, Sink};
 use scram_types::{NoMemory, Script, Spec};
 use std::alloc::Global;
@@ -36,8 +36,8 @@ pub fn explain<F: Files, K: Sink>(
         (F.state files.old) (F.state files.new) (IsTaken (K.state out.old) (K.state out.new) result.code) }
 {
     match read_specification(alloc, specification, files) {
-        Ok(explanation) => tell(out, explanation.code, &explanation.text),
-        Err(refusal) => tell_refusal(out, &refusal),
+        Ok(explanation) => print_text(out, explanation.code, &explanation.text),
+        Err(refusal) => print_refusal(out, &refusal),
     }
 }
 
@@ -54,8 +54,8 @@ pub fn explain_script<F: Files, K: Sink>(
         (F.state files.old) (F.state files.new) (IsTaken (K.state out.old) (K.state out.new) result.code) }
 {
     match read_both(alloc, named, files) {
-        Ok(explanation) => tell(out, explanation.code, &explanation.text),
-        Err(refusal) => tell_refusal(out, &refusal),
+        Ok(explanation) => print_text(out, explanation.code, &explanation.text),
+        Err(refusal) => print_refusal(out, &refusal),
     }
 }
 

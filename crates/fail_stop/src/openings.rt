@@ -31,9 +31,10 @@ pub fn first_image(spec: &Spec, script: &Script) -> KernelImage
     }
 }
 
-/// Returns the words at the opening of a flight with `frames` frames. The kernel's words are those of the first
-/// frame, and bank 0 of each processor holds the processor's start image. The release is 1 if the flight has a frame,
-/// or 0 if it has none. Returns an error only if memory runs out.
+/// Returns the shared words at the opening of a flight with `frames` frames. The kernel's words are `first`. Bank 0
+/// of each processor contains the processor's start image, taken from `sys`. The release word, which is the number of
+/// frames that have been released, is 1, or 0 if the flight has no frame. All other words are 0. Returns an error only
+/// if memory runs out.
 #[tactic(auto, using(crate::proofs::OpeningLists::list_whole))]
 pub fn opening_words(
     alloc: Global,

@@ -30,8 +30,8 @@ pub struct Halted {
 
 impl Live {
     /// Returns the processor of this number, with these boxes.
-    // No postcondition depends on the precondition. Without it, Rattle reports this function, which returns boxes,
-    // under `hides`, as one that may create boxes. Rattle also reports each caller without a precondition.
+    // No postcondition depends on the precondition. Without it, Rattle lists this function, whose result contains
+    // boxes, and each of its callers without a precondition, under `hides` as a function that may create boxes.
     pub fn new(proc: ProcId, rack: Rack) -> Live
         requires proc { proc.0 < 8 }
         ensures proc { result.proc ≡ proc }

@@ -24,7 +24,7 @@ use form_base::loads::load;
 use form_base::refusals::{Refusal, Refused};
 use form_base::specifications::Specification;
 use form_base::status::{ANSWERED, Status};
-use form_base::telling::{status_after, tell_refusal};
+use form_base::printing::{status_after, print_refusal};
 use scram_io::{Files, Sink, SinkFault};
 use scram_types::Spec;
 use std::alloc::Global;
@@ -60,7 +60,7 @@ pub fn faults<F: Files, K: Sink>(
             drop(family);
             status_after(put, ANSWERED)
         }
-        Err(refusal) => tell_refusal(out, &refusal),
+        Err(refusal) => print_refusal(out, &refusal),
     }
 }
 

@@ -18,10 +18,10 @@ use crate::filling::{Filling, find_filling};
 use coverage_check::{Shown, refuse_states};
 use form_base::lines::make_shown_line;
 use form_base::loads::load;
+use form_base::printing::{print_refusal, print_text};
 use form_base::refusals::{Refusal, Refused};
 use form_base::specifications::Specification;
 use form_base::status::{ANSWERED, Status};
-use form_base::telling::{tell, tell_refusal};
 use reconf_spec::write_spec;
 use scram_io::{Files, Sink};
 use scram_types::{Bound, List, NoMemory, Spec};
@@ -39,8 +39,8 @@ pub fn fill<F: Files, K: Sink>(
         (F.state files.old) (F.state files.new) (IsTaken (K.state out.old) (K.state out.new) result.code) }
 {
     match read_filled(alloc, specification, files) {
-        Ok(text) => tell(out, ANSWERED, &text),
-        Err(refusal) => tell_refusal(out, &refusal),
+        Ok(text) => print_text(out, ANSWERED, &text),
+        Err(refusal) => print_refusal(out, &refusal),
     }
 }
 

@@ -10,8 +10,8 @@ use Rattle.schedule_replay.specs.Replaying.{AnswersReplay}
 use Rattle.schedule_replay.specs.declared.replays.ReplayError.{ReplayError}
 use Rattle.schedule_replay.specs.declared.replays.ReplayError.TheVariants as replay_error
 use Rattle.form_base.specs.Answers.{Gives}
-use Rattle.form_base.specs.Endings.{IsMemoryRefusal, IsTaken, PreparesWithoutFiles, Tells}
-use Rattle.form_base.proofs.Endings.{given_tells, memory_tells, tells_other}
+use Rattle.form_base.specs.Endings.{IsMemoryRefusal, IsTaken, PreparesWithoutFiles, PrintsAnswer}
+use Rattle.form_base.proofs.Endings.{given_prints, memory_prints, tells_other}
 use Rattle.form_base.specs.Loads.{IsOutOfMemory}
 use Rattle.form_base.specs.Refusals.{answer_of}
 use Rattle.form_base.proofs.Reading.{memory_refusal}
@@ -57,16 +57,16 @@ replay_settles spec script list (Err refusal) makes =
 
 -- If a replay ends with an error and the refusal for this error was printed, the answer to the replay was printed.
 pub replay_refused : (spec : Parts) (script : ScriptParts) (list : List Event) (error : ReplayError) (answer : ℕ × List ℕ) (old new : SinkState) (code : ℕ)
-    → AnswersReplay spec script list (Err error) → answer ≡ replay_refusal spec error → IsTaken old new code answer.0 answer.1 → Tells (IsReplayAnswer spec script list) old new code
+    → AnswersReplay spec script list (Err error) → answer ≡ replay_refusal spec error → IsTaken old new code answer.0 answer.1 → PrintsAnswer (IsReplayAnswer spec script list) old new code
 replay_refused spec script list (replay_error.Illegal index given next) answer old new code answers is taken =
     let status = ap (λ (a : ℕ × List ℕ). a.0) is in
     tells_other (Gives answer) (IsReplayAnswer spec script list) old new code
     (λ s t gives. record { flown = Err (replay_error.Illegal index given next); answers = answers; had_memory = λ same. cc; gives = sym is ∙ gives })
-    (given_tells answer.0 answer.1 old new code (λ same. absurd (omega (arith, same, status))) (λ same. absurd (omega (arith, same, status))) taken)
+    (given_prints answer.0 answer.1 old new code (λ same. absurd (omega (arith, same, status))) (λ same. absurd (omega (arith, same, status))) taken)
 replay_refused spec script list (replay_error.Short events next) answer old new code answers is taken =
     let status = ap (λ (a : ℕ × List ℕ). a.0) is in
     tells_other (Gives answer) (IsReplayAnswer spec script list) old new code
     (λ s t gives. record { flown = Err (replay_error.Short events next); answers = answers; had_memory = λ same. cc; gives = sym is ∙ gives })
-    (given_tells answer.0 answer.1 old new code (λ same. absurd (omega (arith, same, status))) (λ same. absurd (omega (arith, same, status))) taken)
+    (given_prints answer.0 answer.1 old new code (λ same. absurd (omega (arith, same, status))) (λ same. absurd (omega (arith, same, status))) taken)
 replay_refused spec script list replay_error.NoMemory answer old new code answers is taken =
-    memory_tells (IsReplayAnswer spec script list) old new code (subst (λ (a : ℕ × List ℕ). IsTaken old new code a.0 a.1) is taken)
+    memory_prints (IsReplayAnswer spec script list) old new code (subst (λ (a : ℕ × List ℕ). IsTaken old new code a.0 a.1) is taken)

@@ -1,16 +1,16 @@
 //! The forms `gen` and `fly`, which print or fly the mission generated from a number.
 
 ghost use Rattle.std.specs.Prelude.{◌≡◌};
-ghost use Rattle.form_base.specs.Endings.{Tells};
+ghost use Rattle.form_base.specs.Endings.{PrintsAnswer};
 ghost use Rattle.flight_forms.specs.Answers.{FlyAnswers, GenAnswers, SummaryAnswers};
 ghost use Rattle.fault_script.specs.Fits.{Fits};
 
 use crate::missions::make_mission;
 use crate::runs::{FlightText, fly};
 use app_model::Boxes;
+use form_base::printing::{print_refusal, print_text};
 use form_base::refusals::Refusal;
 use form_base::status::{ANSWERED, Status};
-use form_base::telling::{tell, tell_refusal};
 use mission_gen::{generate, write_mission};
 use scram_io::Sink;
 use scram_types::{NoMemory, Script, Spec};
@@ -20,7 +20,7 @@ use std::thread::Threads;
 
 /// Prints the mission generated from a number, 0 to 999,999, as two lines: its specification and its script.
 pub fn print_generated<K: Sink>(alloc: Global, number: u32, out: &mut K) -> Status
-    ensures { Tells (GenAnswers number) (K.state out.old) (K.state out.new) result.code }
+    ensures { PrintsAnswer (GenAnswers number) (K.state out.old) (K.state out.new) result.code }
 {
     match generate(alloc, number) {
         Ok((spec, script)) => {
@@ -29,11 +29,11 @@ pub fn print_generated<K: Sink>(alloc: Global, number: u32, out: &mut K) -> Stat
             let text = write_mission(alloc, &spec, &script);
             drop((spec, script));
             match text {
-                Ok(text) => tell(out, ANSWERED, &text),
-                Err(NoMemory) => tell_refusal(out, &Refusal::out_of_memory()),
+                Ok(text) => print_text(out, ANSWERED, &text),
+                Err(NoMemory) => print_refusal(out, &Refusal::out_of_memory()),
             }
         }
-        Err(NoMemory) => tell_refusal(out, &Refusal::out_of_memory()),
+        Err(NoMemory) => print_refusal(out, &Refusal::out_of_memory()),
     }
 }
 
@@ -44,7 +44,7 @@ pub fn fly_generated<R: AllocGlobal + Threads + Wait + Sync, K: Sink>(
     out: &mut K,
     boxes: Boxes,
 ) -> Status
-    ensures { Tells (FlyAnswers number) (K.state out.old) (K.state out.new) result.code }
+    ensures { PrintsAnswer (FlyAnswers number) (K.state out.old) (K.state out.new) result.code }
 {
     match generate(rt.alloc(), number) {
         Ok((spec, script)) => {
@@ -54,7 +54,7 @@ pub fn fly_generated<R: AllocGlobal + Threads + Wait + Sync, K: Sink>(
         }
         Err(NoMemory) => {
             drop(boxes);
-            tell_refusal(out, &Refusal::out_of_memory())
+            print_refusal(out, &Refusal::out_of_memory())
         }
     }
 }
@@ -67,7 +67,7 @@ fn fly_parts<R: AllocGlobal + Threads + Wait + Sync, K: Sink>(
     boxes: Boxes,
 ) -> Status
     requires { Fits parts.0 parts.1 }
-    ensures { Tells (SummaryAnswers number parts.0 parts.1) (K.state out.old) (K.state out.new) result.code }
+    ensures { PrintsAnswer (SummaryAnswers number parts.0 parts.1) (K.state out.old) (K.state out.new) result.code }
 {
     let (spec, script) = parts;
     match make_mission(rt.alloc(), spec, script) {
@@ -78,7 +78,7 @@ fn fly_parts<R: AllocGlobal + Threads + Wait + Sync, K: Sink>(
         }
         Err(refusal) => {
             drop(boxes);
-            tell_refusal(out, &refusal)
+            print_refusal(out, &refusal)
         }
     }
 }

@@ -3,19 +3,19 @@
 ghost use Rattle.std.specs.Prelude.{◌≡◌, ◌∷◌, [], IfOk};
 ghost use Rattle.frame_model.specs.Flights.{reports_of, rows_of};
 ghost use Rattle.form_base.specs.Answers.{Gives};
-ghost use Rattle.form_base.specs.Endings.{Ends, IsTaken, Tells};
+ghost use Rattle.form_base.specs.Endings.{Ends, IsTaken, PrintsAnswer};
 ghost use Rattle.form_base.specs.declared.status.TheConstants.{ANSWERED};
 ghost use Rattle.flight_forms.specs.Answers.{PairAnswers};
 ghost use Rattle.flight_forms.specs.Texts.{flight_text};
 ghost use Rattle.flight_forms.specs.declared.runs.FlightText.TheVariants.{Trace};
 
 use crate::missions::{MissionFiles, read_mission};
-use crate::runs::{FlightText, tell_flown};
+use crate::runs::{FlightText, print_flight};
 use app_model::Boxes;
 use coverage_check::Mission;
+use form_base::printing::print_refusal;
 use form_base::refusals::Refusal;
 use form_base::status::Status;
-use form_base::telling::tell_refusal;
 use kernel_pair::{PairCore, UnitHalt, fly_on};
 use scram_io::{Files, Sink};
 use scram_types::{Flown, NoMemory};
@@ -53,7 +53,7 @@ pub fn pair_form<F: Files, K: Sink>(
         }
         Err(refusal) => {
             drop(boxes);
-            tell_refusal(out, &refusal)
+            print_refusal(out, &refusal)
         }
     }
 }
@@ -65,15 +65,15 @@ fn fly_pair<K: Sink>(
     out: &mut K,
     boxes: Boxes,
 ) -> Status
-    ensures { Tells (Gives (ANSWERED, flight_text Trace mission.now)) (K.state out.old) (K.state out.new) result.code }
+    ensures { PrintsAnswer (Gives (ANSWERED, flight_text Trace mission.now)) (K.state out.old) (K.state out.new) result.code }
 {
     match fly_on_units(alloc, mission, halt, boxes) {
         Ok(flown) => {
-            let status = tell_flown(out, mission, &flown, FlightText::Trace);
+            let status = print_flight(out, mission, &flown, FlightText::Trace);
             drop(flown);
             status
         }
-        Err(NoMemory) => tell_refusal(out, &Refusal::out_of_memory()),
+        Err(NoMemory) => print_refusal(out, &Refusal::out_of_memory()),
     }
 }
 

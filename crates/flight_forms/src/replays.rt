@@ -2,7 +2,7 @@
 
 ghost use Rattle.std.specs.Prelude.{◌≡◌, ◌∷◌, []};
 ghost use Rattle.fault_script.specs.Fits.{Fits};
-ghost use Rattle.form_base.specs.Endings.{Ends, IsTaken, Prepares, Tells};
+ghost use Rattle.form_base.specs.Endings.{Ends, IsTaken, Prepares, PrintsAnswer};
 ghost use Rattle.form_base.specs.Refusals.{answer_of};
 ghost use Rattle.flight_forms.specs.Answers.{IsReplayAnswer, ListAnswers, ReplayAnswers, ScheduleAnswers, replay_refusal};
 ghost use Rattle.flight_forms.specs.Documents.{AsksSchedule, AsksScript};
@@ -10,15 +10,15 @@ ghost use Rattle.flight_forms.specs.Replays.{MakesReplay, GivesReplay};
 
 use crate::documents::{ScheduleDocument, ScriptDocument};
 use crate::missions::make_mission;
-use crate::runs::{FlightText, tell_flown};
+use crate::runs::{FlightText, print_flight};
 use app_model::Boxes;
 use bank_words::Event;
 use coverage_check::Mission;
 use form_base::loads::load;
+use form_base::printing::print_refusal;
 use form_base::refusals::{Refusal, Refused};
 use form_base::specifications::Specification;
 use form_base::status::Status;
-use form_base::telling::tell_refusal;
 use schedule_replay::refusals::{make_illegal_line, make_short_line};
 use schedule_replay::{ReplayError, replay};
 use scram_io::{Files, Sink};
@@ -60,7 +60,7 @@ pub fn replay_form<F: Files, K: Sink>(
         }
         Err(refusal) => {
             drop(boxes);
-            tell_refusal(out, &refusal)
+            print_refusal(out, &refusal)
         }
     }
 }
@@ -136,7 +136,7 @@ fn make_replay(
 }
 
 fn fly_replay<K: Sink>(alloc: Global, replayed: &Replay, out: &mut K, boxes: Boxes) -> Status
-    ensures { Tells (GivesReplay replayed.now) (K.state out.old) (K.state out.new) result.code }
+    ensures { PrintsAnswer (GivesReplay replayed.now) (K.state out.old) (K.state out.new) result.code }
 {
     let mission = &replayed.mission;
     mission.holds();
@@ -144,11 +144,11 @@ fn fly_replay<K: Sink>(alloc: Global, replayed: &Replay, out: &mut K, boxes: Box
     let list = replayed.list.items();
     match replay(alloc, spec, mission.script(), boxes, list) {
         Ok(flown) => {
-            let status = tell_flown(out, mission, &flown, FlightText::Trace);
+            let status = print_flight(out, mission, &flown, FlightText::Trace);
             drop(flown);
             status
         }
-        Err(error) => tell_refusal(out, &refusal_of(spec, error)),
+        Err(error) => print_refusal(out, &refusal_of(spec, error)),
     }
 }
 

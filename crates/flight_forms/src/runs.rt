@@ -4,7 +4,7 @@ ghost use Rattle.std.specs.Prelude.{◌≡◌, ◌∷◌, [], ◌<◌, ◌^◌, 
 ghost use Rattle.frame_model.specs.Flights.{reports_of, rows_of};
 ghost use Rattle.scram_io.specs.Outside.{Prints};
 ghost use Rattle.form_base.specs.Answers.{Gives};
-ghost use Rattle.form_base.specs.Endings.{Ends, IsTaken, Tells};
+ghost use Rattle.form_base.specs.Endings.{Ends, IsTaken, PrintsAnswer};
 ghost use Rattle.form_base.specs.declared.status.TheConstants.{ANSWERED};
 ghost use Rattle.flight_forms.specs.Answers.{RunAnswers};
 ghost use Rattle.flight_forms.specs.Texts.{flight_text, flown_text};
@@ -13,9 +13,9 @@ use crate::lines::make_fly_line;
 use crate::missions::{MissionFiles, read_mission};
 use app_model::Boxes;
 use coverage_check::Mission;
+use form_base::printing::{print_refusal, status_after};
 use form_base::refusals::Refusal;
 use form_base::status::{ANSWERED, Status};
-use form_base::telling::{status_after, tell_refusal};
 use scram_io::{Files, Sink, SinkFault};
 use scram_types::{Flown, NoMemory, Spec};
 use std::alloc::AllocGlobal;
@@ -53,7 +53,7 @@ pub fn run<R: AllocGlobal + Threads + Wait + Sync, F: Files, K: Sink>(
         }
         Err(refusal) => {
             drop(boxes);
-            tell_refusal(out, &refusal)
+            print_refusal(out, &refusal)
         }
     }
 }
@@ -66,15 +66,15 @@ pub fn fly<R: AllocGlobal + Threads + Wait + Sync, K: Sink>(
     out: &mut K,
     boxes: Boxes,
 ) -> Status
-    ensures { Tells (Gives (ANSWERED, flight_text told mission.now)) (K.state out.old) (K.state out.new) result.code }
+    ensures { PrintsAnswer (Gives (ANSWERED, flight_text told mission.now)) (K.state out.old) (K.state out.new) result.code }
 {
     match fly_on_threads(rt, mission, boxes) {
         Ok(flown) => {
-            let status = tell_flown(out, mission, &flown, told);
+            let status = print_flight(out, mission, &flown, told);
             drop(flown);
             status
         }
-        Err(NoMemory) => tell_refusal(out, &Refusal::out_of_memory()),
+        Err(NoMemory) => print_refusal(out, &Refusal::out_of_memory()),
     }
 }
 
@@ -93,7 +93,7 @@ fn fly_on_threads<R: AllocGlobal + Threads + Wait + Sync>(
 
 /// Prints the text of the given kind for a mission. `flown` must have the rows and reports of the mission's
 /// one-thread flight.
-pub fn tell_flown<K: Sink>(
+pub fn print_flight<K: Sink>(
     out: &mut K,
     mission: &Mission,
     flown: &Flown,
@@ -101,7 +101,7 @@ pub fn tell_flown<K: Sink>(
 ) -> Status
     requires rows { flown.now.rows ≡ rows_of mission.now.spec mission.now.script }
     requires reports { flown.now.reports ≡ reports_of mission.now.spec mission.now.script }
-    ensures { Tells (Gives (ANSWERED, flight_text told mission.now)) (K.state out.old) (K.state out.new) result.code }
+    ensures { PrintsAnswer (Gives (ANSWERED, flight_text told mission.now)) (K.state out.old) (K.state out.new) result.code }
 {
     mission.holds();
     status_after(put_flown(out, mission.spec(), flown, told), ANSWERED)

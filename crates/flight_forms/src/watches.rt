@@ -3,7 +3,7 @@
 
 ghost use Rattle.std.specs.Prelude.{◌≡◌, ◌∷◌, [], IfOk};
 ghost use Rattle.form_base.specs.Answers.{Gives};
-ghost use Rattle.form_base.specs.Endings.{Ends, IsTaken, Tells};
+ghost use Rattle.form_base.specs.Endings.{Ends, IsTaken, PrintsAnswer};
 ghost use Rattle.form_base.specs.declared.status.TheConstants.{ANSWERED};
 ghost use Rattle.telemetry_tap.specs.Summaries.{whole_summary};
 ghost use Rattle.telemetry_tap.specs.Taps.{IsReaderOf, rows_published, tap_mission};
@@ -14,9 +14,9 @@ use crate::lines::make_watch_line;
 use crate::missions::{MissionFiles, read_mission};
 use app_model::Boxes;
 use coverage_check::Mission;
+use form_base::printing::{print_refusal, print_text};
 use form_base::refusals::Refusal;
 use form_base::status::{ANSWERED, Status};
-use form_base::telling::{tell, tell_refusal};
 use scram_io::{Files, Sink};
 use scram_types::NoMemory;
 use std::alloc::AllocGlobal;
@@ -49,7 +49,7 @@ pub fn watch<R: AllocGlobal + Threads + Wait + Sync, F: Files, K: Sink>(
         }
         Err(refusal) => {
             drop(boxes);
-            tell_refusal(out, &refusal)
+            print_refusal(out, &refusal)
         }
     }
 }
@@ -60,14 +60,14 @@ fn watch_mission<R: AllocGlobal + Threads + Wait + Sync, K: Sink>(
     out: &mut K,
     boxes: Boxes,
 ) -> Status
-    ensures { Tells (Gives (ANSWERED, watch_text mission.now)) (K.state out.old) (K.state out.new) result.code }
+    ensures { PrintsAnswer (Gives (ANSWERED, watch_text mission.now)) (K.state out.old) (K.state out.new) result.code }
 {
     match fly_watched(rt, mission, boxes) {
         Ok(summary) => {
             let line = make_watch_line(mission.spec(), &summary);
-            tell(out, ANSWERED, line.as_bytes())
+            print_text(out, ANSWERED, line.as_bytes())
         }
-        Err(NoMemory) => tell_refusal(out, &Refusal::out_of_memory()),
+        Err(NoMemory) => print_refusal(out, &Refusal::out_of_memory()),
     }
 }
 

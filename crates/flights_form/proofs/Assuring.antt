@@ -33,7 +33,7 @@ use Rattle.flights_form.specs.Assurance.{AreAssuredFlights, AssuresFlights, IsAs
 use Rattle.flights_form.specs.Facts.{facts_of, least_margin, margin_in, margin_to}
 use Rattle.flights_form.proofs.Kept.{gap_kept, gap_total_kept, margin_kept, margin_total_kept}
 use Rattle.flights_form.specs.Outcomes.{AreOutcomes, IsOutcome, outcome_read, outcome_within}
-use Rattle.flights_form.specs.Scripts.{BreaksScripts, SaysScripts, lines_of}
+use Rattle.flights_form.specs.Scripts.{BreaksNothing, SaysScripts, lines_of}
 
 -- If the outcomes satisfy `AreOutcomes` for the lines, outcome `k` is the outcome of line `k`.
 outcome_at : (spec : Parts) (lines : List (List ℕ)) (outcomes : List Outcome) (k : ℕ) (line : List ℕ) (outcome : Outcome) → AreOutcomes spec lines outcomes
@@ -113,7 +113,7 @@ series_assured law spec sound scripts text answers =
 
 pub flights_assure : ReconfigurationsAreAssured → (specification scripts : List ℕ) → IsAssuring (FlightsAnswers specification scripts) (AssuresFlights specification scripts)
 flights_assure law specification scripts before after reads text is = specification_assures specification _ _
-    (λ spec sound. document_assures SaysScripts BreaksScripts MAX_SCRIPTS_BYTES 6 (long_script).1 scripts (λ (bytes : List ℕ). WithoutFiles (ScriptsAnswers spec bytes)) _
+    (λ spec sound. document_assures SaysScripts BreaksNothing MAX_SCRIPTS_BYTES 6 (long_script).1 scripts (λ (bytes : List ℕ). WithoutFiles (ScriptsAnswers spec bytes)) _
     (λ bytes said says before after reads text is. (is.0, series_assured law spec sound bytes text is.1))
     (λ text bytes breaks. absurd breaks))
     before after reads text is

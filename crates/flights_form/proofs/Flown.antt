@@ -2,8 +2,8 @@
 use Rattle.std.proofs.Common.{◌≡◌, ◌∙◌, ℕ, ◌+◌, List, [], ◌∷◌, ◌++◌, arith, length, append_assoc, append-nil, refl, sym, ap, map, subst, inl}
 use Rattle.std.specs.Prelude.{Result, Ok, Err}
 use Rattle.form_base.specs.declared.status.TheConstants.{ANSWERED}
-use Rattle.form_base.specs.Endings.{Tells}
-use Rattle.form_base.specs.Telling.{status_after}
+use Rattle.form_base.specs.Endings.{PrintsAnswer}
+use Rattle.form_base.specs.Printing.{status_after}
 use Rattle.form_base.proofs.Endings.{put_taken}
 use Rattle.scram_types.specs.Specification.{Parts}
 use Rattle.scram_io.specs.Outside.{CutOff, Printed, SinkState}
@@ -93,9 +93,9 @@ flown_all spec bytes rest totals old new flown none = record {
 }
 
 -- If all lines were flown and the text of their outcomes was printed or cut off, the answer was printed or cut off.
-pub series_tells : {A E : Type 0} (spec : Parts) (scripts : List ℕ) (result : Result A E) (old new : SinkState) (code : ℕ) → code ≡ status_after result ANSWERED
-    → PrintsFlights spec scripts result old new → Tells (GivesFlights spec scripts) old new code
-series_tells {A} {E} spec scripts result old new code same prints = rw same (record {
+pub series_prints : {A E : Type 0} (spec : Parts) (scripts : List ℕ) (result : Result A E) (old new : SinkState) (code : ℕ) → code ≡ status_after result ANSWERED
+    → PrintsFlights spec scripts result old new → PrintsAnswer (GivesFlights spec scripts) old new code
+series_prints {A} {E} spec scripts result old new code same prints = rw same (record {
   status = ANSWERED;
   text = flights_text spec prints.outcomes;
   answer = inl (refl, record { outcomes = prints.outcomes; answers = prints.answers; whole = refl });

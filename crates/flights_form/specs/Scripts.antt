@@ -21,10 +21,10 @@ abbrev pub SaysScripts : List ℕ → List ℕ → Type 0
 SaysScripts scripts bytes = scripts ≡ bytes
 
 -- No bytes break a rule of files of scripts. A file is refused only if it has too many bytes.
-abbrev pub BreaksScripts : ℕ × List ℕ → List ℕ → Type 0
-BreaksScripts refusal bytes = ⊥
+abbrev pub BreaksNothing : ℕ × List ℕ → List ℕ → Type 0
+BreaksNothing refusal bytes = ⊥
 
 -- The answer if `name` is the name of a file of scripts: the answer `Then` to the file's bytes, or a report that the
 -- file was not read or is too long.
 abbrev pub AsksScripts : List ℕ → (List ℕ → Answer) → Answer
-AsksScripts name Then = AnswersFile MAX_SCRIPTS_BYTES long_script name (AnswersDocument SaysScripts BreaksScripts Then)
+AsksScripts name Then = AnswersFile MAX_SCRIPTS_BYTES long_script name (AnswersDocument SaysScripts BreaksNothing Then)

@@ -2,7 +2,7 @@
 
 ghost use Rattle.std.specs.Prelude.{◌≡◌, ◌<◌, ◌≤◌, ◌∷◌, ◌++◌, ◌^◌, ◌-◌, [], length};
 ghost use Rattle.scram_io.specs.Outside.{Prints};
-ghost use Rattle.form_base.specs.Endings.{Ends, IsTaken, Tells};
+ghost use Rattle.form_base.specs.Endings.{Ends, IsTaken, PrintsAnswer};
 ghost use Rattle.flights_form.specs.Answers.{FlightsAnswers, outcome_line};
 ghost use Rattle.flights_form.specs.Lines.{refused_start};
 ghost use Rattle.flights_form.specs.Printing.{PrintsFlights, PrintsLine, PrintsLines, PrintsOutcome, GivesSeries};
@@ -13,8 +13,8 @@ use crate::outcomes::{Outcome, fly_line};
 use crate::scripts::next_line;
 use crate::series::{ScriptsFiles, Series, read_series};
 use crate::totals::Totals;
+use form_base::printing::{print_refusal, status_after};
 use form_base::status::{ANSWERED, Status};
-use form_base::telling::{status_after, tell_refusal};
 use scram_io::{Files, Sink, SinkFault};
 use scram_types::Spec;
 use std::alloc::Global;
@@ -37,13 +37,13 @@ pub fn flights<F: Files, K: Sink>(
             drop(series);
             status
         }
-        Err(refusal) => tell_refusal(out, &refusal),
+        Err(refusal) => print_refusal(out, &refusal),
     }
 }
 
 fn fly_series<K: Sink>(alloc: Global, series: &Series, out: &mut K) -> Status
     requires { length series.now.scripts ≤ MAX_SCRIPTS_BYTES }
-    ensures { Tells (GivesSeries series.now) (K.state out.old) (K.state out.new) result.code }
+    ensures { PrintsAnswer (GivesSeries series.now) (K.state out.old) (K.state out.new) result.code }
 {
     let put = put_flights(alloc, out, series.accepted.spec(), series.scripts.items());
     status_after(put, ANSWERED)

@@ -6,7 +6,7 @@ ghost use Rattle.form_base.specs.Loads.{Loads, UnreadIsFault};
 ghost use Rattle.form_base.specs.Refusals.{answer_of};
 ghost use Rattle.flight_forms.specs.Documents.{long_script};
 ghost use Rattle.trace_text.specs.Pieces.{pieces_of};
-ghost use Rattle.flights_form.specs.Scripts.{BreaksScripts, SaysScripts, lines_of};
+ghost use Rattle.flights_form.specs.Scripts.{BreaksNothing, SaysScripts, lines_of};
 ghost use Rattle.flights_form.specs.declared.limits.TheConstants.{MAX_SCRIPTS_BYTES};
 
 use crate::limits::MAX_SCRIPTS_BYTES;
@@ -25,7 +25,7 @@ use trace_text::pieces::split_once;
 ///
 /// Returns a refusal if the file cannot be read or is too long, and the out-of-memory refusal if memory runs out.
 pub fn load_scripts<F: Files>(alloc: Global, name: &str, files: &mut F) -> Result<List<u8>, Refusal>
-    ensures loads { Loads SaysScripts BreaksScripts MAX_SCRIPTS_BYTES long_script name.now (F.state files.old) (F.state files.new) result }
+    ensures loads { Loads SaysScripts BreaksNothing MAX_SCRIPTS_BYTES long_script name.now (F.state files.old) (F.state files.new) result }
     ensures few { IfOk result (λ scripts. length scripts ≤ MAX_SCRIPTS_BYTES) }
     ensures steady { StaysSteady (F.state files.old) (F.state files.new) name.now }
     ensures unread { UnreadIsFault (F.state files.old) (F.state files.new) result }

@@ -7,9 +7,9 @@ use Rattle.form_base.specs.declared.refusals.Refused.{Refused}
 use Rattle.form_base.specs.declared.refusals.Refused.TheVariants.{Usage, File, Specification, Acceptance, Script, Assumption, Memory, Trace, Schedule, Name}
 use Rattle.form_base.specs.Answers.{Answer, Gives, WithoutFiles}
 use Rattle.form_base.specs.Assurance.{Assured, IsAssuring}
-use Rattle.form_base.specs.Endings.{AreInTurn, AreThere, Completes, Decides, Ends, IsPrepared, HasRoom, IsMemoryRefusal, IsQuietFor, IsSent, IsTaken, StaysQuiet, StoppedIn, Tells, WentOut}
+use Rattle.form_base.specs.Endings.{AreInTurn, AreThere, Completes, Decides, Ends, IsPrepared, HasRoom, IsMemoryRefusal, IsQuietFor, IsSent, IsTaken, StaysQuiet, StoppedIn, PrintsAnswer, WentOut}
 use Rattle.form_base.specs.Refusals.{code_of, memory_line}
-use Rattle.form_base.specs.Telling.{status_after}
+use Rattle.form_base.specs.Printing.{status_after}
 
 -- If a text was printed whole, the sink took the text, and the code is the status of the text.
 pub printed_taken : (status : ℕ) (text : List ℕ) (old new : SinkState) → Printed old new text → IsTaken old new status status text
@@ -27,20 +27,20 @@ put_taken {A} {E} (Err _) status text old new cut = cut_taken status text old ne
 
 -- If the sink took a text of status 0 or a prefix of it, the result is correct for the answer with this status and
 -- text.
-pub answered_tells : (text : List ℕ) (old new : SinkState) (code : ℕ) → IsTaken old new code ANSWERED text → Tells (Gives (ANSWERED, text)) old new code
-answered_tells text old new code taken =
+pub answered_prints : (text : List ℕ) (old new : SinkState) (code : ℕ) → IsTaken old new code ANSWERED text → PrintsAnswer (Gives (ANSWERED, text)) old new code
+answered_prints text old new code taken =
     record { status = ANSWERED; text = text; answer = inl refl; read = λ same. absurd (omega (arith, same)); written = λ same. absurd (omega (arith, same)); taken = taken }
 
 -- If the sink took a text or a prefix of it, the result is correct for the answer with this status and text. The
 -- status must be neither `UNREAD_FILE` nor `UNWRITTEN_OUTPUT`.
-pub given_tells : (status : ℕ) (text : List ℕ) (old new : SinkState) (code : ℕ) → status ≢ UNREAD_FILE → status ≢ UNWRITTEN_OUTPUT
-    → IsTaken old new code status text → Tells (Gives (status, text)) old new code
-given_tells status text old new code read written taken =
+pub given_prints : (status : ℕ) (text : List ℕ) (old new : SinkState) (code : ℕ) → status ≢ UNREAD_FILE → status ≢ UNWRITTEN_OUTPUT
+    → IsTaken old new code status text → PrintsAnswer (Gives (status, text)) old new code
+given_prints status text old new code read written taken =
     record { status = status; text = text; answer = inl refl; read = read; written = written; taken = taken }
 
 -- If the sink took the out-of-memory line, the result is correct for every answer.
-pub memory_tells : (A : ℕ → List ℕ → Type 0) (old new : SinkState) (code : ℕ) → IsTaken old new code OUT_OF_MEMORY memory_line → Tells A old new code
-memory_tells A old new code taken =
+pub memory_prints : (A : ℕ → List ℕ → Type 0) (old new : SinkState) (code : ℕ) → IsTaken old new code OUT_OF_MEMORY memory_line → PrintsAnswer A old new code
+memory_prints A old new code taken =
     record { status = OUT_OF_MEMORY; text = memory_line; answer = inr (refl, refl); read = λ same. absurd (omega (arith, same)); written = λ same. absurd (omega (arith, same)); taken = taken }
 
 told_other : (A B : ℕ → List ℕ → Type 0) (status : ℕ) (text : List ℕ) → (A status text → B status text)
@@ -51,7 +51,7 @@ told_other A B status text turn (inr is) = inr is
 -- If each status and text with which `A` answers is also an answer by `B`, then a printed answer by `A` is a printed
 -- answer by `B`.
 pub tells_other : (A B : ℕ → List ℕ → Type 0) (old new : SinkState) (code : ℕ) → ((status : ℕ) (text : List ℕ) → A status text → B status text)
-    → Tells A old new code → Tells B old new code
+    → PrintsAnswer A old new code → PrintsAnswer B old new code
 tells_other A B old new code turn tells = record {
   status = tells.status;
   text = tells.text;
@@ -89,7 +89,7 @@ found_answer A Rest names before after finds status text (inr is) = inr (is, fin
 -- If the files of an answer were read and the sink took a text that `Rest` allows, or a prefix of it, the form ends
 -- with this answer.
 pub found_ends : (A : Answer) (Rest : ℕ → List ℕ → Type 0) (names : List (List ℕ)) (before after : FilesState) (old new : SinkState) (code : ℕ)
-    → IsPrepared A Rest names before after → Tells Rest old new code → Ends A names before after (IsTaken old new code)
+    → IsPrepared A Rest names before after → PrintsAnswer Rest old new code → Ends A names before after (IsTaken old new code)
 found_ends A Rest names before after old new code finds tells = record {
   status = tells.status;
   text = tells.text;

@@ -6,7 +6,7 @@ use Rattle.scram_io.proofs.Histories.{grew_more, grew_none}
 use Rattle.form_base.specs.declared.refusals.Refusal.{Refusal}
 use Rattle.form_base.specs.declared.status.TheConstants.{OUT_OF_MEMORY, UNREAD_FILE}
 use Rattle.form_base.specs.Answers.{Answer, AnswersDocument, AnswersFile, WithoutFiles}
-use Rattle.form_base.specs.Endings.{AreInTurn, AreThere, Decides, Ends, IsPrepared, IsMemoryRefusal, IsTaken, Prepares, PreparesWithoutFiles, StaysQuiet, Tells}
+use Rattle.form_base.specs.Endings.{AreInTurn, AreThere, Decides, Ends, IsPrepared, IsMemoryRefusal, IsTaken, Prepares, PreparesWithoutFiles, StaysQuiet, PrintsAnswer}
 use Rattle.form_base.specs.Loads.{HasRead, IsOutOfMemory, IsUnloaded, Loads}
 use Rattle.form_base.specs.Refusals.{memory_line, read_line, answer_of}
 
@@ -74,7 +74,7 @@ settled {T} A Rest files (Err refusal) below is = record {
 }
 
 -- If an answer that needs no file was printed, the form ends with this answer.
-pub told_ends : (A : ℕ → List ℕ → Type 0) (files : FilesState) (old new : SinkState) (code : ℕ) → (IsTrue files.steady → files.faults < greatest_count) → Tells A old new code
+pub told_ends : (A : ℕ → List ℕ → Type 0) (files : FilesState) (old new : SinkState) (code : ℕ) → (IsTrue files.steady → files.faults < greatest_count) → PrintsAnswer A old new code
     → Ends (WithoutFiles A) [] files files (IsTaken old new code)
 told_ends A files old new code below tells = record {
   status = tells.status;

@@ -85,7 +85,7 @@ pub record IsSent (old new : SinkState) (code status : ℕ) (text : List ℕ) : 
 
 -- The sink took a text or a prefix of it. The text is the text of an answer that needs no file, or the out-of-memory
 -- line. The status is neither `UNREAD_FILE` nor `UNWRITTEN_OUTPUT`.
-pub record Tells (Answers : ℕ → List ℕ → Type 0) (old new : SinkState) (code : ℕ) : Type 0 where
+pub record PrintsAnswer (Answers : ℕ → List ℕ → Type 0) (old new : SinkState) (code : ℕ) : Type 0 where
   pub status : ℕ
   pub text : List ℕ
   pub answer : Answers status text ⊎ IsMemoryRefusal status text

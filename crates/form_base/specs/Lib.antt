@@ -5,5 +5,5 @@ pub mod Endings
 pub mod Lines
 pub mod Loads
 pub mod Specifications
-pub mod Telling
+pub mod Printing
 pub mod Texts

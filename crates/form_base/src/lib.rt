@@ -4,7 +4,7 @@
 
 pub mod lines;
 pub mod loads;
+pub mod printing;
 pub mod refusals;
 pub mod specifications;
 pub mod status;
-pub mod telling;

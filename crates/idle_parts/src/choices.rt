@@ -7,7 +7,7 @@ ghost use Rattle.choice_forms.specs.Tables.{HasShares};
 ghost use Rattle.coverage_check.specs.Timing.{asked_bounds};
 ghost use Rattle.cube_cover.specs.Shares.{AreShares, IsShare, is_ruled_by};
 ghost use Rattle.spec_forms.specs.Bounds.{AreAskedBounds};
-ghost use Rattle.idle_parts.specs.Chosen.{IsChosenBy};
+ghost use Rattle.idle_parts.specs.Chosen.{AreChoicesOf};
 ghost use Rattle.idle_parts.specs.Choices.{is_bound_idle, is_conf_idle, is_first_from, is_rule_idle, is_target_of_other};
 
 use choice_forms::find_shares;
@@ -26,7 +26,7 @@ pub(crate) struct Chosen {
 
 // Returns the possible choices from each configuration.
 pub(crate) fn find_chosen(alloc: Global, spec: &Spec) -> Result<Chosen, NoMemory>
-    ensures { IfOk result (λ chosen. IsChosenBy spec.now chosen) }
+    ensures { IfOk result (λ chosen. AreChoicesOf spec.now chosen) }
 {
     let sets = find_asked(alloc, spec)?;
     let shares = find_shares(alloc, spec)?;

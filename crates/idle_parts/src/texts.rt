@@ -5,7 +5,7 @@ ghost use Rattle.choice_forms.specs.Tables.{HasShares};
 ghost use Rattle.coverage_check.specs.Timing.{asked_bounds};
 ghost use Rattle.scram_types.specs.Specification.{IsDemand};
 ghost use Rattle.spec_forms.specs.Bounds.{AreAskedBounds};
-ghost use Rattle.idle_parts.specs.Chosen.{IsChosenBy};
+ghost use Rattle.idle_parts.specs.Chosen.{AreChoicesOf};
 ghost use Rattle.idle_parts.specs.Lines.{pair_text};
 ghost use Rattle.idle_parts.specs.Texts.{idle_app_text, idle_bound_text, idle_bound_text_at, idle_conf_text, idle_demand_text, idle_demand_text_at, idle_factor_text, idle_text, kind_lines, line_if, mode_line, idle_modes_text, idle_modes_text_of, part_count, idle_part_text, idle_proc_text, idle_rule_text};
 
@@ -34,7 +34,7 @@ pub fn make_idle(alloc: Global, spec: &Spec) -> Result<Vec<u8>, NoMemory>
 }
 
 fn add_all(text: &mut Vec<u8>, spec: &Spec, chosen: &Chosen) -> Result<(), AllocError>
-    requires { IsChosenBy spec.now chosen.now }
+    requires { AreChoicesOf spec.now chosen.now }
     ensures { OnOk result (text.new.items ≡ text.old.items ++ idle_text spec.now) }
 {
     add_kind(text, spec, chosen, PartKind::Rule)?;
@@ -54,7 +54,7 @@ fn add_kind(
     chosen: &Chosen,
     kind: PartKind,
 ) -> Result<(), AllocError>
-    requires { IsChosenBy spec.now chosen.now }
+    requires { AreChoicesOf spec.now chosen.now }
     ensures { OnOk result (text.new.items ≡ text.old.items ++ kind_lines spec.now kind) }
 {
     for n in 0..part_count(spec, kind) {
@@ -89,7 +89,7 @@ fn add_part(
     kind: PartKind,
     n: u8,
 ) -> Result<(), AllocError>
-    requires chosen { IsChosenBy spec.now chosen.now }
+    requires chosen { AreChoicesOf spec.now chosen.now }
     requires part { n < part_count spec.now kind }
     ensures { OnOk result (text.new.items ≡ text.old.items ++ idle_part_text spec.now kind n) }
 {

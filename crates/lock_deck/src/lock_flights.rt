@@ -40,8 +40,8 @@ pub struct LockFlight<'a> {
 impl<'a> LockFlight<'a> {
     /// Returns a flight of a mission before its first step. Allocates all memory that the flight needs. Returns an
     /// error only if memory runs out.
-    // No clause uses this precondition, and every `Boxes` satisfies it. Without it, Rattle reports this function, whose
-    // result contains boxes, under `hides`, as one that may create boxes.
+    // Neither the body nor a postcondition depends on the precondition, which every `Boxes` satisfies. Without it,
+    // Rattle lists this function, whose result contains boxes, under `hides` as a function that may create boxes.
     pub fn open(
         alloc: Global,
         mission: &'a Mission,

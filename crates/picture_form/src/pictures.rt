@@ -21,7 +21,7 @@ use crate::styles::{Part, part_text};
 use flight_facts::extremes::{Quantity, extremes_of};
 use flight_facts::spans::Lane;
 use form_base::status::{ANSWERED, Status};
-use form_base::telling::{status_after, tell_refusal};
+use form_base::printing::{status_after, print_refusal};
 use scram_io::{Files, Sink, SinkFault};
 use scram_types::{Report, Row, Spec};
 use std::alloc::Global;
@@ -45,7 +45,7 @@ pub fn picture_form<F: Files, K: Sink>(
             drop(flight);
             status_after(put, ANSWERED)
         }
-        Err(refusal) => tell_refusal(out, &refusal),
+        Err(refusal) => print_refusal(out, &refusal),
     }
 }
 

@@ -4,7 +4,7 @@ ghost use Rattle.std.specs.Prelude.{◌≡◌, ◌∷◌, [], Some, map, string_
 ghost use Rattle.scram_io.specs.Outside.{Rose};
 ghost use Rattle.form_base.specs.Answers.{Gives};
 ghost use Rattle.form_base.specs.Assurance.{Assured};
-ghost use Rattle.form_base.specs.Endings.{Completes, Ends, IsSent, IsTaken, Tells, WentOut};
+ghost use Rattle.form_base.specs.Endings.{Completes, Ends, IsSent, IsTaken, PrintsAnswer, WentOut};
 ghost use Rattle.form_base.specs.Refusals.{answer_of};
 ghost use Rattle.form_base.specs.declared.status.TheConstants.{ANSWERED, BROKEN_USAGE, UNREAD_FILE, UNWRITTEN_OUTPUT};
 ghost use Rattle.scram_cli.specs.Answers.{FlightFormAnswers, FormAnswers, LookAnswers, QuestionAnswers, usage_line};
@@ -26,9 +26,9 @@ use flight_forms::{
     run, watch,
 };
 use flights_form::{ScriptsFiles, flights};
+use form_base::printing::{print_refusal, print_text};
 use form_base::refusals::{Refusal, Refused};
 use form_base::status::{ANSWERED, Status, UNWRITTEN_OUTPUT};
-use form_base::telling::{tell, tell_refusal};
 use picture_form::picture_form;
 use scram_io::{Files, Sink, SinkFault};
 use spec_forms::{bounds, check};
@@ -128,9 +128,9 @@ fn answer_words<R: AllocGlobal + Threads + Wait + Sync, F: Files, K: Sink>(
 }
 
 fn refuse_usage<K: Sink>(out: &mut K) -> Status
-    ensures { Tells (Gives (BROKEN_USAGE, usage_line)) (K.state out.old) (K.state out.new) result.code }
+    ensures { PrintsAnswer (Gives (BROKEN_USAGE, usage_line)) (K.state out.old) (K.state out.new) result.code }
 {
-    tell_refusal(out, &usage())
+    print_refusal(out, &usage())
 }
 
 // Returns the refusal of words that have no form.
@@ -143,10 +143,10 @@ fn usage() -> Refusal
 }
 
 // Prints a page about the command.
-fn tell_page<K: Sink>(out: &mut K, page: Page) -> Status
-    ensures { Tells (Gives (ANSWERED, page_text page)) (K.state out.old) (K.state out.new) result.code }
+fn print_page<K: Sink>(out: &mut K, page: Page) -> Status
+    ensures { PrintsAnswer (Gives (ANSWERED, page_text page)) (K.state out.old) (K.state out.new) result.code }
 {
-    tell(out, ANSWERED, page_text(page).as_bytes())
+    print_text(out, ANSWERED, page_text(page).as_bytes())
 }
 
 // Answers a form.
@@ -180,7 +180,7 @@ fn answer_form<R: AllocGlobal + Threads + Wait + Sync, F: Files, K: Sink>(
         }
         Form::Told { page } => {
             drop(boxes);
-            tell_page(out, page)
+            print_page(out, page)
         }
     }
 }

@@ -11,10 +11,10 @@ use crate::lines::make_accepted_line;
 use coverage_check::{AcceptError, accept};
 use form_base::lines::make_shown_line;
 use form_base::loads::load;
+use form_base::printing::{print_refusal, print_text};
 use form_base::refusals::{Refusal, Refused};
 use form_base::specifications::Specification;
 use form_base::status::{ANSWERED, Status};
-use form_base::telling::{tell, tell_refusal};
 use scram_io::{Files, Sink};
 use scram_types::Spec;
 use std::alloc::Global;
@@ -31,8 +31,8 @@ pub fn check<F: Files, K: Sink>(
         (F.state files.old) (F.state files.new) (IsTaken (K.state out.old) (K.state out.new) result.code) }
 {
     match read_line(alloc, specification, files) {
-        Ok(line) => tell(out, ANSWERED, line.as_bytes()),
-        Err(refusal) => tell_refusal(out, &refusal),
+        Ok(line) => print_text(out, ANSWERED, line.as_bytes()),
+        Err(refusal) => print_refusal(out, &refusal),
     }
 }
 

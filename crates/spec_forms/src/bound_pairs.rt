@@ -16,10 +16,10 @@ use crate::lines::make_bound_line;
 use coverage_check::{asked_bounds, refuse_states};
 use form_base::lines::make_shown_line;
 use form_base::loads::load;
+use form_base::printing::{print_refusal, status_after};
 use form_base::refusals::{Refusal, Refused};
 use form_base::specifications::Specification;
 use form_base::status::{ANSWERED, Status};
-use form_base::telling::{status_after, tell_refusal};
 use scram_io::{Files, Sink, SinkFault};
 use scram_types::{ConfId, NoMemory, Spec};
 use std::alloc::Global;
@@ -49,7 +49,7 @@ pub fn bounds<F: Files, K: Sink>(
             drop(asked);
             status
         }
-        Err(refusal) => tell_refusal(out, &refusal),
+        Err(refusal) => print_refusal(out, &refusal),
     }
 }
 

@@ -13,7 +13,7 @@ use crate::lines::{
 use flight_facts::acts::count_apps;
 use flight_facts::decisions::{decided_in, differ};
 use form_base::status::{ANSWERED, Status};
-use form_base::telling::{status_after, tell_refusal};
+use form_base::printing::{status_after, print_refusal};
 use scram_io::{Files, Sink, SinkFault};
 use scram_types::lookups::{env_before, env_in};
 use scram_types::{Flown, Report, Row, Spec};
@@ -36,7 +36,7 @@ pub fn summary_form<F: Files, K: Sink>(
             drop(flight);
             status
         }
-        Err(refusal) => tell_refusal(out, &refusal),
+        Err(refusal) => print_refusal(out, &refusal),
     }
 }
 

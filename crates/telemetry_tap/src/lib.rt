@@ -1,7 +1,7 @@
-//! Telemetry of a flight. After each row, one writer publishes a summary of the flight in one word, which readers
-//! load. There is no lock, no memory is allocated after the opening, and no call waits. By the rule on the word and
-//! the views, the word encodes the summary of the rows published so far. Therefore a reader loads only summaries of
-//! published rows, and never an older summary than the last that it loaded.
+//! Telemetry of a flight. After each row, the only writer publishes a summary of the flight by storing it in one
+//! shared word, and readers load that word. There is no lock, no memory is allocated after the tap is opened, and no
+//! call waits. The word always encodes the summary of the rows published so far. Therefore a reader loads only
+//! summaries of published rows, and never an older summary than the last that it loaded.
 #![tactic(auto)]
 
 pub mod laws;

@@ -11,10 +11,10 @@ ghost use Rattle.trace_forms.specs.Verdicts.{GivesJudgement, HasVerdict};
 
 use crate::lines::{make_broken_line, make_holds_line};
 use form_base::loads::load;
+use form_base::printing::{print_refusal, print_text};
 use form_base::refusals::Refusal;
 use form_base::specifications::Specification;
 use form_base::status::{ANSWERED, BROKEN_PROPERTY, Status};
-use form_base::telling::{tell, tell_refusal};
 use scram_io::{Files, Sink};
 use scram_types::{Flown, Spec};
 use std::alloc::Global;
@@ -41,8 +41,8 @@ pub fn props_form<F: Files, K: Sink>(
         (F.state files.old) (F.state files.new) (IsTaken (K.state out.old) (K.state out.new) result.code) }
 {
     match read_judgement(alloc, named, files) {
-        Ok(judgement) => tell(out, judgement.code, judgement.line.as_bytes()),
-        Err(refusal) => tell_refusal(out, &refusal),
+        Ok(judgement) => print_text(out, judgement.code, judgement.line.as_bytes()),
+        Err(refusal) => print_refusal(out, &refusal),
     }
 }
 

@@ -12,7 +12,8 @@ abbrev pub course_target : CourseMode → ℕ
 course_target (Stable c) = c
 course_target (Moving from halting to since) = to
 
--- Whether the orders of a frame in a mode are to run the mode's target.
+-- Whether the kernel orders the applications to run the mode's target in a frame. In a stable mode it always does. In
+-- a moving mode it does so once the phases of halting, preparing and initialising are over.
 abbrev pub course_is_running : Plan → CourseMode → ℕ → Bool
 course_is_running plan (Stable c) frame = true
 course_is_running plan (Moving from halting to since) frame = nat_le (plan_halting plan halting + plan.preparing to + plan.initialising to) (frame - since)

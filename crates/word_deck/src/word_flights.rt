@@ -57,8 +57,8 @@ pub struct Landed<'a> {
 impl<'a> WordFlight<'a> {
     /// Creates a flight of a mission. All memory of the flight is allocated here. Returns an error only if memory
     /// runs out.
-    // No clause uses this precondition, and every `Boxes` satisfies it. Without it, Rattle reports this function, whose
-    // result contains boxes, under `hides`, as one that may create boxes.
+    // Neither the body nor a postcondition depends on the precondition, which every `Boxes` satisfies. Without it,
+    // Rattle lists this function, whose result contains boxes, under `hides` as a function that may create boxes.
     #[tactic(auto, using(crate::proofs::Outcomes::at_table))]
     pub fn open(
         alloc: Global,

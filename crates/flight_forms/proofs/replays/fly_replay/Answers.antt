@@ -20,4 +20,4 @@ returns-in-Err g c =
     let by_list = subst (λ (l : List Event). AnswersReplay mission.spec mission.script l c.replay.result) c.items-list.ensures by_script in
     replay_refused mission.spec mission.script list c.in-Err.error (answer_of c.refusal_of.result) _ _ _
     (subst (λ (r : Result Flown ReplayError). AnswersReplay mission.spec mission.script list r) c.in-Err.is by_list)
-    (c.refusal_of.ensures ∙ ap (λ (s : Parts). replay_refusal s c.in-Err.error) c.spec-spec.ensures) c.tell_refusal.ensures
+    (c.refusal_of.ensures ∙ ap (λ (s : Parts). replay_refusal s c.in-Err.error) c.spec-spec.ensures) c.print_refusal.ensures

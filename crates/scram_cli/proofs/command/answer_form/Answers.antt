@@ -6,4 +6,4 @@ use Rattle.scram_cli.proofs.command.answer_form.Goals as goal
 
 pub returns-in-Told : goal.returns-in-Told
 returns-in-Told g c =
-    rw (c.in-Told.is) (told_ends (Gives (ANSWERED, page_text c.in-Told.page)) _ _ _ _ (g.met.F.Files.steady_below _) c.tell_page.ensures)
+    rw (c.in-Told.is) (told_ends (Gives (ANSWERED, page_text c.in-Told.page)) _ _ _ _ (g.met.F.Files.steady_below _) c.print_page.ensures)

@@ -1,8 +1,8 @@
-use Rattle.form_base.proofs.Endings.{answered_tells, found_ends, put_taken}
+use Rattle.form_base.proofs.Endings.{answered_prints, found_ends, put_taken}
 use Rattle.spec_forms.specs.Bounds.{bounds_text}
 use Rattle.spec_forms.proofs.bound_pairs.bounds.Goals as goal
 
 pub returns-in-Ok : goal.returns-in-Ok
 returns-in-Ok g c =
     rw (c.status_after-status.ensures)
-    (found_ends _ _ _ _ _ _ _ _ c.in-Ok.ensures.reads (answered_tells (bounds_text c.in-Ok.asked.spec) _ _ _ (put_taken c.put_bounds.result 0 _ _ _ c.put_bounds.ensures)))
+    (found_ends _ _ _ _ _ _ _ _ c.in-Ok.ensures.reads (answered_prints (bounds_text c.in-Ok.asked.spec) _ _ _ (put_taken c.put_bounds.result 0 _ _ _ c.put_bounds.ensures)))

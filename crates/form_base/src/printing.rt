@@ -3,7 +3,7 @@
 ghost use Rattle.form_base.specs.Endings.{IsTaken};
 ghost use Rattle.std.specs.Prelude.{◌≡◌};
 ghost use Rattle.form_base.specs.Refusals.{answer_of};
-ghost use Rattle.form_base.specs.Telling.{status_after};
+ghost use Rattle.form_base.specs.Printing.{status_after};
 
 use crate::refusals::Refusal;
 use crate::status::{Status, UNWRITTEN_OUTPUT};
@@ -23,15 +23,15 @@ pub fn status_after(put: Result<(), SinkFault>, code: u8) -> Status
 
 /// Writes a text in one piece as the whole output. Returns the status `code`, or `UNWRITTEN_OUTPUT` if the sink
 /// fails.
-pub fn tell<K: Sink>(out: &mut K, code: u8, text: &[u8]) -> Status
+pub fn print_text<K: Sink>(out: &mut K, code: u8, text: &[u8]) -> Status
     ensures { IsTaken (K.state out.old) (K.state out.new) result.code code text.now }
 {
     status_after(out.put(text), code)
 }
 
 /// Writes the line of a refusal. Returns the refusal's status, or `UNWRITTEN_OUTPUT` if the sink fails.
-pub fn tell_refusal<K: Sink>(out: &mut K, refusal: &Refusal) -> Status
+pub fn print_refusal<K: Sink>(out: &mut K, refusal: &Refusal) -> Status
     ensures { IsTaken (K.state out.old) (K.state out.new) result.code (answer_of refusal.now).0 (answer_of refusal.now).1 }
 {
-    tell(out, refusal.refused.code(), refusal.line())
+    print_text(out, refusal.refused.code(), refusal.line())
 }
