@@ -10,8 +10,8 @@ ghost use Rattle.columns_form.specs.Table.{app_fields_text, app_head_text, colum
 use crate::fields::{make_app_fields, make_row_fields};
 use crate::heads::{make_app_head, make_row_head};
 use flight_facts::acts::count_apps;
+use form_base::printing::{print_refusal, status_after};
 use form_base::status::{ANSWERED, Status};
-use form_base::printing::{status_after, print_refusal};
 use scram_io::{Files, Sink, SinkFault};
 use scram_types::{Row, Spec};
 use std::alloc::Global;

@@ -12,8 +12,8 @@ use crate::lines::{
 };
 use flight_facts::acts::count_apps;
 use flight_facts::decisions::{decided_in, differ};
+use form_base::printing::{print_refusal, status_after};
 use form_base::status::{ANSWERED, Status};
-use form_base::printing::{status_after, print_refusal};
 use scram_io::{Files, Sink, SinkFault};
 use scram_types::lookups::{env_before, env_in};
 use scram_types::{Flown, Report, Row, Spec};
