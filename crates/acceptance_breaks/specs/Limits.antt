@@ -8,8 +8,8 @@ use Rattle.condition_breaks.specs.declared.breaks.Unheld.{Unheld}
 use Rattle.condition_breaks.specs.Ranges.{interval, range_entering}
 use Rattle.acceptance_breaks.specs.declared.limits.Limits.{Limits}
 
--- The number, the application and the variable of an invariant, the interval that the invariant specifies, and the
--- smallest interval that suffices.
+-- The number, the application and the variable of invariant `inv`, the interval that it specifies, and the smallest
+-- interval that suffices. The number and the smallest interval are taken from `found`.
 abbrev pub invariant_limits : Unheld → Invariant → Limits
 invariant_limits found inv = record {
   item = found.invariant;

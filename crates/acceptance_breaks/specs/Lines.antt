@@ -37,7 +37,7 @@ use Rattle.condition_breaks.specs.declared.breaks.Way.{Way}
 use Rattle.condition_breaks.specs.Ranges.{interval, range_on}
 use Rattle.acceptance_breaks.specs.Limits.{invariant_limits, precondition_limits}
 
--- The line for an application that is on while an application that it needs is off.
+-- The line for application `a`, which is on in configuration `c` while application `b`, which `a` needs, is off.
 abbrev pub need_line : Parts → ConfId → AppId → AppId → List ℕ
 need_line spec c a b =
     codes "  in " ++ conf_name spec c.0 ++ codes " " ++ app_name spec a.0 ++ codes " is on and " ++ app_name spec b.0 ++ codes " is off\n"
@@ -46,15 +46,15 @@ need_line spec c a b =
 abbrev pub states_line : Parts → List ℕ
 states_line spec = codes "  states " ++ decimal (states spec) ++ codes ", at most " ++ decimal MAX_ENVIRONMENTS ++ codes "\n"
 
--- The line for a configuration in which no application is on.
+-- The line for configuration `c`, in which no application is on.
 abbrev pub empty_line : Parts → ConfId → List ℕ
 empty_line spec c = codes "  " ++ conf_name spec c.0 ++ codes " has nothing on\n"
 
--- The line for a configuration that equals an earlier one.
+-- The line for configuration `c`, which equals the earlier configuration `d`.
 abbrev pub twin_line : Parts → ConfId → ConfId → List ℕ
 twin_line spec c d = codes "  " ++ conf_name spec c.0 ++ codes " equals " ++ conf_name spec d.0 ++ codes "\n"
 
--- The line with the load that a configuration puts on a processor, and the processor's capacity.
+-- The line with the load that configuration `c` puts on processor `p`, and the processor's capacity.
 abbrev pub load_line : Parts → ConfId → ProcId → List ℕ
 load_line spec c p =
     codes "  in " ++ conf_name spec c.0 ++ codes " " ++ proc_name spec p.0 ++ codes " carries " ++ decimal (load_below spec c p.0 (length spec.apps))
@@ -69,8 +69,8 @@ abbrev pub fitting_text : Parts → ℕ → List ℕ
 fitting_text spec k =
     option_map_or (λ (rule : Choice). chooses_text spec k rule.to) (slice_get spec.rules k) (codes " no rule fits")
 
--- The text of the first rule that fits configuration `c` in environment `v` and of its target, or the text that no
--- rule fits.
+-- The text of the first rule that fits configuration `c` in environment `v`, and of the rule's target, or the text
+-- that no rule fits.
 abbrev pub chosen_text : Parts → ConfId → Env → List ℕ
 chosen_text spec c v = fitting_text spec (first_rule spec.rules c v)
 
@@ -86,7 +86,8 @@ situation_piece spec c v = codes "  " ++ situation_text spec c v
 abbrev pub unsettled_piece : Parts → ConfId → Env → List ℕ
 unsettled_piece spec c v = codes ", from which" ++ chosen_text spec (choose spec c v) v ++ codes "\n"
 
--- The end of a line, with the way in which the choice from `c` in `v` fails a requirement.
+-- The end of a line, which shows how the choice from `c` in `v` fails a requirement. For the requirement `HasRule`
+-- the end is a line feed alone.
 abbrev pub unmet_piece : Parts → Requirement → ConfId → Env → List ℕ
 unmet_piece spec requirement.HasRule c v = codes "\n"
 unmet_piece spec requirement.CanRun c v = needs_piece spec v (first_rule spec.rules c v)
@@ -116,7 +117,7 @@ window_line spec = codes "  window " ++ decimal spec.window ++ codes ", at least
 abbrev pub variable_text : Parts → AppId → ℕ → List ℕ
 variable_text spec a i = option_map_or (λ (name : List ℕ). name) (name_in (variable_names (kind_of_app spec a.0)) i) []
 
--- The name of the mode of an application at a place, or `off` if there is no place.
+-- The name of the application's mode at a place, or `off` if there is no place.
 abbrev pub place_mode_text : Parts → AppId → Option Place → List ℕ
 place_mode_text spec a None = codes "off"
 place_mode_text spec a (Some place) = mode_text (kind_of_app spec a.0) place.mode.0
@@ -139,19 +140,19 @@ limits_text spec limits = subject_text spec limits ++ intervals_text limits
 abbrev pub way_text : Parts → Way → List ℕ
 way_text spec taken = conf_name spec taken.from.0 ++ (if taken.from.0 == taken.to.0 then [] else codes " > " ++ conf_name spec taken.to.0)
 
--- The line of an invariant, with the interval that the invariant needs, and the first way whose range the invariant's
--- interval does not contain.
+-- The line for invariant `inv`, whose number is in `found`. The line has the interval that the invariant specifies,
+-- the interval that it needs, and the first way whose range the specified interval does not contain.
 abbrev pub unheld_line_of : Parts → Unheld → Invariant → List ℕ
 unheld_line_of spec found inv =
     codes "  invariant" ++ limits_text spec (invariant_limits found inv) ++ way_text spec found.way ++ codes " "
     ++ place_mode_text spec inv.app (place_of spec found.way.to inv.app.0) ++ codes " " ++ extremes_text (interval (range_on spec inv found.way)) ++ codes "\n"
 
--- The line of the invariant that `found` names, or the empty text if there is no such invariant.
+-- The line for the invariant whose number is in `found`, or the empty text if there is no such invariant.
 abbrev pub unheld_line : Parts → Unheld → List ℕ
 unheld_line spec found = option_map_or (unheld_line_of spec found) (slice_get spec.invariants found.invariant) []
 
--- The line of precondition `k`, with the interval that the precondition needs, and the configuration of the
--- precondition.
+-- The line of precondition `k`, with the interval that the precondition specifies, the interval that it needs, and
+-- its configuration. Here `pre` is precondition `k`.
 abbrev pub missed_line_of : Parts → ℕ → Precondition → List ℕ
 missed_line_of spec k pre =
     codes "  precondition" ++ limits_text spec (precondition_limits spec k pre) ++ conf_name spec pre.conf.0 ++ codes " "
@@ -165,8 +166,8 @@ missed_line spec k = option_map_or (missed_line_of spec k) (slice_get spec.preco
 abbrev pub demand_piece : Parts → ConfId → ℕ → Env → List ℕ
 demand_piece spec c k v = codes "  demand " ++ demand_name spec k ++ codes " " ++ situation_text spec c v
 
--- The name of configuration `c`, preceded by a comma and a space unless `c` is the first of the set. The text is empty
--- if `c` is not in the set.
+-- The name of configuration `c`, preceded by a comma and a space unless `c` is the first of the set. The text is
+-- empty if `c` is not in the set.
 abbrev pub conf_in_text : Parts → ℕ → ℕ → List ℕ
 conf_in_text spec set c = if has_bit set c then (if any_below (has_bit set) c then codes ", " else []) ++ conf_name spec c else []
 
@@ -174,24 +175,26 @@ conf_in_text spec set c = if has_bit set c then (if any_below (has_bit set) c th
 abbrev pub members_text : Parts → ℕ → List ℕ
 members_text spec set = texts_below (conf_in_text spec set) (length spec.confs)
 
--- Whether application `a` must be on but is off or in a mode that the demand does not allow.
+-- Whether the demand requires application `a` to be on, but `a` is off in configuration `c` or in a mode that the
+-- demand does not allow.
 abbrev pub is_on_missed : Parts → Demand → ConfId → ℕ → Bool
 is_on_missed spec demand c a = not (is_placed (modes_on demand a) (place_of spec c a))
 
--- Whether application `a` must be off but is on.
+-- Whether the demand requires application `a` to be off, but `a` is on in configuration `c`.
 abbrev pub is_off_missed : Parts → Demand → ConfId → ℕ → Bool
 is_off_missed spec demand c a = has_bit demand.off a && is_on spec c a
 
--- The first application that must be on but is off or in a mode that the demand does not allow, or `None` if there is
--- none.
+-- The first application that the demand requires to be on, but that is off in configuration `c` or in a mode that the
+-- demand does not allow. The value is `None` if there is none.
 abbrev pub first_on_missed : Parts → Demand → ConfId → Option ℕ
 first_on_missed spec demand c = least_from (is_on_missed spec demand c) 0 (length spec.apps)
 
--- The first application that must be off but is on, or `None` if there is none.
+-- The first application that the demand requires to be off, but that is on in configuration `c`, or `None` if there
+-- is none.
 abbrev pub first_off_missed : Parts → Demand → ConfId → Option ℕ
 first_off_missed spec demand c = least_from (is_off_missed spec demand c) 0 (length spec.apps)
 
--- The name of application `a`, followed by the text that it is off if it has no place, or by the mode of its place.
+-- The name of application `a`, followed by the mode of its place, or by the text that it is off if it has no place.
 abbrev pub whereabouts_text : Parts → ℕ → Option Place → List ℕ
 whereabouts_text spec a None = app_name spec a ++ codes " is off"
 whereabouts_text spec a (Some place) = app_name spec a ++ codes " is in " ++ mode_text (kind_of_app spec a) place.mode.0
@@ -207,16 +210,17 @@ abbrev pub app_missed_text : Parts → Demand → ConfId → Option ℕ → List
 app_missed_text spec demand c None = off_missed_text spec (first_off_missed spec demand c)
 app_missed_text spec demand c (Some a) = codes ", in which " ++ whereabouts_text spec a (place_of spec c a)
 
--- The text for a demand none of whose configurations is chosen, with the names of these configurations.
+-- The text that the chosen configuration is none of the demand's configurations, with the names of the demand's
+-- configurations.
 abbrev pub none_of_text : Parts → Demand → List ℕ
 none_of_text spec demand = codes ", which is none of " ++ members_text spec demand.to
 
--- The text of the way in which configuration `c` fails a demand.
+-- The text that shows how configuration `c` fails a demand.
 abbrev pub missed_text : Parts → Demand → ConfId → List ℕ
 missed_text spec demand c =
     if is_empty_or_holds demand.to c then app_missed_text spec demand c (first_on_missed spec demand c) else none_of_text spec demand
 
--- The end of a line, with the way in which the configuration that is chosen from `c` in `v` fails demand `k`.
+-- The end of a line, which shows how the configuration chosen from `c` in `v` fails demand `k`.
 abbrev pub missed_piece : Parts → ConfId → ℕ → Env → List ℕ
 missed_piece spec c k v = option_map_or (λ (demand : Demand). missed_text spec demand (choose spec c v)) (slice_get spec.demands k) [] ++ codes "\n"
 

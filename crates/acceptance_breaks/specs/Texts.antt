@@ -21,7 +21,7 @@ more_text count = if nat_lt MAX_BREAK_LINES count then codes "  and " ++ decimal
 abbrev pub shown_breaks_text : Parts → List Break → List ℕ
 shown_breaks_text spec found = lines_text spec (take MAX_BREAK_LINES found) ++ more_text (length found)
 
--- The text for the places at which the condition with a number, 1 to 13, does not hold. The text is empty for any
--- other number.
+-- The text for the places at which the condition with the number `condition` does not hold. The text is empty if the
+-- condition holds or the number is not 1 to 13.
 abbrev pub breaks_text : Parts → ℕ → List ℕ
 breaks_text spec condition = shown_breaks_text spec (breaks spec condition)

@@ -13,7 +13,7 @@ use form_base::lines::add_env;
 use scram_types::{ConfId, Env, Spec};
 use trace_text::lines::Line;
 
-// Returns the start of a line, with configuration `c`, an environment and the choice from `c` in that environment.
+// Returns the start of a line, with configuration `c`, environment `env` and the choice from `c` in `env`.
 pub(crate) fn make_situation_piece(spec: &Spec, c: ConfId, env: &Env) -> Line
     requires { IsEnv spec.now env.now }
     ensures { result ≡ situation_piece spec.now c env.now }
@@ -24,7 +24,7 @@ pub(crate) fn make_situation_piece(spec: &Spec, c: ConfId, env: &Env) -> Line
     line
 }
 
-// Appends the text of configuration `c`, an environment and the choice from `c` in that environment.
+// Appends the text of configuration `c`, environment `env` and the choice from `c` in `env`.
 pub(crate) fn add_situation(line: &mut Line, spec: &Spec, c: ConfId, env: &Env)
     requires env { IsEnv spec.now env.now }
     requires room { length line.old + 420 ≤ MAX_LINE_BYTES }
@@ -38,8 +38,8 @@ pub(crate) fn add_situation(line: &mut Line, spec: &Spec, c: ConfId, env: &Env)
     add_chosen(line, spec, c, env);
 }
 
-// Appends the text of the first rule that fits configuration `c` in an environment and of its target, or the text
-// that no rule fits.
+// Appends the text of the first rule that fits configuration `c` in environment `env`, and of the rule's target, or
+// the text that no rule fits.
 fn add_chosen(line: &mut Line, spec: &Spec, c: ConfId, env: &Env)
     requires env { IsEnv spec.now env.now }
     requires room { length line.old + 41 ≤ MAX_LINE_BYTES }
@@ -71,8 +71,8 @@ fn add_chooses(line: &mut Line, spec: &Spec, k: u32, to: ConfId)
     line.text(spec.conf_name(to).as_bytes());
 }
 
-// Returns the end of a line, with the way in which the choice from configuration `c` in an environment fails a
-// requirement.
+// Returns the end of a line, which shows how the choice from configuration `c` in environment `env` fails the
+// requirement `asked`. For the requirement `HasRule` the end is a line feed alone.
 pub(crate) fn make_unmet_piece(spec: &Spec, asked: Requirement, c: ConfId, env: &Env) -> Line
     requires { IsEnv spec.now env.now }
     ensures { result ≡ unmet_piece spec.now asked c env.now }

@@ -18,8 +18,8 @@ use scram_types::{AppId, ConfId, Demand, Env, Mode, Modes, Place, Spec};
 use trace_text::lines::Line;
 use trace_text::row_lines::name_of_mode;
 
-// Returns the start of a line, with demand `k`, configuration `c`, an environment and the choice from `c` in that
-// environment.
+// Returns the start of a line, with demand `k`, configuration `c`, environment `env` and the choice from `c` in
+// `env`.
 pub(crate) fn make_demand_piece(spec: &Spec, c: ConfId, k: u32, env: &Env) -> Line
     requires { IsEnv spec.now env.now }
     ensures { result ≡ demand_piece spec.now c k env.now }
@@ -32,8 +32,7 @@ pub(crate) fn make_demand_piece(spec: &Spec, c: ConfId, k: u32, env: &Env) -> Li
     line
 }
 
-// Returns the end of a line, with the way in which the configuration that is chosen from `c` in an environment fails
-// demand `k`.
+// Returns the end of a line, which shows how the configuration chosen from `c` in environment `env` fails demand `k`.
 pub(crate) fn make_missed_piece(spec: &Spec, c: ConfId, k: u32, env: &Env) -> Line
     ensures { result ≡ missed_piece spec.now c k env.now }
 {
@@ -45,7 +44,7 @@ pub(crate) fn make_missed_piece(spec: &Spec, c: ConfId, k: u32, env: &Env) -> Li
     line
 }
 
-// Appends the text of the way in which configuration `c` fails a demand.
+// Appends the text that shows how configuration `c` fails a demand.
 fn add_missed(line: &mut Line, spec: &Spec, demand: &Demand, c: ConfId)
     requires { length line.old + 300 ≤ MAX_LINE_BYTES }
     ensures text { line.new ≡ line.old ++ missed_text spec.now demand.now c }
@@ -58,7 +57,8 @@ fn add_missed(line: &mut Line, spec: &Spec, demand: &Demand, c: ConfId)
     }
 }
 
-// Appends the text for a demand none of whose configurations is chosen, with the names of these configurations.
+// Appends the text that the chosen configuration is none of the demand's configurations, with the names of the
+// demand's configurations.
 fn add_none_of(line: &mut Line, spec: &Spec, demand: &Demand)
     requires { length line.old + 240 ≤ MAX_LINE_BYTES }
     ensures text { line.new ≡ line.old ++ none_of_text spec.now demand.now }
@@ -100,7 +100,9 @@ fn add_member(line: &mut Line, spec: &Spec, is_further: bool, c: ConfId)
     line.text(spec.conf_name(c).as_bytes());
 }
 
-// Appends the text for the first application with which configuration `c` fails a demand.
+// Appends the text for the first application that the demand requires to be on, but that is off in configuration `c`
+// or in a mode that the demand does not allow. If there is none, appends the text for the first application that the
+// demand requires to be off, but that is on in `c`, if there is one.
 fn add_app_missed(line: &mut Line, spec: &Spec, demand: &Demand, c: ConfId)
     requires { length line.old + 60 ≤ MAX_LINE_BYTES }
     ensures text { line.new ≡ line.old ++ app_missed_text spec.now demand.now c (first_on_missed spec.now demand.now c) }
@@ -142,8 +144,8 @@ fn add_off_missed(line: &mut Line, spec: &Spec, missed: Option<u8>)
     }
 }
 
-// Returns the first application that must be on but is off or in a mode that the demand does not allow, or `None` if
-// there is none.
+// Returns the first application that the demand requires to be on, but that is off in configuration `c` or in a mode
+// that the demand does not allow. Returns `None` if there is none.
 fn first_on_missed(spec: &Spec, demand: &Demand, c: ConfId) -> Option<u8>
     ensures { result ≡ first_on_missed spec.now demand.now c }
 {
@@ -177,7 +179,8 @@ fn modes_allow(modes: &Modes, mode: Mode) -> bool
     modes.as_slice().is_empty() || modes.has(mode)
 }
 
-// Returns the first application that must be off but is on, or `None` if there is none.
+// Returns the first application that the demand requires to be off, but that is on in configuration `c`, or `None` if
+// there is none.
 fn first_off_missed(spec: &Spec, demand: &Demand, c: ConfId) -> Option<u8>
     ensures { result ≡ first_off_missed spec.now demand.now c }
 {

@@ -1,5 +1,5 @@
-//! The places at which a specification fails acceptance, with a line for each place at which a condition does not hold,
-//! in order.
+//! The lines about the places at which a specification fails acceptance. Each of the first [`MAX_BREAK_LINES`] places
+//! at which a condition does not hold has a line, in order.
 #![tactic(auto)]
 
 mod choice_lines;

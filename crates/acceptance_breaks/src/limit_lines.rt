@@ -13,8 +13,9 @@ use scram_types::{AppId, Invariant, Place, Precondition, Spec};
 use trace_text::lines::Line;
 use trace_text::row_lines::name_of_mode;
 
-// Returns the line of an invariant, with the interval that the invariant needs, and the first way whose range the
-// invariant's interval does not contain. The line is empty if there is no such invariant.
+// Returns the line for the invariant whose number is in `found`. The line has the interval that the invariant
+// specifies, the interval that it needs, and the first way whose range the specified interval does not contain. The
+// line is empty if there is no such invariant.
 pub(crate) fn make_unheld_line(spec: &Spec, found: &Unheld) -> Line
     ensures { result ≡ unheld_line spec.now found.now }
 {
@@ -44,8 +45,8 @@ fn make_unheld_line_of(spec: &Spec, found: &Unheld, inv: &Invariant) -> Line
     line
 }
 
-// Returns the line of precondition `k`, with the interval that the precondition needs, and the configuration of the
-// precondition. The line is empty if there is no such precondition.
+// Returns the line of precondition `k`, with the interval that the precondition specifies, the interval that it
+// needs, and its configuration. The line is empty if there is no such precondition.
 pub(crate) fn make_missed_line(spec: &Spec, k: u32) -> Line
     ensures { result ≡ missed_line spec.now k }
 {
@@ -104,8 +105,8 @@ fn add_intervals(line: &mut Line, limits: &Limits)
     line.text(b": ");
 }
 
-// Returns the name of a variable of an application, of at most 16 bytes. The name is empty if the kind of the
-// application does not use the variable.
+// Returns the name of a variable of an application. The name has at most 16 bytes, and is empty if the application's
+// kind does not use the variable.
 #[tactic(auto, using(app_model::proofs::ShortNames::variable_short))]
 fn variable_text(spec: &Spec, app: AppId, variable: u8) -> &'static str
     ensures name { result.now ≡ variable_text spec.now app variable }
@@ -131,7 +132,7 @@ fn add_way(line: &mut Line, spec: &Spec, way: &Way)
     }
 }
 
-// Appends the name of the mode of an application at a place, or `off` if there is no place.
+// Appends the name of the application's mode at `place`, or `off` if there is no place.
 fn add_place(line: &mut Line, spec: &Spec, app: AppId, place: Option<Place>)
     requires { length line.old + 16 ≤ MAX_LINE_BYTES }
     ensures text { line.new ≡ line.old ++ place_mode_text spec.now app place }

@@ -8,8 +8,8 @@ use condition_breaks::ranges::{interval, range_entering};
 use flight_facts::extremes::Extremes;
 use scram_types::{AppId, Invariant, Precondition, Spec};
 
-/// The number of an invariant or a precondition, a variable of an application, the interval that is given for the
-/// variable, and the interval that is needed.
+/// The interval that an invariant or a precondition specifies for a variable of an application, and the interval that
+/// it needs. `item` is the number of the invariant or precondition.
 #[derive(Clone, Copy, Debug, PartialEq, Eq)]
 pub struct Limits {
     pub item: u32,
@@ -19,8 +19,8 @@ pub struct Limits {
     pub needed: Extremes,
 }
 
-// Returns the number, the application and the variable of an invariant, the interval that the invariant specifies,
-// and the smallest interval that suffices.
+// Returns the number, the application and the variable of invariant `inv`, the interval that it specifies, and the
+// smallest interval that suffices. The number and the smallest interval are taken from `found`.
 pub(crate) fn invariant_limits(found: &Unheld, inv: &Invariant) -> Limits
     ensures { result ≡ invariant_limits found.now inv.now }
 {

@@ -1,4 +1,4 @@
-//! The lines about configurations and durations, made without allocating.
+//! The lines about configurations, the number of environments and the window, made without allocating.
 
 ghost use Rattle.std.specs.Prelude.{◌≡◌, ◌+◌, ◌≤◌, ◌++◌, decimal, length};
 ghost use Rattle.scram_types.specs.declared.limits.TheConstants.{MAX_LINE_BYTES};
@@ -12,7 +12,8 @@ use scram_types::limits::MAX_ENVIRONMENTS;
 use scram_types::{AppId, ConfId, ProcId, Spec};
 use trace_text::lines::Line;
 
-// Returns the line for an application that is on while an application that it needs is off.
+// Returns the line for application `a`, which is on in configuration `c` while application `b`, which `a` needs, is
+// off.
 pub(crate) fn make_need_line(spec: &Spec, c: ConfId, a: AppId, b: AppId) -> Line
     ensures { result ≡ need_line spec.now c a b }
 {
@@ -40,7 +41,7 @@ pub(crate) fn make_states_line(spec: &Spec) -> Line
     line
 }
 
-// Returns the line for a configuration in which no application is on.
+// Returns the line for configuration `c`, in which no application is on.
 pub(crate) fn make_empty_line(spec: &Spec, c: ConfId) -> Line
     ensures { result ≡ empty_line spec.now c }
 {
@@ -51,7 +52,7 @@ pub(crate) fn make_empty_line(spec: &Spec, c: ConfId) -> Line
     line
 }
 
-// Returns the line for a configuration that equals an earlier one.
+// Returns the line for configuration `c`, which equals the earlier configuration `d`.
 pub(crate) fn make_twin_line(spec: &Spec, c: ConfId, d: ConfId) -> Line
     ensures { result ≡ twin_line spec.now c d }
 {
@@ -64,7 +65,7 @@ pub(crate) fn make_twin_line(spec: &Spec, c: ConfId, d: ConfId) -> Line
     line
 }
 
-// Returns the line with the load that a configuration puts on a processor, and the processor's capacity.
+// Returns the line with the load that configuration `c` puts on processor `p`, and the processor's capacity.
 pub(crate) fn make_load_line(spec: &Spec, c: ConfId, p: ProcId) -> Line
     ensures { result ≡ load_line spec.now c p }
 {

@@ -26,9 +26,10 @@ use trace_text::lines::Line;
 /// The maximum number of places for which a line is shown.
 pub const MAX_BREAK_LINES: usize = 64;
 
-/// Returns a line for each place at which a condition of acceptance does not hold, in order. If there are more than
-/// [`MAX_BREAK_LINES`] places, only the first [`MAX_BREAK_LINES`] places have a line, and a last line gives the
-/// number of the other places. The text is empty if the number of the condition is not 1 to 13.
+/// Returns a line for each place at which the condition of acceptance with the number `condition` does not hold, in
+/// order. If there are more than [`MAX_BREAK_LINES`] places, only the first [`MAX_BREAK_LINES`] places have a line,
+/// and a last line gives the number of the other places. The text is empty if the condition holds or its number is
+/// not 1 to 13.
 ///
 /// # Errors
 ///
@@ -52,7 +53,8 @@ fn make_text(alloc: Global, spec: &Spec, found: &[Break]) -> Result<Vec<u8>, NoM
     Ok(text)
 }
 
-// Returns the places that have a line of their own, which are at most the first 64.
+// Returns the places that have a line of their own: the first `MAX_BREAK_LINES` places, or all places if there are
+// fewer.
 fn first_of(found: &[Break]) -> &[Break]
     ensures { result.now ≡ take MAX_BREAK_LINES found.now }
 {

@@ -87,7 +87,7 @@ abbrev pub choice_piece : Parts → ConfId → Env → ℕ → List ℕ
 choice_piece spec c v k = codes "choice " ++ conf_name spec c.0 ++ codes " in " ++ state_text spec v ++ ruled_text spec k
 
 -- The second piece of the line of a choice in environment `v`: the processors that the target of rule `k` needs but
--- that are down, and the line feed.
+-- that are down, and the line feed. If there is no rule `k`, the piece is only the line feed.
 abbrev pub needs_piece : Parts → Env → ℕ → List ℕ
 needs_piece spec v k = rule_needs spec k v ++ codes "\n"
 

@@ -17,7 +17,8 @@ abbrev pub ruled_text : Parts → ℕ → List ℕ
 ruled_text spec k = option_map_or (λ (rule : Choice). rule_to_text spec k rule.to) (slice_get spec.rules k) (codes " no rule")
 
 -- The line of rule `k` and configuration `from`. `count` is the number of environments in scope in which the rule is
--- the first that fits, and `first` is the first of these environments.
+-- the first that fits, and `first` is the first of these environments. If there is no rule `k`, no rule fits in these
+-- environments.
 abbrev pub choice_line : Parts → ℕ → ℕ → ℕ → Env → List ℕ
 choice_line spec from k count first =
     codes "choice " ++ conf_name spec from ++ ruled_text spec k ++ codes " in " ++ decimal count ++ codes ", first " ++ env_text spec first ++ codes "\n"

@@ -43,8 +43,8 @@ struct Chosen {
 }
 
 /// Prints the choice from a configuration in a state, by the specification in a file. The line has the rule, its
-/// target, and the processors that the target needs but that are down. If a word has a name that the specification
-/// does not have, prints the refusal of the first such word instead.
+/// target, and the processors that the target needs but that are down. If the specification does not have the name of
+/// the configuration or a name in a word of the state, prints the refusal of the first such word instead.
 pub fn choose<F: Files, K: Sink>(
     alloc: Global,
     question: Question<'_>,

@@ -81,8 +81,8 @@ fn add_state(line: &mut Line, spec: &Spec, env: &Env)
     }
 }
 
-/// Returns the second piece of the line of a choice: the processors that the target needs but that are down, and the
-/// line feed.
+/// Returns the second piece of the line of a choice in environment `env`: the processors that the target of rule `k`
+/// needs but that are down, and the line feed. If there is no rule `k`, the piece is only the line feed.
 pub fn make_needs_line(spec: &Spec, env: &Env, k: usize) -> Line
     ensures { result ≡ needs_piece spec.now env.now k }
 {

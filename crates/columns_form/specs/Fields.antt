@@ -23,8 +23,8 @@ abbrev pub conf_field : Parts → Option ConfId → List ℕ
 conf_field spec None = []
 conf_field spec (Some c) = conf_name spec c.0
 
--- The fields of a mode: whether it is moving, the source, the halting configuration, the target and `since`. A stable
--- mode has only its configuration, in the field of the source.
+-- The fields of a mode: whether the mode is moving, the source, the halting configuration, the target and `since`.
+-- The configuration of a stable mode is in the field of the source, and the fields after it are empty.
 abbrev pub mode_fields : Parts → KMode → List ℕ
 mode_fields spec (Stable c) = codes ",0," ++ conf_name spec c.0 ++ codes ",,,"
 mode_fields spec (Moving from halting to since) =

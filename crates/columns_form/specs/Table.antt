@@ -38,6 +38,6 @@ fields_text spec row = row_fields spec row ++ fields_end spec row
 abbrev pub row_line_text : Parts → List Row → ℕ → List ℕ
 row_line_text spec rows k = option_map_or (fields_text spec) (slice_get rows k) []
 
--- The table of the rows: the line of the names of the columns, and a line for each row.
+-- The table of the rows: the line with the names of the columns, and a line for each row.
 abbrev pub columns_text : Parts → List Row → List Report → List ℕ
 columns_text spec rows reports = heads_text spec ++ texts_below (row_line_text spec rows) (length rows)

@@ -125,8 +125,8 @@ module _ (spec : Parts) (made : IsSpec spec) where
       gathered_shown (shown_of spec) (invariant_break spec) (invariant_refusal_at spec) (length spec.invariants) (λ k less.
       unheld_first k (slice_get spec.invariants k))
 
-  -- For each number, the refusal of the condition with the number equals the refusal for the first place in the list
-  -- with the number.
+  -- For each number, the refusal by the condition of this number equals the refusal for the first place in the
+  -- condition's list.
 
   by_test : (b : Bool) (xs ys : List Break) (o p : Option Shown) → first_shown spec xs ≡ o → first_shown spec ys ≡ p
       → first_shown spec (if b then xs else ys) ≡ (if b then o else p)

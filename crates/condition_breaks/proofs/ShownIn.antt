@@ -1,4 +1,4 @@
--- The environment of each place in a list belongs to the specification.
+-- If a place in the list of a condition contains an environment, the environment belongs to the specification.
 use Rattle.std.proofs.Common.{ℕ, ◌≡◌, ◌==◌, Bool, [], subst, sym, length}
 use Rattle.std.specs.Prelude.{Option, Some, None, ◌&&◌, slice_get}
 use Rattle.std.specs.Option.{option_map_or, option_to_list}

@@ -1,4 +1,5 @@
--- An invariant does not contain the range on some way if and only if acceptance refuses the invariant.
+-- Acceptance refuses an invariant if and only if there is a way whose range the invariant has to contain but does not
+-- contain.
 use Rattle.std.proofs.Common.{ℕ, ℤ, zero, suc, ◌≡◌, ◌∙◌, Bool, true, false, not, List, [], ◌∷◌, ◌++◌, ap, arith, int_le, length, refl, sym}
 use mathlib.Core.Logic.{inl, inr}
 use Rattle.std.specs.Prelude.{pos, ◌&&◌, ◌||◌, ◌==◌, ◌≤ℤ◌, Option, Some, None, option_map, if◌then◌else◌}
@@ -130,7 +131,7 @@ module _ (spec : Parts) (inv : Invariant) where
       ap (λ (b : Bool). holds_during spec inv 3 place.mode.0 && b) (leaving_is (Some place))
       ∙ reaching_held inv.least inv.greatest (inv.variable == 0) (ends (mode_range (kind_of_app spec inv.app.0) place.mode.0 inv.variable))
 
-  -- Lemmas on the first way of concatenated lists whose range is not contained.
+  -- Lemmas on the first way in concatenated lists whose range the invariant has to contain but does not contain.
 
   unheld_of_both : (xs ys : List Way) → first_unheld spec inv (xs ++ ys) ≡ option_or (first_unheld spec inv xs) (first_unheld spec inv ys)
   unheld_of_both [] ys = refl
@@ -142,7 +143,7 @@ module _ (spec : Parts) (inv : Invariant) where
   unheld_gathered ways (suc n) =
       unheld_of_both (gathered_below ways n) (ways n) ∙ ap (λ o. option_or o (first_unheld spec inv (ways n))) (unheld_gathered ways n)
 
-  -- Lemmas on the existence of a way in concatenated lists whose range is not contained.
+  -- Lemmas on whether concatenated lists contain a way whose range the invariant has to contain but does not contain.
 
   any_of_both : (xs ys : List Way) → list_any (is_unheld spec inv) (xs ++ ys) ≡ (list_any (is_unheld spec inv) xs || list_any (is_unheld spec inv) ys)
   any_of_both [] ys = refl

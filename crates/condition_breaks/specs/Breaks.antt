@@ -73,7 +73,7 @@ load_breaks spec = gathered_below (load_breaks_in spec) (length spec.confs)
 abbrev pub unmet_break : Parts → Requirement → ℕ → List Break
 unmet_break spec asked c = option_to_list (option_map (λ (v : Env). broken.Unmet asked (conf_id c) v) (first_unmet_env spec asked (conf_id c)))
 
--- The places at which a requirement is not met, by configuration.
+-- The places of A5, A6 or A7, at which the requirement `asked` is not met, by configuration.
 abbrev pub unmet_breaks : Parts → Requirement → List Break
 unmet_breaks spec asked = gathered_below (unmet_break spec asked) (length spec.confs)
 
@@ -81,12 +81,12 @@ unmet_breaks spec asked = gathered_below (unmet_break spec asked) (length spec.c
 abbrev pub start_breaks : Parts → List Break
 start_breaks spec = one_if (leaves_start spec) broken.StartLeft
 
--- The place of A9 for a bound from `i` to `j` if a bound is required and no sufficient bound is given, or the empty
--- list.
+-- The place of A9 for a bound from configuration `i` to configuration `j` if a bound is required and no sufficient
+-- bound is given, or the empty list.
 abbrev pub bound_break : Parts → ℕ → ℕ → List Break
 bound_break spec i j = one_if (lacks_bound spec (conf_id i) j) (broken.BoundLacking (conf_id i) (conf_id j))
 
--- The places of A9 for bounds from `i`, by target.
+-- The places of A9 for bounds from configuration `i`, by target.
 abbrev pub bound_breaks_from : Parts → ℕ → List Break
 bound_breaks_from spec i = gathered_below (bound_break spec i) (length spec.confs)
 
@@ -98,8 +98,8 @@ bound_breaks spec = gathered_below (bound_breaks_from spec) (length spec.confs)
 abbrev pub window_breaks : Parts → List Break
 window_breaks spec = one_if (has_short_window spec) broken.WindowShort
 
--- The place of A11 for invariant `k` and a way. The place contains the smallest interval that contains the range on
--- the way and all ranges that the invariant has to contain.
+-- The place of A11 for invariant `k` and the way `taken`. The place contains the smallest interval that contains the
+-- range on this way and all ranges that the invariant has to contain. Here `inv` is invariant `k`.
 abbrev pub unheld : Parts → ℕ → Invariant → Way → Break
 unheld spec k inv taken =
     broken.Unheld (record { invariant = k; way = taken; needed = hull_of spec inv (interval (range_on spec inv taken)) (all_ways spec) })

@@ -20,7 +20,7 @@ use Rattle.condition_breaks.specs.declared.breaks.Unheld.{Unheld}
 use Rattle.condition_breaks.specs.Breaks.{breaks}
 use Rattle.condition_breaks.specs.Form.{is_need_off}
 
--- The list contains a place.
+-- The list `found` contains `place`.
 abbrev pub HasPlace : List Break → Break → Type 0
 HasPlace found place = (i : ℕ) × (slice_get found i ≡ Some place)
 

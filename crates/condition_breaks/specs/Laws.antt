@@ -49,8 +49,7 @@ shown_of spec (broken.DemandMissed c k v) = shown_in 13 c.0 v (other.Demand k)
 abbrev pub first_shown : Parts → List Break → Option Shown
 first_shown spec found = option_map (shown_of spec) (slice_get found 0)
 
--- The refusal by condition A9 to A13 with the given number, or `None` if the condition holds or the number is not 9
--- to 13.
+-- The refusal by the condition of this number, or `None` if the condition holds or the number is not 9 to 13.
 abbrev pub later_refusal_by : Parts → ℕ → Option Shown
 later_refusal_by spec condition =
     if condition == 9 then bound_refusal spec else
@@ -59,8 +58,7 @@ later_refusal_by spec condition =
     if condition == 12 then precondition_refusal spec else
     if condition == 13 then demand_refusal spec else None
 
--- The refusal by condition A5 to A13 with the given number, or `None` if the condition holds or the number is not 5
--- to 13.
+-- The refusal by the condition of this number, or `None` if the condition holds or the number is not 5 to 13.
 abbrev pub choice_refusal_by : Parts → ℕ → Option Shown
 choice_refusal_by spec condition =
     if condition == 5 then requirement_refusal spec requirement.HasRule else
@@ -81,8 +79,8 @@ refusal_of_condition spec condition =
 abbrev pub FirstIsShown : Type 0
 FirstIsShown = (spec : Parts) → IsSpec spec → (condition : ℕ) → first_shown spec (breaks spec condition) ≡ refusal_of_condition spec condition
 
--- The refusal of a specification equals the refusal for the first place in the list of the condition that the refusal
--- names.
+-- The refusal of a specification equals the refusal for the first place in a list. The list is that of the condition
+-- that the refusal names.
 abbrev pub RefusalIsFirst : Type 0
 RefusalIsFirst = (spec : Parts) (shown : Shown) → IsSpec spec → first_refusal spec ≡ Some shown → first_shown spec (breaks spec shown.condition) ≡ Some shown
 
@@ -90,12 +88,12 @@ RefusalIsFirst = (spec : Parts) (shown : Shown) → IsSpec spec → first_refusa
 abbrev pub EachIsBroken : Type 0
 EachIsBroken = (spec : Parts) → IsSpec spec → (condition : ℕ) → Each (λ (found : Break). IsBroken spec (shown_of spec found)) (breaks spec condition)
 
--- The interval from `low` to `high` contains each range that an invariant has to contain.
+-- The interval from `low` to `high` contains each range that invariant `inv` has to contain.
 abbrev pub HoldsAsked : Parts → Invariant → ℤ → ℤ → Type 0
 HoldsAsked spec inv low high =
     Each (λ (taken : Way). has_source inv.from taken.from ≡ true → holds_range low high (range_on spec inv taken) ≡ true) (all_ways spec)
 
--- The interval `needed` contains each range that an invariant has to contain, and lies within every other such
+-- The interval `needed` contains each range that invariant `inv` has to contain, and lies within every other such
 -- interval.
 pub record IsLeastInterval (spec : Parts) (inv : Invariant) (needed : Extremes) : Type 0 where
   pub holds : HoldsAsked spec inv needed.least needed.greatest

@@ -6,6 +6,6 @@ abbrev pub gathered_below : {A : Type 0} → (ℕ → List A) → ℕ → List A
 gathered_below items zero = []
 gathered_below items (suc n) = gathered_below items n ++ items n
 
--- The list of one element if a test holds, or the empty list.
+-- The list of `item` alone if `test` is `true`, or the empty list.
 abbrev pub one_if : {A : Type 0} → Bool → A → List A
 one_if test item = if test then item ∷ [] else []

@@ -22,7 +22,8 @@ way_of i j = record { from = conf_id i; to = conf_id j }
 abbrev pub is_other_target : Parts → ℕ → ℕ → Bool
 is_other_target spec i j = is_target spec (conf_id i) j && not (i == j)
 
--- The way from `i` to `j` if `j` is another possible target of `i`, or the empty list.
+-- The way from configuration `i` to configuration `j` if `j` is a possible target of `i` and differs from `i`, or the
+-- empty list.
 abbrev pub way_to : Parts → ℕ → ℕ → List Way
 way_to spec i j = one_if (is_other_target spec i j) (way_of i j)
 
@@ -38,45 +39,45 @@ ways_from spec i = way_of i i ∷ other_ways spec i
 abbrev pub all_ways : Parts → List Way
 all_ways spec = gathered_below (ways_from spec) (length spec.confs)
 
--- The interval whose ends are the two numbers.
+-- The interval from the first number to the second.
 abbrev pub interval : ℤ × ℤ → Extremes
 interval ends = record { least = ends.0; greatest = ends.1 }
 
--- The range of an invariant's variable in a place, over all acts in the place's mode. The range is from 0 to 0 if the
--- application is off. Otherwise it is from 1 to 4 if the variable is the status.
+-- The range of the variable of invariant `inv` in a place, over all acts in the place's mode. The range is from 0 to
+-- 0 if the application is off. Otherwise it is from 1 to 4 if the variable is the status.
 abbrev pub range_asked : Parts → Invariant → Option Place → ℤ × ℤ
 range_asked spec inv None = (pos 0, pos 0)
 range_asked spec inv (Some place) = if inv.variable == 0 then (pos 1, pos 4) else during (kind_of_app spec inv.app.0) 1 place.mode.0 inv.variable
 
--- The range of an invariant's variable on a way: the range in the configuration at the end of the way.
+-- The range of the variable of invariant `inv` on a way: the range in the configuration at the end of the way.
 abbrev pub range_on : Parts → Invariant → Way → ℤ × ℤ
 range_on spec inv taken = range_asked spec inv (place_of spec taken.to inv.app.0)
 
--- Whether an invariant applies to the source of a way and does not contain the range at the way's end.
+-- Whether invariant `inv` applies to the source of a way and does not contain the range on the way.
 abbrev pub is_unheld : Parts → Invariant → Way → Bool
 is_unheld spec inv taken = has_source inv.from taken.from && not (holds_range inv.least inv.greatest (range_on spec inv taken))
 
--- The first way whose range an invariant has to contain and does not contain, or `None` if there is no such way.
+-- The first way whose range invariant `inv` has to contain and does not contain, or `None` if there is no such way.
 abbrev pub first_unheld : Parts → Invariant → List Way → Option Way
 first_unheld spec inv [] = None
 first_unheld spec inv (taken ∷ ways) = if is_unheld spec inv taken then Some taken else first_unheld spec inv ways
 
--- The smallest interval that contains an interval and a range.
+-- The smallest interval that contains the intervals `held` and `range`.
 abbrev pub hull : Extremes → ℤ × ℤ → Extremes
 hull held range = record { least = int_min held.least range.0; greatest = int_max held.greatest range.1 }
 
--- The smallest interval that contains an interval and, if an invariant applies to the source of a way, the range at the
--- way's end.
+-- The smallest interval that contains the interval `held` and, if invariant `inv` applies to the source of the way
+-- `taken`, the range on this way.
 abbrev pub hull_on : Parts → Invariant → Extremes → Way → Extremes
 hull_on spec inv held taken = if has_source inv.from taken.from then hull held (range_on spec inv taken) else held
 
--- The smallest interval that contains an interval and the range at the end of each way to whose source an invariant
+-- The smallest interval that contains the interval `held` and the range on each way to whose source invariant `inv`
 -- applies.
 abbrev pub hull_of : Parts → Invariant → Extremes → List Way → Extremes
 hull_of spec inv held [] = held
 hull_of spec inv held (taken ∷ ways) = hull_of spec inv (hull_on spec inv held taken) ways
 
--- The range that a precondition has to contain in a place: the range of its variable after the init phase, or the
+-- The range that precondition `pre` has to contain in a place: the range of its variable after the init phase, or the
 -- range from 0 to 0 if the application is off.
 abbrev pub range_entering : Parts → Precondition → Option Place → ℤ × ℤ
 range_entering spec pre None = (pos 0, pos 0)

@@ -30,7 +30,7 @@ pub enum Break {
     Unheld(Unheld),
     /// The precondition of this number can fail when its configuration is entered.
     PreconditionMissed(u32),
-    /// The table misses the demand of this number from a configuration in an environment, which is the first such
+    /// From a configuration, the table misses the demand of this number in an environment, which is the first such
     /// environment in scope.
     DemandMissed(ConfId, u32, Env),
 }
@@ -42,8 +42,9 @@ pub struct Way {
     pub to: ConfId,
 }
 
-/// The number of an invariant, the first way whose range the invariant has to contain but does not contain, and the
-/// smallest interval that contains all ranges that the invariant has to contain.
+/// A place of A11: an invariant that does not contain every range that it has to contain. `invariant` is the number
+/// of the invariant, and `way` is the first way with such a range that is not contained. `needed` is the smallest
+/// interval that contains all ranges that the invariant has to contain.
 #[derive(Clone, Copy, Debug, PartialEq, Eq)]
 pub struct Unheld {
     pub invariant: u32,

@@ -15,8 +15,8 @@ use cube_cover::cover;
 use scram_types::{ConfId, Env, NoMemory, Spec};
 use std::alloc::Global;
 
-// Appends the place of A5, A6 or A7 for each configuration that does not meet the requirement. A place contains the
-// first environment in scope in which the requirement is not met.
+// Appends the place of A5, A6 or A7 for each configuration that does not meet the requirement `asked` in some
+// environment in scope. A place contains the first environment in scope in which the requirement is not met.
 pub(crate) fn add_unmet_breaks(
     alloc: Global,
     breaks: &mut Vec<Break>,
@@ -32,8 +32,8 @@ pub(crate) fn add_unmet_breaks(
     Ok(())
 }
 
-// Returns the first environment in scope in which configuration `c` does not meet a requirement, or `None` if there is
-// none.
+// Returns the first environment in scope in which configuration `c` does not meet the requirement `asked`, or `None`
+// if there is none.
 fn first_unmet_env(
     alloc: Global,
     spec: &Spec,

@@ -13,8 +13,8 @@ use coverage_check::choosing::Requirement;
 use scram_types::{NoMemory, Spec};
 use std::alloc::Global;
 
-/// Returns the places at which the condition of this number does not hold, in order, or an empty list if the number
-/// is not 1 to 13.
+/// Returns the places at which the condition with the number `condition` does not hold, in order, or an empty list if
+/// the number is not 1 to 13.
 ///
 /// # Errors
 ///

@@ -1,4 +1,5 @@
-//! The places at which the conditions A1 to A4 do not hold. All but A2 are conditions on single configurations.
+//! The places at which the conditions A1 to A4 do not hold. A2 is a condition on the whole specification. The others
+//! are conditions on each configuration.
 
 ghost use Rattle.std.specs.Prelude.{◌≡◌, ◌++◌, OnOk};
 ghost use Rattle.condition_breaks.specs.Breaks.{load_break, load_breaks, load_breaks_in, need_break, need_breaks, need_breaks_in, need_breaks_of, shape_break, shape_breaks, state_breaks};
@@ -12,7 +13,8 @@ use coverage_check::places::{count_apps, count_confs, count_procs};
 use scram_types::limits::MAX_ENVIRONMENTS;
 use scram_types::{AppId, ConfId, NoMemory, ProcId, Spec};
 
-// Appends the place of A1 for each application that is on in a configuration while an application that it needs is off.
+// Appends the places of A1. There is a place for each application that is on in a configuration, and each application
+// that it needs and that is off in the configuration.
 pub(crate) fn add_need_breaks(breaks: &mut Vec<Break>, spec: &Spec) -> Result<(), NoMemory>
     ensures { OnOk result (breaks.new.items ≡ breaks.old.items ++ need_breaks spec.now) }
 {
@@ -80,7 +82,8 @@ pub(crate) fn add_state_breaks(breaks: &mut Vec<Break>, spec: &Spec) -> Result<(
     push_if(breaks, MAX_ENVIRONMENTS < states(spec), Break::ManyStates)
 }
 
-// Appends the place of A3 for each configuration that has no application on or is the same as an earlier configuration.
+// Appends the place of A3 for each configuration that has no application on or is the same as an earlier
+// configuration.
 pub(crate) fn add_shape_breaks(breaks: &mut Vec<Break>, spec: &Spec) -> Result<(), NoMemory>
     ensures { OnOk result (breaks.new.items ≡ breaks.old.items ++ shape_breaks spec.now) }
 {

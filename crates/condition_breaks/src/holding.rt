@@ -55,9 +55,9 @@ fn unheld_at(spec: &Spec, ways: &[Way], k: u32) -> Option<Break>
     }
 }
 
-// Returns the place of invariant `k`, or `None` if the invariant contains all ranges that it has to contain. The
-// place contains the first way whose range is missing, and the smallest interval that contains all ranges that the
-// invariant has to contain.
+// Returns the place of A11 for invariant `inv`, whose number is `k`, or `None` if the invariant contains all ranges
+// that it has to contain. The place contains the first way whose range is missing, and the smallest interval that
+// contains all ranges that the invariant has to contain.
 fn unheld_of(spec: &Spec, ways: &[Way], k: u32, inv: &Invariant) -> Option<Break>
     requires { ways.now ≡ all_ways spec.now }
     ensures { result ≡ unheld_of spec.now k inv.now }
@@ -97,8 +97,8 @@ fn unentered_at(spec: &Spec, k: u32) -> Option<Break>
     }
 }
 
-// Returns the place of precondition `k` if the precondition can fail when its configuration is entered, or `None` if
-// it cannot fail.
+// Returns the place of A12 for precondition `pre`, whose number is `k`, if the precondition can fail when its
+// configuration is entered, or `None` if it cannot fail.
 fn unentered_of(spec: &Spec, k: u32, pre: &Precondition) -> Option<Break>
     ensures { result ≡ unentered_of spec.now k pre.now }
 {

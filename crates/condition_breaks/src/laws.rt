@@ -9,8 +9,8 @@ pub fn first_is_shown()
     ensures { FirstIsShown }
 {}
 
-/// States that the refusal of a specification that is not accepted equals the refusal for the first place in the list
-/// of the condition that the refusal names.
+/// States that if a specification is not accepted, the refusal equals the refusal for the first place in a list. The
+/// list is that of the condition that the refusal names.
 pub fn refusal_is_first()
     ensures { RefusalIsFirst }
 {}

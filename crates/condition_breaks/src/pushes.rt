@@ -7,7 +7,7 @@ ghost use Rattle.condition_breaks.specs.Lists.{one_if};
 use crate::breaks::Break;
 use scram_types::NoMemory;
 
-// Appends a place if `test` is `true`.
+// Appends the place `found` if `test` is `true`.
 pub(crate) fn push_if(breaks: &mut Vec<Break>, test: bool, found: Break) -> Result<(), NoMemory>
     ensures { OnOk result (breaks.new.items ≡ breaks.old.items ++ one_if test found) }
 {

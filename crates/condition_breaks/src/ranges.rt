@@ -28,7 +28,7 @@ pub(crate) fn all_ways(alloc: Global, spec: &Spec) -> Result<Vec<Way>, NoMemory>
     Ok(ways)
 }
 
-// Appends the ways from configuration `i`. `set` contains the possible targets of `i`.
+// Appends the ways from configuration `i`. `set` contains the possible targets of configuration `i`.
 fn add_ways_from(ways: &mut Vec<Way>, spec: &Spec, set: u16, i: u8) -> Result<(), NoMemory>
     requires { set ≡ targets spec.now (conf_id i) }
     ensures { OnOk result (ways.new.items ≡ ways.old.items ++ ways_from spec.now i) }
@@ -64,7 +64,8 @@ fn add_way_to(ways: &mut Vec<Way>, spec: &Spec, set: u16, i: u8, j: u8) -> Resul
     Ok(())
 }
 
-// Returns `true` if configuration `j` is in `set`, the possible targets of configuration `i`, and differs from `i`.
+// Returns `true` if configuration `j` is in `set` and differs from configuration `i`. `set` contains the possible
+// targets of configuration `i`.
 fn is_other_target(spec: &Spec, set: u16, i: u8, j: u8) -> bool
     requires set { set ≡ targets spec.now (conf_id i) }
     requires inside { j < length spec.now.confs }
@@ -80,8 +81,8 @@ pub fn interval(least: i64, greatest: i64) -> Extremes
     Extremes { least, greatest }
 }
 
-// Returns the range of an invariant's variable in a place, over all acts in the place's mode. The range is from 0 to
-// 0 if the application is off. Otherwise it is from 1 to 4 if the variable is the status.
+// Returns the range of the variable of invariant `inv` in a place, over all acts in the place's mode. The range is
+// from 0 to 0 if the application is off. Otherwise it is from 1 to 4 if the variable is the status.
 fn range_asked(spec: &Spec, inv: &Invariant, place: Option<Place>) -> Extremes
     ensures { result ≡ interval (range_asked spec.now inv.now place) }
 {
@@ -98,15 +99,16 @@ fn range_asked(spec: &Spec, inv: &Invariant, place: Option<Place>) -> Extremes
     }
 }
 
-/// Returns the range of an invariant's variable on a way: the range in the configuration at the end of the way.
+/// Returns the range of the variable of invariant `inv` on a way: the range in the configuration at the end of the
+/// way.
 pub fn range_on(spec: &Spec, inv: &Invariant, way: &Way) -> Extremes
     ensures { result ≡ interval (range_on spec.now inv.now way.now) }
 {
     range_asked(spec, inv, spec.place_of(way.to, inv.app))
 }
 
-// Returns the first way whose range an invariant has to contain and does not contain, or `None` if there is no such
-// way.
+// Returns the first way in `ways` whose range invariant `inv` has to contain and does not contain, or `None` if there
+// is no such way.
 pub(crate) fn first_unheld(spec: &Spec, inv: &Invariant, ways: &[Way]) -> Option<Way>
     ensures { result ≡ first_unheld spec.now inv.now ways.now }
 {
@@ -124,7 +126,7 @@ fn is_unheld(spec: &Spec, inv: &Invariant, way: &Way) -> bool
     speaks_of(inv, way) && !holds(inv, &range_on(spec, inv, way))
 }
 
-// Returns `true` if an invariant applies to the source of a way.
+// Returns `true` if invariant `inv` applies to the source of a way.
 fn speaks_of(inv: &Invariant, way: &Way) -> bool
     ensures { result ≡ has_source inv.now.from way.now.from }
 {
@@ -140,8 +142,8 @@ fn holds(inv: &Invariant, range: &Extremes) -> bool
     inv.least <= range.least && range.greatest <= inv.greatest
 }
 
-// Returns the smallest interval that contains the range at the end of the way `first` and the range at the end of each
-// way to whose source an invariant applies.
+// Returns the smallest interval that contains the range on the way `first`, and the range on each way in `ways` to
+// whose source invariant `inv` applies.
 pub(crate) fn hull_of(spec: &Spec, inv: &Invariant, first: &Way, ways: &[Way]) -> Extremes
     ensures { result ≡ hull_of spec.now inv.now (interval (range_on spec.now inv.now first.now)) ways.now }
 {
@@ -162,7 +164,7 @@ fn hull_on(spec: &Spec, inv: &Invariant, held: &Extremes, way: &Way) -> Extremes
     }
 }
 
-// Returns the smallest interval that contains both intervals.
+// Returns the smallest interval that contains the intervals `held` and `range`.
 fn hull(held: &Extremes, range: &Extremes) -> Extremes
     ensures { result ≡ hull held.now (range.now.least, range.now.greatest) }
 {
@@ -172,8 +174,8 @@ fn hull(held: &Extremes, range: &Extremes) -> Extremes
     }
 }
 
-/// Returns the range that a precondition has to contain in a place: the range of its variable after the init phase,
-/// or the range from 0 to 0 if the application is off.
+/// Returns the range that precondition `pre` has to contain in a place: the range of its variable after the init
+/// phase, or the range from 0 to 0 if the application is off.
 pub fn range_entering(spec: &Spec, pre: &Precondition, place: Option<Place>) -> Extremes
     ensures { result ≡ interval (range_entering spec.now pre.now place) }
 {

@@ -56,8 +56,8 @@ fn lacks_bound(spec: &Spec, set: u16, i: ConfId, j: ConfId) -> bool
     is_asked(spec, set, i, j) && !is_bounded(spec, i, j)
 }
 
-// Returns `true` if a bound from `i` to `j` is required. `set` contains the configurations to which a bound from `i`
-// is required.
+// Returns `true` if a bound from configuration `i` to configuration `j` is required. `set` contains the
+// configurations to which a bound from configuration `i` is required.
 fn is_asked(spec: &Spec, set: u16, i: ConfId, j: ConfId) -> bool
     requires set { set ≡ asked_bounds spec.now i }
     requires inside { j.0 < length spec.now.confs }

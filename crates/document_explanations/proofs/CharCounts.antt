@@ -57,7 +57,7 @@ cut_by : (more : Bool) (text short : List ℕ) → nat_lt 60 (char_count text) �
 cut_by true text short is shown same = absurd (omega (arith, shorter_text 60 text (ltb-true 60 (char_count text) is), ap length shown, same))
 cut_by false text short is shown same = refl
 
--- If the first 60 characters of a text are as long as the text, the whole text is shown.
+-- If the first 60 characters of a text are as long as the text, `cut` returns the whole text.
 pub cut_whole : (text short : List ℕ) → short ≡ take_chars 60 text → length short ≡ length text → cut text ≡ text
 cut_whole text short shown same = cut_by (nat_lt 60 (char_count text)) text short refl shown same
 
@@ -67,7 +67,8 @@ dots_by true text short is shown other = ap (λ (t : List ℕ). t ++ codes "..")
 dots_by false text short is shown other =
     absurd (other (ap length (shown ∙ whole_text 60 text (not_less 60 (char_count text) is))))
 
--- If the first 60 characters of a text are shorter than the text, they are shown with two dots after them.
+-- If the first 60 characters of a text are shorter than the text, `cut` returns these characters followed by two
+-- dots.
 pub cut_dots : (text short : List ℕ) → short ≡ take_chars 60 text → (length short ≡ length text → ⊥) → cut text ≡ short ++ codes ".."
 cut_dots text short shown other = dots_by (nat_lt 60 (char_count text)) text short refl shown other
 
@@ -103,6 +104,6 @@ short_by : (more : Bool) (text : List ℕ) → nat_lt 60 (char_count text) ≡ m
 short_by true text is = omega (arith, joined_characters (take_chars 60 text) (codes ".."), few_characters 60 text, two_dots)
 short_by false text is = omega (arith, not_less 60 (char_count text) is)
 
--- At most 62 characters of a text are shown.
+-- `cut` shortens each text to at most 62 characters, including the two dots at the end of a shortened text.
 pub short : (text : List ℕ) → char_count (cut text) ≤ 62
 short text = short_by (nat_lt 60 (char_count text)) text refl

@@ -9,7 +9,7 @@ no_float (unsigned n) = refl
 no_float (negative z) = refl
 no_float (float x) = refl
 
--- A value in which each float is replaced by a text has no float.
+-- The value that `without_floats` returns has no float.
 mutual
   pub has_no_float : (d : Data) → has_float (without_floats d) ≡ false
   has_no_float null = refl

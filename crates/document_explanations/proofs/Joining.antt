@@ -24,7 +24,7 @@ joined_three a b c d = three_more a b c d ∙ ap (λ (rest : List ℕ). a ++ res
 pub joined_four : (a b c d e : List ℕ) → (((a ++ b) ++ c) ++ d) ++ e ≡ a ++ (b ++ c ++ d ++ e)
 joined_four a b c d e = four_more a b c d e ∙ ap (λ (rest : List ℕ). a ++ rest) (sym (three_more b c d e))
 
--- The text of the rule that limits the number of bytes of a document. `limit` is the decimal text of that number.
+-- The text of the rule that limits the number of bytes of a document. `limit` is the maximum number in decimal.
 abbrev pub limit_end : List ℕ → List ℕ
 limit_end limit = codes "more than" ++ (codes " " ++ limit ++ codes " bytes")
 

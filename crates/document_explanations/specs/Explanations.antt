@@ -23,7 +23,7 @@ abbrev pub wanted_line : DocumentKind → Option Parts → DocumentRule → List
 wanted_line kind spec rule path =
     if shows_wanted rule.shows then codes "  wanted: " ++ wanted_part kind spec rule.number path ++ codes "\n" else []
 
--- The text of the value that was found at a path where a rule is broken, cut after 60 characters. It is empty if
+-- The text of the value that was found at a path where a rule is broken, shortened by `cut`. The text is empty if
 -- `document` is `None`, which means that the bytes are not a JSON text.
 abbrev pub found_part : DocumentKind → ℕ → List ℕ → Option Data → List ℕ
 found_part kind rule path document = option_map_or (λ (d : Data). cut (found_text_at kind rule path d)) document []

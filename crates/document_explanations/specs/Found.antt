@@ -41,8 +41,8 @@ further_names d object (member name value members) =
 abbrev pub further_text : Data → Object → Members → List ℕ
 further_text d object members = listed (map quoted (further_names d object members))
 
--- The names of the members of `value` that are not in the table of the expected object, or the empty text if no
--- object is expected or `value` is not an object.
+-- The names of the members of `value` that the table of the expected object does not have for the version of document
+-- `d`, or the empty text if no object is expected or `value` is not an object.
 abbrev pub further_members : Data → Option Wanted → Data → List ℕ
 further_members d None value = []
 further_members d (Some (wanted.Object object)) value = option_map_or (further_text d object) (as_object value) []
@@ -56,14 +56,14 @@ elements_text value = option_map_or (λ (items : Items). decimal (items_len item
 
 -- The text that is shown for `value`, which was found at a path of document `d` where `rule` is broken. It has the
 -- names of the members that are not known if `rule` is `FURTHER_MEMBER`, and the number of elements if `rule` is
--- `WRONG_LENGTH`. For any other rule, it is the value itself.
+-- `WRONG_LENGTH`. For any other rule, it is the JSON text of the value.
 abbrev pub found_in : DocumentKind → ℕ → List ℕ → Data → Data → List ℕ
 found_in kind rule path d value =
     if rule == FURTHER_MEMBER then further_members d (wanted_at kind rule path) value
     else (if rule == WRONG_LENGTH then elements_text value else value_text value)
 
--- The text that is shown for the value at a path where a rule is broken, or the empty text if the document has no such
--- path.
+-- The text that is shown for the value at a path where a rule is broken, or the empty text if the document has no
+-- such path.
 abbrev pub found_text_at : DocumentKind → ℕ → List ℕ → Data → List ℕ
 found_text_at kind rule path d = option_map_or (found_in kind rule path d) (value_at path d) []
 

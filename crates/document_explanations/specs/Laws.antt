@@ -15,7 +15,8 @@ abbrev pub names_of : Data → Object → List (List ℕ)
 names_of d object = map (λ (m : Member). m.name) (filter (λ (m : Member). is_version_of d m.versions) (members_of object))
 
 -- The table of a specification has the members that the reader of specifications expects for the version of a
--- document, in order. For specifications and scripts, the number of members is the number that the reader expects.
+-- document, in order. For a specification and for a script, the table's number of members is the number that the
+-- reader expects.
 pub record TablesAreRead : Type 0 where
   pub specification : (d : Data) → names_of d object.Specification
       ≡ first_members ++ (if has_policy d then codes "policy" ∷ [] else []) ++ (if has_demands d then codes "demands" ∷ [] else [])

@@ -1,5 +1,5 @@
--- The objects of specifications and scripts, with their members in the order in which they are read and the expected
--- value of each.
+-- The objects of specifications and scripts. Each object has a list of its members with their expected values, in the
+-- order in which the members are read.
 use Rattle.std.specs.Prelude.{ℕ, ℤ, neg_ℤ, pos, List, [], ◌∷◌, Option, Some, None, codes, bytes_eq, if◌then◌else◌}
 use Rattle.scram_types.specs.declared.limits.TheConstants.{MAX_ALTITUDE, MAX_APPLICATIONS, MAX_ASSUMED_CHANGES, MAX_ASSUMED_HALTS, MAX_BOUND, MAX_BOUNDS, MAX_CHANGES, MAX_CONFIGURATIONS, MAX_DEMANDS, MAX_FACTORS, MAX_FRAMES, MAX_HEADING, MAX_INTERVAL_END, MAX_INTERVALS, MAX_LOAD, MAX_MODES, MAX_PHASE, MAX_PROCESSORS, MAX_RULES, MAX_VALUES, MAX_WINDOW, MIN_VALUES}
 use Rattle.document_explanations.specs.declared.objects.Element.{Element}

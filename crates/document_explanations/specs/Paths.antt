@@ -21,7 +21,7 @@ abbrev pub after_dot : List ℕ → List ℕ
 after_dot [] = []
 after_dot (b ∷ path) = if b == 46 then path else []
 
--- The levels of a text, separated by dots. An empty text has no levels.
+-- The levels in a text, which are separated by dots. An empty text has no levels.
 abbrev pub levels_in : List ℕ → List (List ℕ)
 levels_in [] = []
 levels_in (b ∷ text) = pieces_of 46 (b ∷ text)
@@ -43,8 +43,8 @@ wanted_below (wanted.List length element) level = Some (wanted_element element)
 wanted_below (wanted.Number number) level = None
 wanted_below (wanted.Text text) level = None
 
--- The expected value that is reached from the expected value `w` along the levels, or `None` if there are no such
--- levels.
+-- The expected value that is reached from the expected value `w` along the levels, or `None` if no expected value is
+-- reached.
 abbrev pub wanted_along : List (List ℕ) → Wanted → Option Wanted
 wanted_along [] w = Some w
 wanted_along (level ∷ levels) w = option_and_then (wanted_along levels) (wanted_below w level)

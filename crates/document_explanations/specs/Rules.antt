@@ -30,7 +30,8 @@ pub record DocumentRule : Type 0 where
 abbrev pub rule_read : TableRule → DocumentRule
 rule_read r = record { number = r.number; text = r.text.now; limit = r.limit; shows = r.shows }
 
--- A rule with this number and this text, without a limit. `shows` states which parts of its explanation are shown.
+-- A rule with this number and this text, without a limit. `shows` states which parts of an explanation are shown if
+-- the rule is broken.
 abbrev pub says : ℕ → List ℕ → Shows → DocumentRule
 says number text shows = record { number = number; text = text; limit = None; shows = shows }
 
@@ -86,7 +87,7 @@ abbrev pub rule_in : List DocumentRule → ℕ → Option DocumentRule
 rule_in [] number = None
 rule_in (rule ∷ rules) number = if rule.number == number then Some rule else rule_in rules number
 
--- The rule with this number of a kind of document, or `None` if there is none.
+-- The rule with this number that a document of this kind has, or `None` if there is none.
 abbrev pub broken_rule : DocumentKind → ℕ → Option DocumentRule
 broken_rule kind number = option_or (rule_in common_rules number) (rule_in (own_rules kind) number)
 

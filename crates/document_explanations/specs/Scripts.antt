@@ -12,11 +12,11 @@ use Rattle.flight_forms.specs.Lines.{script_line}
 use Rattle.document_explanations.specs.Explanations.{explanation}
 use Rattle.document_explanations.specs.declared.rules.DocumentKind.TheVariants.{Script}
 
--- The lines that follow the first line of the refusal of bytes that break a rule of scripts for a specification.
+-- The explanation of a script's fault. Its lines follow the first line of the refusal.
 abbrev pub script_explanation : Parts → DocFault → List ℕ → List ℕ
 script_explanation spec fault bytes = explanation Script (Some spec) fault.rule fault.path (document bytes)
 
--- The line for a fault of a script in these bytes, followed by its explanation.
+-- The first line of the refusal for a script's fault, followed by the explanation of the fault.
 abbrev pub explained_script_text : Parts → DocFault → List ℕ → List ℕ
 explained_script_text spec fault bytes = script_line fault ++ script_explanation spec fault bytes
 

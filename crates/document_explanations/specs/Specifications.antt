@@ -12,11 +12,11 @@ use Rattle.form_base.specs.Specifications.{BreaksSpecification, SaysSpecificatio
 use Rattle.document_explanations.specs.Explanations.{explanation}
 use Rattle.document_explanations.specs.declared.rules.DocumentKind.TheVariants.{Specification}
 
--- The lines that follow the first line of the refusal of bytes that break a rule of specifications.
+-- The explanation of a specification's fault. Its lines follow the first line of the refusal.
 abbrev pub specification_explanation : DocFault → List ℕ → List ℕ
 specification_explanation fault bytes = explanation Specification None fault.rule fault.path (document bytes)
 
--- The line for a fault of a specification in these bytes, followed by its explanation.
+-- The first line of the refusal for a specification's fault, followed by the explanation of the fault.
 abbrev pub explained_specification_text : SpecFault → List ℕ → List ℕ
 explained_specification_text fault bytes =
     specification_line fault ++ explanation Specification None fault.rule fault.path (document bytes)

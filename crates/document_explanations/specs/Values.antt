@@ -26,7 +26,7 @@ abbrev mutual
   members_without_floats no_members = no_members
   members_without_floats (member k d ms) = member k (without_floats d) (members_without_floats ms)
 
--- The JSON text of a value without spaces, in which each number that is read as a float is replaced by the text `a
+-- The JSON text of a value, written without spaces. Each number that is read as a float is replaced by the text `a
 -- float`.
 abbrev pub value_text : Data → List ℕ
 value_text d = compact_text (without_floats d)

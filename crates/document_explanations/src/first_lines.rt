@@ -11,8 +11,8 @@ use reconf_spec::SpecFault;
 use scram_doc::Path;
 use scram_types::{Name, NoMemory};
 
-/// Appends the line for a specification document that breaks a rule. If the needs have a cycle, the line names the
-/// applications in it.
+/// Appends the line for a specification document that breaks a rule. The line has the rule's number and the path at
+/// which the rule is broken. If `fault` names the applications in a cycle of needs, the line also has their names.
 ///
 /// # Errors
 ///
@@ -26,7 +26,8 @@ pub fn add_specification_line(lines: &mut Lines, fault: &SpecFault) -> Result<()
     lines.push("\n")
 }
 
-/// Appends the line for a script document that breaks a rule.
+/// Appends the line for a script document that breaks a rule, with the rule's number and the path at which the rule
+/// is broken.
 ///
 /// # Errors
 ///

@@ -131,8 +131,9 @@ fn elements_text(alloc: Global, value: &Value) -> Result<String, NoMemory>
     }
 }
 
-/// Returns the text that is shown for the value at a path where a rule is broken, or the empty text if the document has
-/// no such path.
+/// Returns the text that is shown for the value at `path`, where `rule` is broken, or the empty text if the document
+/// has no such path. The text has the names of the members that are not known if `rule` is `FURTHER_MEMBER`, and the
+/// number of elements if `rule` is `WRONG_LENGTH`. For any other rule, it is the JSON text of the value.
 ///
 /// # Errors
 ///

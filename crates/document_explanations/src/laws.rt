@@ -3,7 +3,8 @@
 ghost use Rattle.document_explanations.specs.Laws.{FoundIsShort, TablesAreRead};
 
 /// States that the table of a specification has the members that the reader of specifications expects for the version
-/// of a document. For specifications and scripts, the number of members is the number that the reader expects.
+/// of a document. Also states, for a specification and for a script, that the table's number of members is the number
+/// that the reader expects.
 pub fn tables_are_read()
     ensures { TablesAreRead }
 {}

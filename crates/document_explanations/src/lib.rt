@@ -1,5 +1,5 @@
-//! Explanations of broken rules. An explanation consists of the text of the rule, the expected value and the value
-//! that was found.
+//! Explanations of the rules that a specification or a script document breaks. An explanation has the text of the
+//! rule. For most rules it also has the expected value, the value that was found, or both.
 #![tactic(auto)]
 
 pub mod explanations;

@@ -80,7 +80,7 @@ fn versions_text(versions: Versions) -> &'static str
     }
 }
 
-/// Returns the kinds in the order of their numbers.
+/// Returns the kinds of application in the order of their numbers.
 pub fn kinds() -> &'static [Kind]
     ensures { map kind_read result.now ≡ kinds }
 {
@@ -95,7 +95,7 @@ pub fn kinds() -> &'static [Kind]
     KINDS
 }
 
-/// The way to show a kind: its name.
+/// The way to show a kind of application: its name.
 pub struct KindText;
 
 impl Shown<Kind> for KindText {
@@ -109,7 +109,7 @@ impl Shown<Kind> for KindText {
     }
 }
 
-/// The way to show a kind: its name, and the names of its modes.
+/// The way to show a kind of application: its name, and the names of its modes.
 pub struct ModesText;
 
 impl Shown<Kind> for ModesText {
@@ -134,7 +134,7 @@ fn add_modes(lines: &mut Lines, names: &[Option<&'static str>]) -> Result<(), No
     Ok(())
 }
 
-// Appends a name, preceded by a space, if there is one.
+// Appends a space and the name, or nothing if there is no name.
 fn add_spaced(lines: &mut Lines, name: Option<&'static str>) -> Result<(), NoMemory>
     ensures { OnOk result (lines.new ≡ lines.old ++ name_spaced (option_map (λ s. s.now) name.entry)) }
 {
@@ -147,7 +147,7 @@ fn add_spaced(lines: &mut Lines, name: Option<&'static str>) -> Result<(), NoMem
     }
 }
 
-/// The way to show a kind: its name, and the names of the variables that it uses.
+/// The way to show a kind of application: its name, and the names of the variables that it uses.
 pub struct VariablesText;
 
 impl Shown<Kind> for VariablesText {

@@ -9,7 +9,7 @@ use form_base::lines::add_rule;
 use scram_doc::Path;
 use trace_text::lines::Line;
 
-/// Returns the lines for a document with more bytes than its limit: a line with `first` and the number of the broken
+/// Returns the lines for a document with more than `limit` bytes: a line with `first` and the number of the broken
 /// rule, and a line with the rule's text.
 pub fn make_long_lines(first: &[u8], rule: u8, limit: u32) -> Line
     requires { length first.now ≤ 22 }

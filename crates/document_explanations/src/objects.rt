@@ -1,4 +1,4 @@
-//! The objects of specifications and scripts, with the tables of their members and the expected value of each.
+//! The objects of specifications and scripts. Each object has a table of its members with their expected values.
 
 ghost use Rattle.std.specs.Prelude.{◌≡◌, map, option_map};
 ghost use Rattle.document_explanations.specs.Objects.{member_named, member_read, members_of};
@@ -42,7 +42,7 @@ pub enum Object {
     Restart,
 }
 
-/// The versions of a document that have a member.
+/// The versions of a document in which an object has a member.
 #[derive(Clone, Copy)]
 pub enum Versions {
     /// Every version.
@@ -55,7 +55,7 @@ pub enum Versions {
     Second,
 }
 
-/// The number of elements of a list.
+/// The expected number of elements of a list.
 #[derive(Clone, Copy)]
 pub enum Length {
     Within { least: usize, most: usize },
@@ -74,7 +74,7 @@ pub enum Number {
     Whole { least: u32, greatest: u32 },
     /// A number from `least` to `greatest`, which may be negative.
     Signed { least: i64, greatest: i64 },
-    /// A frame of a script. Its number is at least `least`.
+    /// The number of a frame of a script, from `least` to the number of the script's last frame.
     Frame { least: u32 },
     /// The step of a frame at which a processor halts.
     Step,
@@ -105,13 +105,13 @@ pub enum Text {
     Variable,
     /// The name of a policy.
     Policy,
-    /// The name of a factor of the specification that a script is for, or the name of a value of the factor.
+    /// The name of a factor, or of a factor's value, in the specification that a script is for.
     ScriptFactor,
-    /// The name of a processor of the specification that a script is for.
+    /// The name of a processor in the specification that a script is for.
     ScriptProcessor,
 }
 
-/// The kind of the elements of a list.
+/// The expected value of each element of a list, which is an object or a text.
 #[derive(Clone, Copy)]
 pub enum Element {
     Object(Object),
@@ -127,7 +127,7 @@ pub enum Wanted {
     Text(Text),
 }
 
-/// A member of an object.
+/// A member of an object, with its name, the versions of the document that have it, and its expected value.
 #[derive(Clone, Copy)]
 pub struct Member {
     pub name: &'static str,
@@ -398,7 +398,7 @@ pub fn members_of(object: Object) -> &'static [Member]
     }
 }
 
-/// Returns the member with this name of an object, or `None` if there is none.
+/// Returns the member of `object` with the name `name`, or `None` if there is none.
 pub fn find_member(object: Object, name: &str) -> Option<Member>
     ensures { option_map member_read result ≡ member_named (members_of object) name.now }
 {

@@ -25,7 +25,8 @@ fn after_dot(path: &Path) -> &str
     }
 }
 
-// Returns the first level and the text after the dot that ends it, or `None` if there is only one level.
+// Returns the first level of `levels` and the text after the dot that ends this level, or `None` if there is only one
+// level.
 fn split_level(levels: &str) -> Option<(&str, &str)>
     ensures pieces { MatchOption result (pieces_of 46 levels.now ≡ levels.now ∷ [])
         (λ parts. pieces_of 46 levels.now ≡ parts.0.now ∷ pieces_of 46 parts.1.now) }
@@ -57,8 +58,8 @@ fn wanted_element(element: Element) -> Wanted
     }
 }
 
-// Returns the expected value that is reached from `start` along all levels but the last, and the last level, or
-// `None` if there are no such levels.
+// Returns the expected value that is reached from `start` along all levels but the last, together with the last
+// level. Returns `None` if no expected value is reached.
 fn descend(start: Wanted, levels: &str) -> Option<(Wanted, &str)>
     ensures whole { wanted_along (pieces_of 46 levels.now) start ≡ option_and_then (λ end. wanted_below end.0 end.1.now) result }
     ensures above { wanted_along (all_but_last (pieces_of 46 levels.now)) start ≡ option_map (λ end. end.0) result }
@@ -90,8 +91,8 @@ pub fn wanted_at(kind: DocumentKind, rule: u8, path: &Path) -> Option<Wanted>
     }
 }
 
-// Returns the member whose name is a level, or else the element whose index is the level, or `None` if there is
-// neither.
+// Returns the member of `v` whose name is `level`, or else the element of `v` whose index is `level`, or `None` if
+// there is neither.
 fn child<'a>(v: &'a Value, level: &str) -> Option<&'a Value>
     ensures { option_map (λ d. view d.now) result ≡ child level.now (view v.now) }
 {

@@ -43,11 +43,12 @@ pub enum Shows {
     Both,
 }
 
-/// A rule of a document.
+/// A rule: its number, its text, the limit in bytes that is shown after the text, if the rule has one, and the parts
+/// of an explanation that are shown if the rule is broken.
 #[derive(Clone, Copy)]
 pub struct DocumentRule {
     pub number: u8,
-    /// The text of the rule, which the limit in bytes follows if there is one.
+    /// The text of the rule. If the rule has a limit in bytes, the limit is shown after the text.
     pub text: &'static str,
     pub limit: Option<usize>,
     pub shows: Shows,
@@ -211,7 +212,7 @@ fn rule_in(rules: &[DocumentRule], number: u8) -> Option<DocumentRule>
     None
 }
 
-/// Returns the rule with this number of a kind of document, or `None` if there is none.
+/// Returns the rule with the number `number` that a document of this kind has, or `None` if there is none.
 pub fn broken_rule(kind: DocumentKind, number: u8) -> Option<DocumentRule>
     ensures { option_map rule_read result ≡ broken_rule kind number }
 {

@@ -20,7 +20,8 @@ use scram_types::limits::MAX_SCRIPT_BYTES;
 use scram_types::{NoMemory, Script, Spec};
 use std::alloc::Global;
 
-/// The kind of document that holds a script for a specification. A broken rule is explained.
+/// The kind of document that encodes a script for the specification `spec`. The refusal of a document that breaks a
+/// rule explains the rule.
 #[derive(Clone, Copy)]
 pub struct ExplainedScript<'a> {
     pub spec: &'a Spec,
@@ -46,7 +47,8 @@ fn explain<'a>(
     Ok(lines.into_text())
 }
 
-// Returns the refusal of bytes that break a rule, or an out-of-memory refusal if its lines cannot be allocated.
+// Returns the refusal of bytes that break a rule, or the out-of-memory refusal if the lines of that refusal cannot be
+// allocated.
 fn refuse(alloc: Global, spec: &Spec, fault: &ScriptFault, bytes: &[u8]) -> Refusal
     ensures { (answer_of result ≡ (BROKEN_SCRIPT, explained_script_text spec.now fault.now bytes.now)) ⊎ IsOutOfMemory (answer_of result) }
 {

@@ -20,7 +20,7 @@ use scram_types::limits::MAX_SPECIFICATION_BYTES;
 use scram_types::{NoMemory, Spec};
 use std::alloc::Global;
 
-/// The kind of document that holds a specification. A broken rule is explained.
+/// The kind of document that encodes a specification. The refusal of a document that breaks a rule explains the rule.
 #[derive(Clone, Copy)]
 pub struct ExplainedSpecification;
 
@@ -39,7 +39,8 @@ fn explain<'a>(alloc: Global, fault: &'a SpecFault, bytes: &'a [u8]) -> Result<S
     Ok(lines.into_text())
 }
 
-// Returns the refusal of bytes that break a rule, or an out-of-memory refusal if its lines cannot be allocated.
+// Returns the refusal of bytes that break a rule, or the out-of-memory refusal if the lines of that refusal cannot be
+// allocated.
 fn refuse(alloc: Global, fault: &SpecFault, bytes: &[u8]) -> Refusal
     ensures { (answer_of result ≡ (BROKEN_SPECIFICATION, explained_specification_text fault.now bytes.now)) ⊎ IsOutOfMemory (answer_of result) }
 {

@@ -59,7 +59,7 @@ fn members_without_floats(
     Ok(copies)
 }
 
-/// Returns the JSON text of a value without spaces, in which each number that is read as a float is replaced by the
+/// Returns the JSON text of a value, written without spaces. Each number that is read as a float is replaced by the
 /// text `a float`.
 ///
 /// # Errors

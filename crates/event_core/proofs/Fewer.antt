@@ -94,7 +94,7 @@ module _ (m : Flight) (at : Places) (words : Word → ℕ) (y : Flies m) (k : Ke
   acting : (p : ℕ) (e : Event) → next_of m at words p ≡ Some e → (p < m.procs) × (next_from m p (words ReleaseWord) (at.proc p) ≡ Some e)
   acting p e i = let g = gate (nat_lt p m.procs) (next_from m p (words ReleaseWord) (at.proc p)) e i in (is_less p m.procs g.0, g.1)
 
-  -- A processor that has begun a frame is in a frame of the flight.
+  -- If a processor has made a step in frame `f`, then `f` is a frame of the flight.
   pub begun_low : (p f n : ℕ) → p < m.procs → at.proc p ≡ At f n → 0 < n → f < m.frames
   begun_low p f n l here begun = let r : Running m at.frame at.step p f n = rw here at (k.placed p l) in by_frame r (dec_le f at.frame)
     where

@@ -27,11 +27,11 @@ pub record CoreParts : Type 0 where
   pub stored : List ℕ
   pub history : List Event
 
--- The parts of a core, given its places, its words in one list, and its history.
+-- The parts of a core, given its specification, its script, its places, its words in one list, and its history.
 abbrev pub core_of : Parts → ScriptParts → KeptPlaces → List ℕ → List Event → CoreParts
 core_of spec script places stored history = record { spec = spec; script = script; places = places; stored = stored; history = history }
 
--- The flight that a core flies, as a flight of the event machine.
+-- The flight of a core's specification and script, as a flight of the event machine.
 abbrev pub core_flight : CoreParts → Flight
 core_flight core = flight_of core.spec core.script
 
@@ -64,7 +64,7 @@ next_event core event = next_of_actor (core_flight core) (core_places core) (cor
 abbrev pub IsWordIn : CoreParts → Event → ℕ → Type 0
 IsWordIn core event word = IsEventWord (core_flight core) (core_places core) event word
 
--- The event takes the first core to the second.
+-- The event takes core `old` to core `new`.
 abbrev pub HappensIn : CoreParts → Event → CoreParts → Type 0
 HappensIn old event new = Happens (core_flight old) (core_places old) (core_words old) event (core_places new) (core_words new)
 
@@ -77,7 +77,7 @@ RefusesEvent core event told = (next_event core event ≢ Some event) × (told.g
 abbrev pub frames_ended : Parts → KeptPlaces → ℕ
 frames_ended spec places = if nat_le (length spec.procs) places.step then places.frame + 1 else places.frame
 
--- Whether an event is the last note of a frame, the note of the last processor.
+-- Whether an event is the last note of a frame, which is the note of the last processor.
 abbrev pub ends_frame : Parts → Event → Bool
 ends_frame spec (KNote p) = nat_eq (p.0 + 1) (length spec.procs)
 ends_frame spec (Start p) = false

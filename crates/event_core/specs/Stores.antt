@@ -20,8 +20,8 @@ IsEventWord m at (Halt p) word = Unit {0}
 IsEventWord m at (KNote p) word = Unit {0}
 IsEventWord m at Release word = Unit {0}
 
--- The numbers of an event are in range. The processor that acts or is noted is below 8, and the index of a stored word
--- is within the bank or the kernel's words.
+-- The numbers of an event are in range. The number of the processor that acts or is noted is below 8, and the index
+-- of a stored word is within the bank or the kernel's words.
 abbrev pub IsInside : Event → Type 0
 IsInside (Store p i) = (p.0 < 8) × (i < 64)
 IsInside (KStore i) = i < 20

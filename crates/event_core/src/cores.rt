@@ -82,8 +82,8 @@ impl<'a> Core<'a> {
         })
     }
 
-    /// Returns the next event of a processor. Returns `None` if and only if the processor waits for the release, has
-    /// halted for good, has flown all frames, or does not exist.
+    /// Returns the next event of processor `p`. Returns `None` if and only if the processor waits for the release,
+    /// has halted for good, has flown all frames, or does not exist.
     pub fn next_of(&self, p: ProcId) -> Option<Event>
         ensures { result ≡ next_of (core_flight self.now) (core_places self.now) (core_words self.now) p.0 }
     {
@@ -98,7 +98,7 @@ impl<'a> Core<'a> {
         next_kernel(self.spec, self.script, &self.places, &self.stored)
     }
 
-    /// Returns a processor's current frame, or the frame in which it halted.
+    /// Returns the current frame of processor `p`, or the frame in which it halted. The processor must exist.
     pub fn frame_of(&self, p: ProcId) -> u32
         requires { p.0 < length self.now.spec.procs }
         ensures { result ≡ frame_of ((core_places self.now).proc p.0) }
@@ -131,9 +131,9 @@ impl<'a> Core<'a> {
         self.kernel.rows()
     }
 
-    /// Returns the snapshot of a processor that has made all looks of its frame, but neither its flip nor its halt.
-    /// The snapshot contains the kernel image of that frame and the image of every processor as of the start of that
-    /// frame.
+    /// Returns the snapshot of processor `p`, which must have made all looks of its frame, but neither its flip nor
+    /// its halt. The snapshot contains the kernel image of that frame and the image of every processor as of the
+    /// start of that frame.
     pub fn snapshot(&self, p: ProcId) -> Snapshot
         requires known { p.0 < length self.now.spec.procs }
         requires looked { HasLooked (core_flight self.now) ((core_places self.now).proc p.0) }
@@ -156,7 +156,7 @@ impl<'a> Core<'a> {
     }
 
     /// Returns word `i` of the kernel image of the next frame. The kernel must have noted every processor in its
-    /// frame.
+    /// current frame.
     pub fn kernel_word(&self, i: u8) -> u64
         requires word { i < 20 }
         requires noted { length self.now.spec.procs ≤ self.now.places.step }
@@ -205,7 +205,7 @@ impl<'a> Core<'a> {
         }
     }
 
-    /// Applies an event if it is the next of its actor. Otherwise returns an error with the actor's next event and
+    /// Applies `event` if it is the next of its actor. Otherwise returns an error with the actor's next event and
     /// changes nothing. For a store of a processor, `word` must be the word of its draft. For a store of the kernel,
     /// `word` must be the word of the next frame's kernel image. Other events do not use `word`.
     pub fn step(&mut self, event: Event, word: u64) -> Result<(), Illegal>
@@ -288,7 +288,7 @@ fn is_event(next: Option<Event>, event: Event) -> bool
     next == Some(event)
 }
 
-// Returns `true` if an event is the last note of a frame, the note of the last processor.
+// Returns `true` if `event` is the last note of a frame, which is the note of the last processor.
 fn ends_frame(spec: &Spec, event: Event) -> bool
     ensures { result ≡ ends_frame spec.now event }
 {

@@ -21,8 +21,8 @@ use fail_stop::{Draft, Flyer};
 use scram_types::{Image, NoMemory, ProcId, Spec};
 use std::alloc::Global;
 
-/// Eight processors that fly with a core, in the order of their numbers. `drafted` contains the last draft of each,
-/// or `None` before its first draft.
+/// Eight processors that fly with a core, in the order of their numbers. `drafted` contains the last draft of each
+/// processor, or `None` before its first draft.
 #[derive(Drop)]
 pub struct Flyers {
     pub all: Vec<Flyer>,
@@ -30,7 +30,7 @@ pub struct Flyers {
 }
 
 impl Flyers {
-    /// Returns the processors with their racks, before the first frame.
+    /// Returns eight processors before their first frame, with the racks and the spare racks of `boxes`.
     ///
     /// # Errors
     ///
@@ -50,9 +50,9 @@ impl Flyers {
         })
     }
 
-    /// Returns the word for an event, and updates the processors as the event requires. The event must be the next of
-    /// its actor. A processor makes one draft in a frame, before its first store. A halt event halts the processor,
-    /// and the start event of its restart starts it again with its spare rack.
+    /// Returns the word that `Core::step` takes for `event`, and updates the processors as the event requires. The
+    /// event must be the next of its actor. A processor makes one draft in a frame, before its first store. A halt
+    /// event halts the processor, and the start event of its restart starts it again with its spare rack.
     pub fn word(&mut self, core: &Core, spec: &Spec, event: Event) -> u64
         requires spec { core.now.spec ≡ spec.now }
         requires next { IsNextIn core.now event }
@@ -162,7 +162,7 @@ fn stored_word(image: &Image, i: u8) -> u64
     encode(image[usize::from(i)])
 }
 
-// Returns the drafted image, or `None` if there is no draft of the given frame.
+// Returns the image of the draft `drafted`, or `None` if there is no draft or it is of another frame than `frame`.
 fn drafted_in(drafted: &Option<Draft>, frame: u32) -> Option<Image>
     ensures { (spec : Parts) (script : ScriptParts) (p : ℕ) → IsLastDraft spec script p drafted.now
         → IfSome result (λ image. image ≡ draft spec script p frame) }

@@ -15,7 +15,8 @@ use fail_stop::law::notes_fix;
 use scram_kernel::Kernel;
 use scram_types::{Script, Spec};
 
-/// Ends a frame in which all processors have been noted. The kernel becomes the kernel after that frame.
+/// Ends the kernel's frame, in which the kernel must have noted all processors. `kernel` becomes the kernel after
+/// that frame.
 pub(crate) fn end_frame(
     spec: &Spec,
     script: &Script,

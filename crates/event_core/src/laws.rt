@@ -2,7 +2,7 @@
 
 ghost use Rattle.event_core.specs.Counts.{HistoriesCountFrames};
 
-/// States how the kernel's place and the number of frames that have ended follow from the history. The number of the
+/// States how the kernel's frame and the number of frames that have ended follow from the history. The number of the
 /// kernel's frame is the number of releases. The number of frames that have ended is the number of notes divided by
 /// the number of processors.
 pub fn histories_count_frames()

@@ -14,7 +14,7 @@ use bank_words::Event;
 use fault_script::restart_of;
 use scram_types::{ProcId, Script};
 
-/// Returns the place of a processor after an event of its own.
+/// Returns the place of processor `p` after an event of its own, given its place before the event.
 fn moved(script: &Script, event: Event, p: ProcId, place: Place) -> Place
     requires { CanGoOn place }
     ensures { (spec : Parts) → machine_place result ≡ moved (flight_of spec script.now) event p.0 (machine_place place) }

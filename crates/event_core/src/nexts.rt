@@ -18,7 +18,7 @@ use fail_stop::words::end_index;
 use fault_script::{halt_in, restart_of};
 use scram_types::{HaltAt, ProcId, Script, Spec};
 
-/// Returns the place of a processor, or the opening place if there is no such processor in the list.
+/// Returns the place of processor `p` in `procs`, or the opening place if `p` is past the end of `procs`.
 pub(crate) fn kept_place(procs: &[Place; 8], p: ProcId) -> Place
     ensures { result ≡ kept_place procs.now p.0 }
 {
@@ -28,7 +28,7 @@ pub(crate) fn kept_place(procs: &[Place; 8], p: ProcId) -> Place
     }
 }
 
-/// Returns the next event of a processor, given the places and the words, or `None` if there is none.
+/// Returns the next event of processor `p`, given the places and the words, or `None` if there is none.
 pub(crate) fn next_of(
     spec: &Spec,
     script: &Script,

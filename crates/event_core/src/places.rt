@@ -8,7 +8,7 @@ pub enum Place {
     Halted(u32),
 }
 
-/// The place of each processor, and the kernel's frame and the number of steps that it has made in the frame.
+/// The place of each processor, the kernel's frame, and the number of steps that the kernel has made in its frame.
 #[derive(Clone, Copy, Debug)]
 pub struct Places {
     pub procs: [Place; 8],

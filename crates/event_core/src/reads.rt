@@ -38,7 +38,7 @@ fn mark_read(stored: &[u64], p: usize) -> u64
     stored[mark_index(ProcId(p as u8))]
 }
 
-/// Returns the image that a reader in a frame finds for a processor.
+/// Returns the image that a reader in frame `frame` finds for processor `p`.
 #[tactic(auto, using(fail_stop::proofs::Decoding::word_set, fail_stop::proofs::Decoding::none_read))]
 pub(crate) fn image_read(spec: &Spec, stored: &[u64], frame: u32, p: usize) -> Image
     requires stored { length stored.now ≡ word_index_count }
@@ -55,7 +55,7 @@ pub(crate) fn image_read(spec: &Spec, stored: &[u64], frame: u32, p: usize) -> I
     image
 }
 
-/// Returns, for each processor, the image that a reader in a frame finds.
+/// Returns, for each processor, the image that a reader in frame `frame` finds.
 pub(crate) fn images_read(spec: &Spec, stored: &[u64], frame: u32) -> [Image; 8]
     requires { length stored.now ≡ word_index_count }
     ensures words { (p : ℕ) → p < 8 → (i : ℕ) → i < 64 → slice_index_or (image_in result p) i (pos 0) ≡ word_read spec.now stored.now frame p i }

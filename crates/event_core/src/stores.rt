@@ -13,7 +13,7 @@ use bank_words::{Event, mark_word};
 use fail_stop::words::{bank_index, end_index, kernel_index, mark_index};
 use scram_types::ProcId;
 
-/// Writes the word that an event changes, if it changes one. For a store of a processor or of the kernel, the new value
+/// Writes the word that `event` changes, if there is one. For a store of a processor or of the kernel, the new value
 /// is `word`.
 pub(crate) fn store(stored: &mut Vec<u64>, places: &Places, event: Event, word: u64)
     requires stored { length stored.old.items ≡ word_index_count }
@@ -69,7 +69,7 @@ fn frames_through(place: Place) -> u32
     }
 }
 
-// Returns the bank that the mark of a processor does not name.
+// Returns the bank that the mark of processor `p` does not name.
 fn other_bank(stored: &[u64], p: ProcId) -> u8
     requires stored { length stored.now ≡ word_index_count }
     requires p { p.0 < 8 }

@@ -13,7 +13,7 @@ use Rattle.explain_form.specs.Laws.{WindowsAreExact}
 use Rattle.explain_form.specs.Outsides.{is_change_told, is_in_window}
 
 module _ (spec : Parts) (script : ScriptParts) where
-  -- The number of changes up to frame `f` is the number of change frames up to `f`.
+  -- `changes_upto` returns the number of change frames up to frame `f`.
   upto_is : (f : ℕ) → changes_upto spec script f ≡ count_below (is_change_frame spec script) (suc f)
   upto_is zero = refl
   upto_is (suc f) = ap (λ (n : ℕ). n + (if is_change_frame spec script (suc f) then 1 else 0)) (upto_is f)

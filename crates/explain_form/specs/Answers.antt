@@ -26,7 +26,7 @@ MissionAnswers spec script = WithoutFiles (Gives (script_answer spec script (fir
 abbrev pub ExplainAnswers : List ℕ → Answer
 ExplainAnswers specification = AsksExplainedSpecification specification SpecificationAnswers
 
--- The answer of `explain`, given the names of the files of a specification and a script.
+-- The answer of `explain`, given the name of a specification's file and the name of a script's file.
 abbrev pub ExplainScriptAnswers : List ℕ → List ℕ → Answer
 ExplainScriptAnswers specification script =
     AsksExplainedSpecification specification (λ (spec : Parts). AsksExplainedScript spec script (MissionAnswers spec))
@@ -40,15 +40,15 @@ pub record HasNoFault (explanation : Explanation) : Type 0 where
 abbrev pub GivesExplanation : Explanation → ℕ → List ℕ → Type 0
 GivesExplanation explanation = Gives (explanation.code, explanation.text.items)
 
--- If `explain` with a specification ends with status 0, it has read no further file, and the specification is accepted.
--- The text is the line of the specification, followed by the lines of its idle parts.
+-- If `explain` with a specification ends with status 0, it has read the specification's file and no other, and the
+-- specification is accepted. The text is the line of the specification, followed by the lines of its idle parts.
 abbrev pub AssuresExplain : List ℕ → History → List ℕ → Type 0
 AssuresExplain specification =
     OfSpecification specification (λ (spec : Parts) (reads : History) (text : List ℕ). (reads ≡ []) × Accepts spec × (text ≡ accepted_text spec))
 
--- If `explain` with a specification and a script ends with status 0, it has read no further file, the specification
--- is accepted, and the two form a mission. The text is the line of the specification, followed by the lines of its
--- idle parts.
+-- If `explain` with a specification and a script ends with status 0, it has read the two files and no other, and the
+-- specification and the script form a mission, so the specification is accepted. The text is the line of the
+-- specification, followed by the lines of its idle parts.
 abbrev pub AssuresExplainScript : List ℕ → List ℕ → History → List ℕ → Type 0
 AssuresExplainScript specification script =
     OfSpecification specification (λ (spec : Parts). OfDocument (SaysScript spec) script (λ (script : ScriptParts) (reads : History) (text : List ℕ).

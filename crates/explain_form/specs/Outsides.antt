@@ -23,12 +23,13 @@ is_change_told spec script last f = is_in_window spec last f && is_change_frame 
 abbrev pub frame_text : ℕ → List ℕ
 frame_text f = codes " " ++ decimal f
 
--- The number of frame `f`, preceded by a space, if `f` is a change frame at or after the start of the window that ends
--- with frame `last`, and the empty text otherwise.
+-- The number of frame `f`, preceded by a space, if `f` is a change frame at or after the start of the window that
+-- ends with frame `last`, and the empty text otherwise.
 abbrev pub change_frame_text : Parts → ScriptParts → ℕ → ℕ → List ℕ
 change_frame_text spec script last f = if is_change_told spec script last f then frame_text f else []
 
--- The end of the line of change frames, with the maximum number of change frames that the assumption allows.
+-- The end of the line of change frames, with the maximum number of change frames that the assumption allows in a
+-- window, and the window's length.
 abbrev pub assumed_line : Parts → List ℕ
 assumed_line spec = codes " change, at most " ++ decimal (spec.changes + 1) ++ codes " in " ++ decimal spec.window ++ codes " frames\n"
 
@@ -47,12 +48,13 @@ abbrev pub down_line : Parts → ScriptParts → ℕ → List ℕ
 down_line spec script f =
     codes "  down " ++ added (names_down spec.procs (env_at spec script f).up) ++ codes ", at most " ++ decimal spec.halts ++ codes "\n"
 
--- The reason why a script violates the failure assumption in frame `f`. For halts, the line has the processors that
--- are down in the next frame. For changes, the line has the change frames of the window that ends with `f`.
+-- The line with the reason why a script violates the failure assumption in frame `f`. For halts, the line has the
+-- processors that are down in the next frame. For changes, the line has the change frames of the window that ends
+-- with `f`.
 abbrev pub outside_text_by : Parts → ScriptParts → ℕ → OutsideKind → List ℕ
 outside_text_by spec script f Halts = down_line spec script (f + 1)
 outside_text_by spec script f Changes = too_many_changes_text spec script f
 
--- The reason why a script violates the failure assumption. It is printed after the refusal.
+-- The line with the reason why a script violates the failure assumption. It is printed after the line of the refusal.
 abbrev pub outside_text : Parts → ScriptParts → Outside → List ℕ
 outside_text spec script outside = outside_text_by spec script outside.frame outside.kind

@@ -1,4 +1,5 @@
-//! The text that `explain` prints: the line of an answer, followed by further lines.
+//! The texts that `explain` prints. A text is the line of an accepted specification or of a refusal, followed by
+//! further lines.
 
 ghost use Rattle.std.specs.Prelude.{◌≡◌, ◌++◌, IfOk, Some};
 ghost use Rattle.fault_script.specs.Assumption.{first_outside};
@@ -23,7 +24,7 @@ pub(crate) struct Explanation {
     pub(crate) text: Vec<u8>,
 }
 
-// Returns the text for an accepted specification.
+// Returns the text for an accepted specification: the line of the specification, and the lines of its idle parts.
 pub(crate) fn make_accepted(alloc: Global, spec: &Spec) -> Result<Vec<u8>, NoMemory>
     ensures { IfOk result (λ text. text.items ≡ accepted_text spec.now) }
 {
@@ -31,7 +32,8 @@ pub(crate) fn make_accepted(alloc: Global, spec: &Spec) -> Result<Vec<u8>, NoMem
     join(alloc, &make_accepted_line(spec), &idle)
 }
 
-// Returns the text for a specification that is not accepted.
+// Returns the text for a specification that is not accepted: the refusal, and the lines for the places at which the
+// condition of the refusal does not hold.
 pub(crate) fn make_refused(alloc: Global, spec: &Spec, shown: &Shown) -> Result<Vec<u8>, NoMemory>
     ensures { IfOk result (λ text. text.items ≡ refused_text spec.now shown.now) }
 {
@@ -39,7 +41,7 @@ pub(crate) fn make_refused(alloc: Global, spec: &Spec, shown: &Shown) -> Result<
     join(alloc, &make_shown_line(spec, shown), &breaks)
 }
 
-// Returns the text for a script that violates the failure assumption.
+// Returns the text for a script that violates the failure assumption: the refusal and its reason.
 pub(crate) fn make_unassumed(
     alloc: Global,
     spec: &Spec,

@@ -1,4 +1,5 @@
-//! The form `explain`, which prints why a specification or a script is refused.
+//! The form `explain`, which prints why a specification or a script is refused, or the idle parts of an accepted
+//! specification.
 
 ghost use Rattle.std.specs.Prelude.{◌≡◌, ◌∷◌, [], IfOk, Some};
 ghost use Rattle.coverage_check.specs.Acceptance.{first_refusal};
@@ -25,7 +26,8 @@ use scram_io::{Files, Sink};
 use scram_types::{NoMemory, Script, Spec};
 use std::alloc::Global;
 
-/// Prints why the specification in a file is refused. If it is accepted, prints its idle parts.
+/// Prints why the specification in the file `specification` is refused. If the specification is accepted, prints its
+/// idle parts.
 pub fn explain<F: Files, K: Sink>(
     alloc: Global,
     specification: &str,
@@ -41,8 +43,8 @@ pub fn explain<F: Files, K: Sink>(
     }
 }
 
-/// Prints why the specification in a file or the script in another file is refused. If the two form a mission, prints
-/// the idle parts of the specification.
+/// Prints why the specification or the script in the files that `named` names is refused. If the specification and
+/// the script form a mission, prints the idle parts of the specification.
 pub fn explain_script<F: Files, K: Sink>(
     alloc: Global,
     named: MissionFiles<'_>,
@@ -59,8 +61,8 @@ pub fn explain_script<F: Files, K: Sink>(
     }
 }
 
-/// Reads the specification and returns the text that is printed for it. Returns the refusal if the specification
-/// cannot be read.
+/// Reads the specification in the file `specification` and returns its explanation. Returns the refusal if the file
+/// cannot be loaded or memory runs out.
 fn read_specification<F: Files>(
     alloc: Global,
     specification: &str,
@@ -75,8 +77,8 @@ fn read_specification<F: Files>(
     }
 }
 
-/// Reads the specification and the script, and returns the text that is printed for them. Returns the refusal of the
-/// first file that cannot be read.
+/// Reads the specification and the script in the files that `named` names, and returns their explanation. Returns the
+/// refusal of the first file that cannot be loaded, or the out-of-memory refusal if memory runs out.
 fn read_both<F: Files>(
     alloc: Global,
     named: MissionFiles<'_>,

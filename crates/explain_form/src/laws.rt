@@ -2,8 +2,8 @@
 
 ghost use Rattle.explain_form.specs.Laws.{WindowsAreExact};
 
-/// States that the number of frames that are printed is the number of change frames that the failure assumption
-/// counts in the window.
+/// States, for each window, that the number of frames in the line of change frames is the number of changes that the
+/// failure assumption counts.
 pub fn windows_are_exact()
     ensures { WindowsAreExact }
 {}

@@ -11,8 +11,9 @@ use scram_types::{Env, NoMemory, Script, Spec};
 use std::alloc::{AllocError, Global};
 use trace_text::lines::Line;
 
-/// Returns the line with the reason why a script violates the failure assumption in a frame. The line has the change
-/// frames of the window that ends with this frame, or the processors that are down in the next frame.
+/// Returns the line with the reason why a script violates the failure assumption in frame `outside.frame`. For halts,
+/// the line has the processors that are down in the next frame. For changes, the line has the change frames of the
+/// window that ends with frame `outside.frame`. A change frame is a frame in which the environment changes.
 ///
 /// # Errors
 ///
@@ -26,7 +27,7 @@ pub(crate) fn make_outside(
     requires { outside.now.frame ≤ script.now.frames }
     ensures { IfOk result (λ text. text.items ≡ outside_text spec.now script.now outside.now) }
 {
-    // A use of a field proves that the script has at most 20,000 frames.
+    // From the use of a field, the prover knows that the script has at most 20,000 frames.
     let _ = &script.frames;
     let mut text = Vec::new(alloc);
     match outside.kind {
@@ -38,8 +39,8 @@ pub(crate) fn make_outside(
     Ok(text)
 }
 
-// Returns the line of the processors that are down in a frame. It ends with the maximum number of such processors
-// that the assumption allows.
+// Returns the line of the processors that are down in frame `frame`. It ends with the maximum number of such
+// processors that the assumption allows.
 fn make_down_line(spec: &Spec, script: &Script, frame: u32) -> Line
     ensures { result ≡ down_line spec.now script.now frame }
 {
@@ -52,7 +53,8 @@ fn make_down_line(spec: &Spec, script: &Script, frame: u32) -> Line
     line
 }
 
-// Appends the line of the change frames of the window that ends with frame `last`.
+// Appends the line of the change frames of the window that ends with frame `last`. The line ends with the maximum
+// number of change frames that the assumption allows.
 fn add_changes(
     text: &mut Vec<u8>,
     spec: &Spec,
@@ -82,8 +84,8 @@ fn add_change_frames(
     Ok(())
 }
 
-// Appends the number of a frame if the environment changes in the frame and the frame is in the window that ends with
-// frame `last`.
+// Appends a space and the number of frame `frame`, if the environment changes in this frame and the frame is at or
+// after the start of the window that ends with frame `last`.
 fn add_change_frame(
     text: &mut Vec<u8>,
     spec: &Spec,
@@ -109,7 +111,8 @@ fn make_frame(frame: u32) -> Line
     line
 }
 
-// Returns the end of the line of change frames, with the maximum number of change frames that the assumption allows.
+// Returns the end of the line of change frames, with the maximum number of change frames that the assumption allows
+// in a window, and the window's length.
 fn make_assumed_line(spec: &Spec) -> Line
     ensures { result ≡ assumed_line spec.now }
 {
@@ -122,7 +125,7 @@ fn make_assumed_line(spec: &Spec) -> Line
     line
 }
 
-// Returns `true` if a frame is at or after the start of the window that ends with frame `last`.
+// Returns `true` if frame `frame` is at or after the start of the window that ends with frame `last`.
 fn is_in_window(spec: &Spec, last: u32, frame: u32) -> bool
     requires { frame ≤ 20000 }
     ensures { result ≡ is_in_window spec.now last frame }

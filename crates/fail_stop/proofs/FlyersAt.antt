@@ -28,7 +28,7 @@ module _ {X : Type 0} {Y : X → Type 0} where
   number_halted f (Up live) = refl
   number_halted f (Down halted) = refl
 
-  -- After a start, a unit is at its place in the frame. A halted processor starts only with a spare rack.
+  -- After a start, the unit of a processor is at any place `At f n`, if the unit was live or a spare rack is present.
   pub unit_begun : (p : ℕ) (place : Place) (unit : HeldUnit X Y) (spare : Option (Rack X Y)) (f n : ℕ) → IsUnitAt p place unit → (is_halted place ≡ true → is_some spare ≡ true)
       → IsUnitAt p (At f n) (unit_started unit spare)
   unit_begun p place (Up live) spare f n is some = record { number = is.number; down = refl; frame = λ down. cc }

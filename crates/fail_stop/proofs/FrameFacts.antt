@@ -118,7 +118,7 @@ pub still : (m : Flight) (p a b : ℕ) → a ≤ b → ((g : ℕ) → a ≤ g �
 still m p a zero h q = let e : a ≡ 0 = omega arith in subst (λ (x : ℕ). Same m p a x) e (same_refl m p a)
 still m p a (suc b) h q = still_next m p a b q (λ d. still m p a b d (λ g l u. q g l (omega arith))) h (dec_le a b)
 
--- A halted processor has not restarted before the frame of its restart.
+-- `back_by` is `false` for each frame `g` before the frame of the restart.
 back_not_yet : (o : Option ℕ) (h r g : ℕ) → o ≡ Some r → g < r → back_by o h g ≡ false
 back_not_yet None h r g e l = cc
 back_not_yet (Some s) h r g e l = let same : s ≡ r = cc in grind (arith, nat_tests)

@@ -11,7 +11,7 @@ use Rattle.scram_types.proofs.Naturals.{below_or_at}
 use Rattle.frame_model.specs.Flights.{image_of, slot_in}
 use Rattle.frame_model.proofs.Slots.{slot_found}
 
--- Proof that an image has 64 words, and that each word of the image is the word of its slot.
+-- Proof that an image has 64 words, and that word `8 * a + i` of the image is word `i` of slot `a`.
 
 two_long : (xs ys : List ℤ) (n : ℕ) → length xs ≡ n → length ys ≡ 8 → length (xs ++ ys) ≡ n + 8
 two_long xs ys n is also = length-append xs ys ∙ rw (is, also) refl
@@ -56,8 +56,8 @@ image_same slot other same =
       same 7 (omega arith),
     ) refl
 
--- The first `n` words of the slot of application `a` in an image are those of the area, and the other slots are those
--- of the old image.
+-- In `image`, the first `n` words of the slot of application `a` are those of `area`, and the other slots are those
+-- of `old`.
 pub record IsPut (a n : ℕ) (area old image : List ℤ) : Type 0 where
   pub long : length image ≡ 64
   pub put : (i : ℕ) → i < n → slice_index_or image (8 * a + i) (pos 0) ≡ slice_index_or area i (pos 0)

@@ -88,7 +88,7 @@ note_place m k j q (Halted h) s c = record { step = s.step; up = s.up; halts = s
     noted_more2 q j P a b l (yes d) = b d
     noted_more2 q j P a b l (no d) = a (omega arith)
 
--- If processor `q` has been noted, its place remains valid after a further note.
+-- If the kernel has noted processor `q`, the place of `q` still satisfies `IsPlaced` after a further note.
 past_place : (m : Flight) (k j q : ℕ) (x : Place) → q < j → IsPlaced m k j q x → IsPlaced m k (suc j) q x
 past_place m k j q (At f n) l r = record { up = r.up; low = r.low; high = r.high; fresh = r.fresh; within = r.within; noted = λ g. r.noted l; done = r.done }
 past_place m k j q (Halted h) l s = record { step = s.step; up = s.up; halts = s.halts; high = s.high; later = s.later; noted = λ g. s.noted l }

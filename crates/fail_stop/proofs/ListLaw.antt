@@ -77,7 +77,7 @@ index_small m (MarkWord p) np nw a = omega arith
 index_small m (EndWord p) np nw a = omega arith
 index_small m (BankWord p b i) np nw a = omega arith
 
--- If a list holds the words of a flight, then after a write to the list each word has its value after that write.
+-- If a list holds the words of a flight, then a write to the list changes the value of each word as `written` states.
 pub list_written : (m : Flight) (list : List ℕ) (o : Option (Word × ℕ)) (w : Word) → HoldsWords m list → IsTarget m o → IsStored m w → stored_in (list_after list o) w ≡ written o (stored_in list) w
 list_written m list None w s t l = refl
 list_written m list (Some t) w s k l =

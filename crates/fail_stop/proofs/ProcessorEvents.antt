@@ -42,8 +42,8 @@ laid_store : (m : Flight) (p f i c d old w : ℕ) → c < 2 → w ≡ laid m p f
 unfolding laid
 laid_store m p f i c d old w h e = grind (arith, nat_tests)
 
--- If `n` steps are within a frame, the processor does not halt after them, and the frame does not end there, then `n
--- + 1` steps are within the frame.
+-- If `n` steps are within a frame, the processor does not halt after them, and the frame does not end there, then
+-- `n + 1` steps are within the frame.
 within_more : (m : Flight) (n : ℕ) (o : Option ℕ) → n ≤ last_step m o → n < m.procs + 2 + m.width → halts_at m n o ≡ false → suc n ≤ last_step m o
 within_more m n None l h b = omega arith
 within_more m n (Some s) l h b = grind (arith, nat_tests)

@@ -82,7 +82,7 @@ since_same spec script fits p f (Some h) = sym (back_list p h f script.restarts 
 up_by : (spec : Parts) (script : ScriptParts) → Fits spec script → (p f : ℕ) → is_up script p f ≡ is_up_after (latest (halt_step script p) f) (restart_of script p) f
 up_by spec script fits p f = since_same spec script fits p f (latest_halt script p f) ∙ ap (λ (o : Option ℕ). is_up_after o (restart_of script p) f) (sym (latest_same script p f))
 
--- Proof that each halt comes after at most all stores of its frame, or after the mark.
+-- Proof that each halt comes before the mark of its frame, or directly after it.
 
 step_of : (spec : Parts) (script : ScriptParts) → Fits spec script → (p f s : ℕ) (o : Option HaltAt) → halt_in script p f ≡ o → option_map (λ (halt : HaltAt). halt.step) o ≡ Some s → s ≤ words spec + 1
 step_of spec script fits p f s None is e = absurd (cc)

@@ -5,7 +5,7 @@ use Rattle.fail_stop.specs.Flights.{Flight, word_in, last_commit, commit_count, 
 use Rattle.fail_stop.specs.Events.{Place, At, Halted, Places, Word, ReleaseWord, KernelWord, MarkWord, BankWord}
 use Rattle.fail_stop.specs.Kept.{is_flipped, stores_made}
 
--- The number `n` such that the mark of a processor at this place is the processor's mark after the first `n` frames.
+-- The number `g` such that the mark of a processor at this place is the processor's mark after the first `g` frames.
 abbrev pub marked : Flight → Place → ℕ
 marked m (At f n) = if is_flipped m n then suc f else f
 marked m (Halted h) = suc h

@@ -35,8 +35,8 @@ state_shown snap = record { mode = snap.kernel.mode; arrived = false; areas = ar
 abbrev pub area_drafted : Parts → List Task → Seen → List (List ℤ) → ℕ → List ℤ
 area_drafted spec tasks seen areas a = law (kind_of_app spec a) (task_among tasks a).order (seen_in seen (task_among tasks a).mode (area_at areas a))
 
--- The slot of application `a` in the image that processor `p` makes: the area by the law of its kind if the task
--- names `p`, or else the old slot.
+-- The slot of application `a` in the image that processor `p` makes: `area_drafted` if the task of `a` names `p`, or
+-- the slot in the old image otherwise.
 abbrev pub slot_made : Parts → List Task → Seen → List (List ℤ) → List ℤ → ℕ → ℕ → List ℤ
 slot_made spec tasks seen areas image p a =
     if is_proc p (task_among tasks a).proc then area_drafted spec tasks seen areas a else slot_in image a

@@ -12,7 +12,7 @@ pub data Place : Type 0 where
   At : ℕ → ℕ → Place
   Halted : ℕ → Place
 
--- The place of each processor, and the kernel's frame and the number of steps that it has made in the frame.
+-- The place of each processor, the kernel's frame, and the number of steps that the kernel has made in its frame.
 pub record Places : Type 0 where
   pub proc : ℕ → Place
   pub frame : ℕ
@@ -27,8 +27,8 @@ pub data Word : Type 0 where
   EndWord : ℕ → Word
   BankWord : ℕ → ℕ → ℕ → Word
 
--- Whether the event of a processor after `n` steps of a frame is its halt, given the step of its halt in the frame,
--- if any. A halt at step `s` comes after the start, the looks and `s` further steps.
+-- Whether a processor halts after `n` steps of a frame, given the step of its halt in the frame, if any. A halt at
+-- step `s` comes after the start, the looks and `s` further steps.
 abbrev pub halts_at : Flight → ℕ → Option ℕ → Bool
 halts_at m n None = false
 halts_at m n (Some s) = nat_eq n (m.procs + 1 + s)
@@ -68,8 +68,8 @@ next_of m at words p = if nat_lt p m.procs then next_from m p (words ReleaseWord
 abbrev pub may_note : Flight → ℕ → ℕ → ℕ → Bool
 may_note m p k e = nat_eq e (2 * suc k) || (nat_eq (e % 2) 1 && not (back_by (m.restart p) (e / 2) k))
 
--- The next event of the kernel, or `None` if there is none. In each frame the kernel notes each processor in order,
--- makes its twenty stores, and releases the next frame.
+-- The next event of the kernel, or `None` if there is none. In each frame the kernel notes each processor in order.
+-- It then makes its twenty stores and releases the next frame, unless the frame is the last.
 abbrev pub next_kernel : Flight → Places → (Word → ℕ) → Option Event
 next_kernel m at words =
     if nat_lt at.frame m.frames
@@ -109,8 +109,8 @@ is_actor (KNote p) q = false
 is_actor (KStore i) q = false
 is_actor Release q = false
 
--- The place of a halted processor after its start, given the frame of its restart. Without a restart the place does not
--- change.
+-- The place of a halted processor after its start, given the frame of its restart, if any. Without a restart the
+-- place does not change.
 abbrev pub back_at : Option ℕ → Place → Place
 back_at None place = place
 back_at (Some r) place = At r 1

@@ -22,8 +22,9 @@ abbrev pub back_by : Option ℕ → ℕ → ℕ → Bool
 back_by None h g = false
 back_by (Some r) h g = nat_lt h r && nat_le r g
 
--- Processors are up as in the flight of a script: a processor that halts is down from the next frame on, until its
--- restart.
+-- The flight's `up` agrees with its halts and restarts. Each processor is up in frame 0. A processor that halts is
+-- down from the next frame on, until its restart. The step of a halt is at most one more than the number of words of
+-- an image.
 pub record Flies (m : Flight) : Type 0 where
   pub first : (p : ℕ) → m.up p 0 ≡ true
   pub stays : (p f : ℕ) → m.up p f ≡ true → m.halt p f ≡ None → m.up p (suc f) ≡ true
@@ -80,8 +81,8 @@ unfoldable pub end_before : Flight → ℕ → ℕ → ℕ
 end_before m p zero = 0
 end_before m p (suc f) = if m.up p f then end_word_after f (m.halt p f) else end_before m p f
 
--- The number of stores of a processor in a frame in which it is up, given the number of words of an image and the
--- step of its halt in the frame, if any.
+-- The number of stores of a processor in a frame in which the processor is up. The number of words of an image is
+-- given, and the step of the processor's halt in the frame, if any.
 abbrev pub stores_by : ℕ → Option ℕ → ℕ
 stores_by width None = width
 stores_by width (Some s) = min s width

@@ -26,7 +26,7 @@ abbrev pub bank_at : Flight → ℕ → Place → ℕ → ℕ → ℕ
 bank_at m p (At f n) b i = laid m p f (stores_made m n) b i (bank_before m p f b i)
 bank_at m p (Halted h) b i = bank_before m p (suc h) b i
 
--- Word `i` of the kernel in frame `k` after `j` steps.
+-- Word `i` of the kernel's words while the kernel is in frame `k` after `j` steps.
 abbrev pub kernel_at : Flight → ℕ → ℕ → ℕ → ℕ
 kernel_at m k j i = if nat_lt i (j - m.procs) then word_in (m.kernel_image (suc k)) i else word_in (m.kernel_image k) i
 

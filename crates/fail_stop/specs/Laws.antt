@@ -1,5 +1,5 @@
--- The law of events. The invariant `Kept` on places and words holds in each state of each schedule of a script that
--- fits its specification.
+-- The law of events. For a script that fits its specification, the invariant `Kept` on places and words holds in each
+-- state of each schedule.
 use Rattle.std.specs.Prelude.{◌≡◌, ◌⊎◌, ℕ, suc, ◌<◌, List, length}
 use Rattle.scram_types.specs.Scripts.{ScriptParts}
 use Rattle.scram_types.specs.Specification.{IsSpec, Parts}
@@ -22,8 +22,8 @@ use Rattle.fail_stop.specs.Openings.{opening_list}
 use Rattle.fail_stop.specs.Schedules.{IsSchedule, Machine, opening}
 use Rattle.fail_stop.specs.ScriptFlights.{flight_of, image_words_after, kernel_words}
 
--- The flight of a script commits the frames that the one-thread trace commits, and has the marks and images of the
--- one-thread trace.
+-- The flight of a script commits the frames that the one-thread trace commits, and has the marks, banks and images of
+-- the one-thread trace.
 pub record IsOfTrace (spec : Parts) (script : ScriptParts) : Type 0 where
   pub flies : Flies (flight_of spec script)
   pub committed : (p f : ℕ) → is_committed (flight_of spec script) p f ≡ commits spec script p f

@@ -32,7 +32,7 @@ pub record HoldsWords (m : Flight) (list : List ℕ) : Type 0 where
   pub width : m.width ≤ 64
   pub long : length list ≡ word_index_count
 
--- Event `e` moves the place of its actor and no other place.
+-- Event `e` takes the machine from places `at` to places `at2`. Only the place of its actor changes.
 pub record Moves (m : Flight) (at : Places) (e : Event) (at2 : Places) : Type 0 where
   pub proc : (q : ℕ) → at2.proc q ≡ proc_after m at e q
   pub frame : at2.frame ≡ frame_after at e

@@ -1,4 +1,4 @@
--- Schedules from the opening state, and the processors that are up as the halts and restarts of a flight decide.
+-- Schedules from the opening state, and flights whose halts and restarts decide which processors are up.
 use Rattle.std.specs.Prelude.{◌≡◌, ℕ, zero, suc, ◌+◌, ◌≤◌, Bool, true, false, ◌&&◌, ◌||◌, List, [], ◌∷◌, Option, Some, None, is_none, is_some, if◌then◌else◌, nat_eq}
 use Rattle.fail_stop.specs.Flights.{Flight, back_by}
 use Rattle.bank_words.specs.declared.events.Event.{Event}
@@ -21,7 +21,7 @@ happened m s e = record {
 abbrev pub opening : Flight → Machine
 opening m = record { at = opening_places; words = opening_words m }
 
--- The events take state `s` to state `t`, and each is the next event of its actor in its state.
+-- The events take state `s` to state `t`, and each is the next event of its actor in the state in which it is made.
 abbrev pub IsSchedule : Flight → Machine → List Event → Machine → Type 0
 IsSchedule m s [] t = t ≡ s
 IsSchedule m s (e ∷ es) t = IsNext m s.at s.words e × IsSchedule m (happened m s e) es t
@@ -46,8 +46,8 @@ abbrev pub is_up_after : Option ℕ → Option ℕ → ℕ → Bool
 is_up_after None restart f = true
 is_up_after (Some h) restart f = back_by restart h f
 
--- The halts and restarts of a flight decide which processors are up. Each halt comes after at most all stores of its
--- frame, or after the flip.
+-- The halts and restarts of a flight decide which processors are up. Each halt comes before the flip of its frame, or
+-- directly after it.
 pub record IsUpBy (m : Flight) : Type 0 where
   pub up : (p f : ℕ) → m.up p f ≡ is_up_after (latest (m.halt p) f) (m.restart p) f
   pub steps : (p f s : ℕ) → m.halt p f ≡ Some s → s ≤ m.width + 1

@@ -12,8 +12,8 @@ use frame_model::Task;
 use frame_model::sights::{show_in, slot_in};
 use scram_types::{AppId, Area, Image, ProcId, Spec};
 
-/// The data that all applications of a frame share: the specification, the tasks, and the snapshot with the areas as
-/// of the start of the frame.
+/// The data that all applications of a frame share: the specification, the tasks, and the snapshot, which has the
+/// areas as of the start of the frame.
 #[derive(Clone, Copy)]
 pub(crate) struct Setting<'a> {
     pub(crate) spec: &'a Spec,
@@ -50,9 +50,10 @@ fn area_kept(snap: &Snapshot, a: u8) -> Area
     }
 }
 
-/// Replaces the slot of each application that processor `proc` hosts in the frame. `image` is the image of the
-/// processor as of the start of the frame. Each new slot is the result of one call of the application's box.
-/// Afterwards `seen` is what the last of these applications saw, or is unchanged if there is none.
+/// Replaces in `image` the slot of each application that processor `proc` hosts in the frame. `image` is the image of
+/// the processor as of the start of the frame. Each new slot is the result of one call of the application's box.
+/// Afterwards `seen` is what the last application that the processor hosts saw, or is unchanged if the processor
+/// hosts none.
 pub(crate) fn make_slots(
     proc: ProcId,
     rack: &mut Rack,
@@ -70,7 +71,7 @@ pub(crate) fn make_slots(
     }
 }
 
-// Returns the area of an application after the frame, computed by a call of the application's box.
+// Returns the area of application `a` after the frame, computed by a call of the application's box.
 fn area_drafted(rack: &mut Rack, setting: &Setting<'_>, seen: &mut Seen, a: u8) -> Area
     requires a { a < 8 }
     ensures area { let s = setting.now in result ≡ area_drafted s.spec.now s.tasks seen.old (areas_shown s.snap.now) a }
@@ -81,7 +82,7 @@ fn area_drafted(rack: &mut Rack, setting: &Setting<'_>, seen: &mut Seen, a: u8) 
     rack_frame(rack, setting.spec.kind_of_app(AppId(a)), task.order, seen)
 }
 
-// Replaces the slot of an application in an image.
+// Replaces the slot of application `a` in an image by `area`.
 fn put_slot(image: &mut Image, a: u8, area: &Area)
     requires a { a < 8 }
     ensures slots { (b : ℕ) → b < 8 → slot_in image.new b ≡ (if nat_eq b a then area.now else slot_in image.old b) }
@@ -92,7 +93,7 @@ fn put_slot(image: &mut Image, a: u8, area: &Area)
     }
 }
 
-// Returns `true` if a processor hosts an application in the setting's frame.
+// Returns `true` if processor `proc` hosts application `a` in the setting's frame.
 fn hosts(proc: ProcId, setting: &Setting<'_>, a: u8) -> bool
     requires a { a < 8 }
     ensures { result ≡ is_proc proc.0 (task_among setting.now.tasks a).proc }

@@ -33,7 +33,8 @@ pub struct Flyer {
 }
 
 impl Flyer {
-    /// Returns the processor of this number before its first frame, with its boxes and the boxes for its restart.
+    /// Returns processor `proc` before its first frame. It has the boxes of `rack`, and those of `spare` for its
+    /// restart.
     pub fn new(proc: ProcId, rack: Rack, spare: Rack) -> Flyer
         requires proc { proc.0 < 8 }
         ensures unit { result.unit ≡ Up (record { proc = proc; rack = rack }) }
@@ -79,7 +80,8 @@ impl Flyer {
         }
     }
 
-    /// Halts the processor in this frame and drops its boxes. If the processor has halted already, nothing changes.
+    /// Halts the processor in frame `frame` and drops its boxes. If the processor has halted already, nothing
+    /// changes.
     pub fn halt(&mut self, frame: u32)
         ensures { self.new ≡ flyer_halted frame self.old }
     {
@@ -108,7 +110,7 @@ impl Flyer {
     }
 }
 
-/// Returns eight processors with their racks, before their first frame.
+/// Returns eight processors before their first frame, with the racks and the spare racks of `boxes`.
 ///
 /// # Errors
 ///

@@ -1,6 +1,6 @@
-//! The law of events. The invariant `Kept` on places and words holds in each state of each schedule of a script that
-//! fits its specification, under all halts and restarts. Each function states a part of the law by its contract and
-//! does nothing.
+//! The law of events. For a script that fits its specification, the invariant `Kept` on places and words holds in
+//! each state of each schedule, under all halts and restarts. Each function states a part of the law by its contract
+//! and does nothing.
 
 ghost use Rattle.fail_stop.specs.Laws.{BanksHoldTheLastStores, DraftsAreOfTraces, EventsKeep, EventsKeepLists, FlightsAreOfTraces, KernelImagesComeBack, KeptIsConsistent, MachineGoesOn, NotesFix, OpeningKeeps, OpeningListsAreOfScripts, ReadersFind, SchedulesKeep};
 

@@ -4,8 +4,9 @@ ghost use Rattle.std.specs.Prelude.{◌≡◌, ℕ};
 ghost use Rattle.fail_stop.specs.Events.{may_note};
 ghost use Rattle.fail_stop.specs.Flights.{Flight, back_by};
 
-/// Returns `true` if an end word lets the kernel note a processor in a frame, given the frame of the processor's
-/// restart. The processor must be done with the frame, or have halted without a restart since.
+/// Returns `true` if the kernel may note a processor in frame `frame`. `restart` is the frame of the processor's
+/// restart, if any, and `end` is its end word. The processor must be done with the frame, or must have halted without
+/// a restart from then up to and including the frame.
 pub fn may_note(restart: Option<u32>, frame: u32, end: u64) -> bool
     ensures { (m : Flight) (p : ℕ) → m.restart p ≡ restart → result ≡ may_note m p frame end }
 {

@@ -11,7 +11,7 @@ pub struct Snapshot {
     pub images: [Image; 8],
 }
 
-/// The image that a processor stores in a frame.
+/// A frame, and the image that a processor stores in it.
 #[derive(Clone, Copy, Debug)]
 pub struct Draft {
     pub frame: u32,

@@ -29,7 +29,7 @@ pub struct Halted {
 }
 
 impl Live {
-    /// Returns the processor of this number, with these boxes.
+    /// Returns processor `proc` with the boxes of `rack`.
     // No postcondition depends on the precondition. Without it, Rattle lists this function, whose result contains
     // boxes, and each of its callers without a precondition, under `hides` as a function that may create boxes.
     pub fn new(proc: ProcId, rack: Rack) -> Live
@@ -71,7 +71,7 @@ impl Live {
         drafts_are_of_traces();
     }
 
-    /// Halts the processor in this frame, and drops its boxes.
+    /// Halts the processor in frame `frame` and drops its boxes.
     pub fn halt(self, frame: u32) -> Halted
         ensures proc { result.proc ≡ self.proc }
         ensures frame { result.frame ≡ frame }
@@ -98,7 +98,7 @@ impl Halted {
         self.frame
     }
 
-    /// Restarts the processor with new boxes.
+    /// Restarts the processor with the boxes of `rack`.
     pub fn restart(self, rack: Rack) -> Live
         requires proc { self.proc.0 < 8 }
         ensures proc { result.proc ≡ self.proc }

@@ -17,21 +17,22 @@ pub fn kernel_index(i: usize) -> usize
     8 + i
 }
 
-/// Returns the index of a processor's mark.
+/// Returns the index of the mark of processor `p`.
 pub fn mark_index(p: ProcId) -> usize
     ensures { result ≡ index_of (MarkWord p.0) }
 {
     32 + 136 * usize::from(p.0)
 }
 
-/// Returns the index of a processor's end word.
+/// Returns the index of the end word of processor `p`.
 pub fn end_index(p: ProcId) -> usize
     ensures { result ≡ index_of (EndWord p.0) }
 {
     33 + 136 * usize::from(p.0)
 }
 
-/// Returns the index of the first word of a processor's bank, 0 or 1. The other words of the bank follow it.
+/// Returns the index of the first word of bank `bank`, 0 or 1, of processor `p`. The other words of the bank follow
+/// it.
 pub fn bank_index(p: ProcId, bank: usize) -> usize
     requires { bank ≤ 1 }
     ensures { result ≡ index_of (BankWord p.0 bank 0) }

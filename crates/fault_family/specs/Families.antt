@@ -12,9 +12,9 @@ use Rattle.fault_family.specs.NextFaults.{candidates}
 use Rattle.fault_family.specs.Faults.{may_come_after}
 use Rattle.fault_family.specs.Scripts.{is_within, script_of_faults}
 
--- Whether a fault of this kind in a frame makes a difference to a script. A change makes a difference if the factor
--- has another value in the previous frame. A halt always makes a difference. A restart makes a difference if the
--- processor halts at least two frames earlier.
+-- Whether a fault of the given kind in frame `frame` makes a difference to a script. A change makes a difference if
+-- the factor has another value in the previous frame. A halt always makes a difference. A restart makes a difference
+-- if the processor halts at least two frames earlier.
 abbrev pub differs_in : ScriptParts → ℕ → FaultKind → Bool
 differs_in script frame (Change factor value) = not (factor_at script factor.0 (frame - 1) == value)
 differs_in script frame (Halt proc step) = true

@@ -23,8 +23,8 @@ detail (Change factor value) = value
 detail (Halt proc step) = step
 detail (Restart proc) = 0
 
--- Whether a fault comes before another. The order is by frame, then by kind, then by factor and value, or by processor
--- and step.
+-- Whether `fault` comes before `next`. The order is by frame, then by kind. In one frame, changes are ordered by
+-- factor and then by value, halts by processor and then by step, and restarts by processor.
 abbrev pub precedes : Fault → Fault → Bool
 precedes fault next =
     comes_after fault.frame (rank fault.kind) next.frame (rank next.kind)

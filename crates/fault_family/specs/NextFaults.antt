@@ -16,7 +16,7 @@ use Rattle.fault_family.specs.declared.faults.FaultKind.TheVariants.{Change, Hal
 abbrev pub numbers_below : ℕ → List ℕ
 numbers_below n = listed_below (λ k. k) n
 
--- The number of values of factor `x`.
+-- The number of values of factor `x`, or 0 if there is no such factor.
 abbrev pub factor_value_count : Parts → ℕ → ℕ
 factor_value_count spec x = option_map_or (λ (factor : Factor). length factor.values) (slice_get spec.factors x) 0
 
@@ -57,6 +57,7 @@ frames_after spec before = frames_allowed_after spec (last_of before)
 abbrev pub faults_in : Parts → ℕ → List Fault
 faults_in spec frame = map (λ (kind : FaultKind). record { frame = frame; kind = kind }) (kinds_of spec)
 
--- The faults in all frames in which a fault may come after a list of faults, in order.
+-- The candidates for the next fault after a list of faults: a fault of each kind for each frame in which a fault may
+-- come, listed frame by frame.
 abbrev pub candidates : Parts → List Fault → List Fault
 candidates spec before = flat_map (faults_in spec) (frames_after spec before)

@@ -52,7 +52,8 @@ pub record GoOnLater (d : ℕ) (one other : List Report) : Type 0 where
   pub later : other ≡ before ++ map (report_later d) after
 
 -- Before frame `b`, the flights of `script` and `later` have the same rows. From frame `b` on, the acts and the mode
--- of each row of `script` come `d` frames later in the flight of `later`, and so do the remaining reconfigurations.
+-- of each row of `script` come `d` frames later in the flight of `later`. The remaining reconfigurations also come
+-- `d` frames later.
 pub record HasFlightFrom (spec : Parts) (b d : ℕ) (script later : ScriptParts) : Type 0 where
   pub rows : (f : ℕ) → f < b → row_at spec later f ≡ row_at spec script f
   pub acts : (f : ℕ) → b ≤ f → (row_at spec later (d + f)).acts ≡ (row_at spec script f).acts

@@ -57,8 +57,8 @@ script_in_frames frames faults = record {
 abbrev pub last_fault_frame : List Fault → ℕ
 last_fault_frame faults = option_map_or (λ (fault : Fault). fault.frame) (last_of faults) 0
 
--- The number of frames of the script of a list of faults: the frame of the last fault plus the greatest bound plus
--- three.
+-- The number of frames in the script of a list of faults. It is the frame of the last fault plus the greatest bound
+-- plus three.
 abbrev pub frames_of_faults : Parts → List Fault → ℕ
 frames_of_faults spec faults = last_fault_frame faults + greatest_bound spec.bounds + 3
 

@@ -15,7 +15,7 @@ use crate::scripts::{greatest, has_halted_before, value_at};
 use arrayvec::ArrayVec;
 use scram_types::{FactorId, ProcId, Spec};
 
-/// The maximum number of kinds of fault of a specification.
+/// The maximum number of kinds of fault that a specification has.
 pub const MAX_KINDS: usize = 48;
 
 /// The kinds of fault of a specification, in order: the changes, the halts, and the restarts.
@@ -109,7 +109,7 @@ fn add_restarts(kinds: &mut ArrayVec<FaultKind, MAX_KINDS>, spec: &Spec)
     }
 }
 
-// Returns the number of values of a factor.
+// Returns the number of values of factor `x`, or 0 if there is no such factor.
 fn factor_value_count(spec: &Spec, x: u8) -> u8
     ensures value { result ≡ factor_value_count spec.now x }
     ensures few { result ≤ 4 }
@@ -128,8 +128,8 @@ fn words(spec: &Spec) -> u8
     8 * spec.apps.items().len() as u8
 }
 
-/// Returns the number of candidates: the faults of each kind in each frame in which a fault may come after the faults
-/// `before`.
+/// Returns the number of candidates for the next fault after the faults `before`. There is a candidate of each kind
+/// for each frame in which a fault may come.
 pub fn candidate_count(spec: &Spec, kinds: &[FaultKind], before: &[Fault]) -> u32
     requires kinds { kinds.now ≡ kinds_of spec.now }
     requires few { length kinds.now ≤ 48 }
@@ -138,8 +138,9 @@ pub fn candidate_count(spec: &Spec, kinds: &[FaultKind], before: &[Fault]) -> u3
     frame_count(spec, before) * kinds.len() as u32
 }
 
-/// Returns candidate `k`, counted from 0. The candidates are the faults of each kind in each frame in which a fault
-/// may come after the faults `before`, frame by frame, and in each frame in the order of the kinds.
+/// Returns candidate `k`, counted from 0, for the next fault after the faults `before`. There is a candidate of each
+/// kind for each frame in which a fault may come. The candidates are listed frame by frame, and within each frame in
+/// the order of the kinds.
 pub fn candidate(spec: &Spec, kinds: &[FaultKind], before: &[Fault], k: u32) -> Fault
     requires kinds { kinds.now ≡ kinds_of spec.now }
     requires few { length kinds.now ≤ 48 }
@@ -192,7 +193,7 @@ fn gap(spec: &Spec, i: u32) -> u32
     }
 }
 
-/// Returns `true` if a fault may follow the faults `before`: the fault may come after each of them, and it makes a
+/// Returns `true` if `fault` may follow the faults `before`: it may come after each of them, and it makes a
 /// difference to the script of `before`.
 pub fn may_follow(spec: &Spec, before: &[Fault], fault: &Fault) -> bool
     ensures { result ≡ may_follow spec.now before.now fault.now }
@@ -208,7 +209,7 @@ fn may_come_after_all(before: &[Fault], fault: &Fault) -> bool
     before.iter().all(|earlier| may_come_after(earlier, fault))
 }
 
-// Returns `true` if a fault makes a difference to the script of the preceding faults.
+// Returns `true` if `fault` makes a difference to the script of the faults `before`.
 fn differs_in(before: &[Fault], fault: &Fault) -> bool
     ensures { (frames : ℕ) → result ≡ differs_in (script_in_frames frames before.now) fault.now.frame fault.now.kind }
 {

@@ -121,9 +121,9 @@ fn comes_after(last: u32, last_number: u8, next: u32, number: u8) -> bool
     last < next || last == next && last_number < number
 }
 
-/// Returns `true` if a fault comes before another. The order is by frame, then by kind: changes before halts before
-/// restarts. Faults of one kind in one frame are ordered by the numbers of the factor and of the value, or by the
-/// processor and the step.
+/// Returns `true` if `fault` comes before `next`. The order is by frame, then by kind: changes before halts before
+/// restarts. In one frame, changes are ordered by factor and then by value, halts by processor and then by step, and
+/// restarts by processor.
 pub fn precedes(fault: &Fault, next: &Fault) -> bool
     ensures { result ≡ precedes fault.now next.now }
 {

@@ -1,5 +1,5 @@
-//! The script of a list of faults, without allocation: its environment in each frame, and whether it keeps the failure
-//! assumption.
+//! The script of a list of faults, without allocation: the values of its factors and the processors that are up, in
+//! each frame.
 
 ghost use Rattle.std.specs.Prelude.{◌≡◌, ◌≤◌, ◌∷◌, [], filter_map};
 ghost use Rattle.std.specs.List.{list_all, list_any};
@@ -99,7 +99,7 @@ pub fn greatest(spec: &Spec) -> u32
     greatest_bound(spec)
 }
 
-/// Returns the value of a factor in a frame of the script of these faults.
+/// Returns the value that factor `factor` has in frame `frame` of the script of `faults`.
 pub fn value_at(faults: &[Fault], factor: FactorId, frame: u32) -> u8
     ensures { result ≡ value_after (filter_map change_of_fault faults.now) factor.0 frame 0 }
 {
@@ -110,8 +110,8 @@ pub fn value_at(faults: &[Fault], factor: FactorId, frame: u32) -> u8
     value
 }
 
-// Returns the value of a factor in a frame of a script with one more fault, given its value `value` without that
-// fault.
+// Returns the value that factor `factor` has in frame `frame` after `fault` is added to a script. `value` is the
+// factor's value in that frame without the fault.
 fn newest(fault: &Fault, factor: FactorId, frame: u32, value: u8) -> u8
     ensures { result ≡ value_after (filter_map change_of_fault (fault.now ∷ [])) factor.0 frame value }
 {
@@ -124,15 +124,15 @@ fn newest(fault: &Fault, factor: FactorId, frame: u32, value: u8) -> u8
     }
 }
 
-/// Returns `true` if a processor is up in a frame of a script.
+/// Returns `true` if processor `p` is up in frame `frame` of a script.
 pub fn is_up(script: &FaultScript<'_>, p: u8, frame: u32) -> bool
     ensures { result ≡ is_up (as_script script.now) p frame }
 {
     are_halts_over(script, p, frame)
 }
 
-// Returns `true` if a processor has restarted, up to and including a frame, after each of its halts in earlier
-// frames.
+// Returns `true` if processor `p` has restarted after each of its halts before frame `frame`. Restarts up to and
+// including frame `frame` count.
 fn are_halts_over(script: &FaultScript<'_>, p: u8, frame: u32) -> bool
     ensures { result ≡ list_all (is_over (as_script script.now) p frame) (filter_map halt_of_fault script.now.faults.now) }
 {
@@ -144,8 +144,8 @@ fn are_halts_over(script: &FaultScript<'_>, p: u8, frame: u32) -> bool
     true
 }
 
-// Returns `true` if a fault leaves a processor up in a frame: the fault is not a halt of the processor in an earlier
-// frame, or the processor has restarted since the halt, up to and including the frame.
+// Returns `true` if `fault` leaves processor `p` up in frame `frame`. This is the case if the fault is not a halt of
+// `p` before frame `frame`, or if `p` has restarted after the halt and no later than frame `frame`.
 fn is_over(script: &FaultScript<'_>, fault: &Fault, p: u8, frame: u32) -> bool
     ensures { result ≡ list_all (is_over (as_script script.now) p frame) (filter_map halt_of_fault (fault.now ∷ [])) }
 {
@@ -159,7 +159,7 @@ fn is_over(script: &FaultScript<'_>, fault: &Fault, p: u8, frame: u32) -> bool
     }
 }
 
-// Returns `true` if a processor restarts after frame `after` and no later than frame `frame`.
+// Returns `true` if processor `p` restarts after frame `after` and no later than frame `frame`.
 fn has_restarted(faults: &[Fault], p: u8, after: u32, frame: u32) -> bool
     ensures { result ≡ list_any (is_restart_between p after frame) (filter_map restart_of_fault faults.now) }
 {
@@ -180,7 +180,7 @@ fn is_restart_between(fault: &Fault, p: u8, after: u32, frame: u32) -> bool
     }
 }
 
-/// Returns `true` if a processor halts at least two frames before a frame.
+/// Returns `true` if processor `proc` halts at least two frames before frame `frame`.
 pub fn has_halted_before(faults: &[Fault], proc: ProcId, frame: u32) -> bool
     ensures { result ≡ list_any (is_halt_before proc.0 frame) (filter_map halt_of_fault faults.now) }
 {

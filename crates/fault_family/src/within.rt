@@ -11,9 +11,10 @@ ghost use Rattle.fault_family.specs.Scripts.{as_script, is_within};
 use crate::scripts::{FaultScript, is_up, value_at};
 use scram_types::{Env, FactorId, Spec};
 
-/// Returns `true` if a script keeps the failure assumption. The assumption requires that no frame, including the
-/// frame after the last, has more than `halts` processors down. It also requires that any `window` consecutive frames
-/// contain at most `changes + 1` frames whose environment differs from the environment of the previous frame.
+/// Returns `true` if a script keeps the failure assumption of the specification. The assumption requires that no
+/// frame, including the frame after the last, has more than `halts` processors down. It also requires that any
+/// `window` consecutive frames contain at most `changes + 1` frames whose environment differs from the environment of
+/// the previous frame.
 pub fn is_within(spec: &Spec, script: &FaultScript<'_>) -> bool
     requires { script.now.frames ≤ 5003 }
     ensures { result ≡ is_within spec.now (as_script script.now) }
@@ -28,15 +29,15 @@ pub fn is_within(spec: &Spec, script: &FaultScript<'_>) -> bool
     true
 }
 
-// The number of frames up to and including a frame that change the environment, and the number of such frames before
-// the window that ends with the frame.
+// Counts of the frames that change the environment. `upto` counts those up to and including a given frame. `past`
+// counts those before the window that ends with the given frame.
 #[derive(Clone, Copy)]
 struct Counts {
     upto: u32,
     past: u32,
 }
 
-// Returns the counts of a frame, given the counts of the previous frame.
+// Returns the counts for frame `frame`, given `counts`, the counts for the previous frame.
 fn counts_with(spec: &Spec, script: &FaultScript<'_>, counts: &Counts, frame: u32) -> Counts
     requires frame { frame ≤ 5003 }
     requires counts { AreChangeFrameCounts spec.now (as_script script.now) (frame - 1) counts.now }
@@ -53,8 +54,8 @@ fn counts_with(spec: &Spec, script: &FaultScript<'_>, counts: &Counts, frame: u3
     }
 }
 
-// Returns the number of frames up to and including a frame that change the environment, given that number for the
-// previous frame.
+// Returns the number of frames that change the environment, up to and including frame `frame`. `count` is this number
+// for the previous frame.
 fn count_with(spec: &Spec, script: &FaultScript<'_>, count: u32, frame: u32) -> u32
     requires frame { frame ≤ 5003 }
     requires count { count ≡ changes_upto spec.now (as_script script.now) (frame - 1) }
@@ -67,7 +68,7 @@ fn count_with(spec: &Spec, script: &FaultScript<'_>, count: u32, frame: u32) -> 
     }
 }
 
-// Returns `true` if the script violates the failure assumption in a frame.
+// Returns `true` if the script violates the failure assumption in frame `frame`.
 fn is_outside_at(spec: &Spec, script: &FaultScript<'_>, counts: &Counts, frame: u32) -> bool
     requires few { script.now.frames ≤ 5003 }
     requires frame { frame ≤ script.now.frames }
@@ -77,8 +78,8 @@ fn is_outside_at(spec: &Spec, script: &FaultScript<'_>, counts: &Counts, frame: 
     brings_too_many_down(spec, script, frame) || is_change_too_many(spec, script, counts, frame)
 }
 
-// Returns `true` if a frame changes the environment and thereby exceeds the limit of the window that ends with the
-// frame.
+// Returns `true` if frame `frame` changes the environment and the window that ends with frame `frame` contains too
+// many such changes.
 fn is_change_too_many(spec: &Spec, script: &FaultScript<'_>, counts: &Counts, frame: u32) -> bool
     requires counts { AreChangeFrameCounts spec.now (as_script script.now) frame counts.now }
     ensures { result ≡ is_change_too_many spec.now (as_script script.now) frame }
@@ -150,7 +151,7 @@ fn has_too_many_down(spec: &Spec, script: &FaultScript<'_>, frame: u32) -> bool
     spec.halts < count_down(script, spec.procs.items().len() as u8, frame)
 }
 
-// Returns how many of the first `processors` processors are down in a frame.
+// Returns how many of the first `processors` processors are down in frame `frame`.
 fn count_down(script: &FaultScript<'_>, processors: u8, frame: u32) -> u8
     ensures value { result ≡ down_below (as_script script.now) frame processors }
     ensures most { result ≤ processors }

@@ -65,7 +65,7 @@ module _ (spec : Parts) where
   line_where true faults = append-nil (faults_line spec faults)
   line_where false faults = refl
 
-  -- If no further fault follows, the text is the line of the script of these faults, or the empty text if the script
-  -- violates the failure assumption.
+  -- If no further fault follows, the text is the line of the script with the given faults, or the empty text if the
+  -- script violates the failure assumption.
   pub within_is : (faults : List Fault) → extended_text spec 0 faults ≡ within_text spec faults
   within_is faults = line_where (is_within spec (script_of_faults spec faults)) faults

@@ -10,7 +10,7 @@ use Rattle.faults_form.specs.Lines.{faults_line}
 abbrev pub extended_text : Parts → ℕ → List Fault → List ℕ
 extended_text spec more before = flat_map (faults_line spec) (extended spec more before)
 
--- The line of the script of these faults, or the empty text if the script violates the failure assumption.
+-- The line of the script with the given faults, or the empty text if the script violates the failure assumption.
 abbrev pub within_text : Parts → List Fault → List ℕ
 within_text spec faults = if is_within spec (script_of_faults spec faults) then faults_line spec faults else []
 

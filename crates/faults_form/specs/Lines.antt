@@ -28,7 +28,8 @@ unfoldable pub spelled_restart : Parts → RestartAt → List ℕ
 spelled_restart spec restart =
     codes "{\"frame\":" ++ (decimal restart.frame ++ (codes ",\"processor\":\"" ++ (proc_name spec restart.proc.0 ++ codes "\"}")))
 
--- The remaining items of a list and its closing bracket. The first item is preceded by a comma if `later` is `true`.
+-- The remaining items of a list, separated by commas, and the list's closing bracket. If `later` is `true`, the first
+-- item is preceded by a comma too.
 abbrev pub listed_text : Bool → List (List ℕ) → List ℕ
 listed_text later [] = codes "]"
 listed_text later (text ∷ texts) = comma_if later ++ (text ++ listed_text true texts)
@@ -47,6 +48,6 @@ spelled_script spec script =
     ++ (codes ",\"frames\":" ++ (decimal script.frames
     ++ (codes ",\"halts\":[" ++ (listed_text false (map (spelled_halt spec) script.halts) ++ version_text spec script.restarts)))))
 
--- The line of the script of these faults: its canonical text and a line feed.
+-- The line of the script with the given faults: its canonical text and a line feed.
 abbrev pub faults_line : Parts → List Fault → List ℕ
 faults_line spec faults = script_text spec (script_of_faults spec faults) ++ codes "\n"

@@ -43,8 +43,9 @@ struct Family {
     count: FaultCount,
 }
 
-/// Reads the specification in a file and prints its family of fault scripts, one line for each script. Prints a refusal
-/// instead if the specification is not accepted. All memory is allocated before the first line.
+/// Reads the specification in a file and prints its family of fault scripts, one line for each script. Prints a
+/// refusal instead if the specification cannot be read or is not accepted. All memory is allocated before the first
+/// line is printed.
 pub fn faults<F: Files, K: Sink>(
     alloc: Global,
     question: FaultsQuestion<'_>,
@@ -134,7 +135,7 @@ fn put_extended<K: Sink>(
     Ok(())
 }
 
-// Writes the line of the script of these faults, unless the script violates the failure assumption.
+// Writes the line of the script with the given faults, unless the script violates the failure assumption.
 fn put_within<K: Sink>(out: &mut K, spec: &Spec, faults: &[Fault]) -> Result<(), SinkFault>
     requires few { length faults.now ≤ 3 }
     requires frame { last_fault_frame faults.now ≤ 4000 }

@@ -1,4 +1,5 @@
--- Lemmas that the specification with the bounds and the window that were found for it is the filled-in specification.
+-- Lemmas that if a specification gets the bounds and the window that were found for it, the result is the filled-in
+-- specification.
 use Rattle.std.proofs.Common.{◌≡◌, ◌∙◌, ℕ, ◌+◌, ap, sym, subst, List, ◌++◌}
 use Rattle.std.specs.Prelude.{None, codes, max}
 use Rattle.scram_types.specs.declared.specification.Bound.{Bound}

@@ -62,7 +62,8 @@ gives_one true x is = gives_cons x [] x.from.0 x.to.0 ∙ or_left (is_for x.from
 gives_one false x is = absurd (cc)
 
 module _ (spec : Parts) where
-  -- If a property holds for the smallest sufficient bound of each missing pair, it holds for each missing bound.
+  -- If a property holds for the smallest sufficient bound of each pair whose bound is missing, it holds for each
+  -- missing bound.
   pub all_missing : (P : Bound → Type 0) → ((i j : ℕ) → i < length spec.confs → j < length spec.confs → is_bound_missing spec i j ≡ true → P (least_bound spec i j)) → AllByRecursion P (missing_bounds spec)
   all_missing P each = all_below P (missing_from spec) (length spec.confs) (λ i left. all_below P (missing_bound spec i) (length spec.confs)
       (λ j right. all_one P (is_bound_missing spec i j) (least_bound spec i j) (each i j left right)))

@@ -27,7 +27,7 @@ least_bound spec i j = record { from = conf_id i; to = conf_id j; frames = least
 abbrev pub missing_bound : Parts → ℕ → ℕ → List Bound
 missing_bound spec i j = if is_bound_missing spec i j then least_bound spec i j ∷ [] else []
 
--- The lists of bounds for the numbers below `n`, concatenated.
+-- The lists that `bounds` returns for the numbers below `n`, concatenated.
 abbrev pub bounds_below : (ℕ → List Bound) → ℕ → List Bound
 bounds_below bounds zero = []
 bounds_below bounds (suc n) = bounds_below bounds n ++ bounds n

@@ -1,4 +1,4 @@
-//! The search for sufficient bounds, and for the refusal if a bound or the window would be too long.
+//! The search for sufficient bounds. If a bound or the window would be too long, the search also finds the refusal.
 
 ghost use Rattle.std.specs.Prelude.{◌≡◌, ◌<◌, ◌≤◌, ◌++◌, IfOk, OnOk, length, map};
 ghost use Rattle.std.specs.Option.{option_or};
@@ -22,7 +22,7 @@ pub struct Filling {
     pub refusal: Option<Shown>,
 }
 
-/// Returns sufficient bounds of a specification. They are the given bounds, each raised as far as required, followed
+/// Returns the filling of a specification. Its bounds are the given bounds, each raised as far as required, followed
 /// by the missing bounds in the order of their sources and then of their targets.
 ///
 /// # Errors

@@ -13,7 +13,7 @@ use scram_types::{ConfId, Spec};
 use spec_forms::is_asked;
 
 /// Returns the refusal by condition A9 for the first required bound that would be too long, or `None` if there is no
-/// such bound.
+/// such bound. Set `i` contains the configurations to which a bound from configuration `i` is required.
 pub(crate) fn refuse_long(spec: &Spec, sets: &[u16; 12]) -> Option<Shown>
     requires { AreAskedBounds spec.now sets.now }
     ensures { result ≡ long_refusal spec.now }
@@ -47,8 +47,8 @@ fn refuse_long_of(spec: &Spec, set: u16, i: u8) -> Option<Shown>
     None
 }
 
-/// Returns the refusal by condition A10 if the window that the greatest bound requires would be too long, or `None`
-/// otherwise.
+/// Returns the refusal by condition A10 if the window for a greatest bound of `greatest` frames would be above the
+/// maximum length of a window, or `None` otherwise.
 pub(crate) fn refuse_wide(greatest: u32) -> Option<Shown>
     ensures { result ≡ wide_refusal greatest }
 {

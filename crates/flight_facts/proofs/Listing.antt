@@ -9,8 +9,8 @@ further_both [] ys = refl
 further_both (x ∷ xs) ys =
     ap (λ (tail : List ℕ). codes "," ++ x ++ tail) (further_both xs ys) ∙ sym (append_assoc (codes "," ++ x) (further_joined xs) (further_joined ys))
 
--- The joined text of two concatenated lists is the joined text of the first list, then the joined text of the second
--- list, or a dash if both lists are empty.
+-- The joined text of two concatenated lists is the text of the first list followed by the text of the second list,
+-- joined by commas. If both lists are empty, it is a dash.
 pub joined_both : (xs ys : List (List ℕ)) →
     joined (xs ++ ys) ≡ (comma_joined xs ++ comma_joined_after (is_any xs) ys) ++ (if is_any xs || is_any ys then [] else codes "-")
 joined_both [] [] = refl
@@ -24,8 +24,8 @@ pub any_both : (xs ys : List (List ℕ)) → is_any (xs ++ ys) ≡ (is_any xs ||
 any_both [] ys = refl
 any_both (x ∷ xs) ys = refl
 
--- If the texts of both lists have been appended to a line and one of the lists is not empty, the line has been
--- extended by the joined text of the concatenated lists.
+-- Suppose that the texts of both lists have been appended to a line, and that one of the lists is not empty. Then the
+-- line has been extended by the joined text of the concatenated lists.
 pub both_added : (line values all : List ℕ) (some any : Bool) (xs ys : List (List ℕ)) → values ≡ line ++ comma_joined xs → some ≡ is_any xs
     → all ≡ values ++ comma_joined_after some ys → any ≡ (some || is_any ys) → any ≡ true → all ≡ line ++ joined (xs ++ ys)
 both_added line values all some any xs ys first is_some second is_any_of given =

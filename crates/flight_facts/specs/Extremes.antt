@@ -15,7 +15,8 @@ quantity_of Climb world = world.climb
 quantity_of Heading world = world.heading
 quantity_of Bank world = world.bank
 
--- The extremes after a number is added. Without previous extremes, both are the number.
+-- The minimum and the maximum of a sequence of numbers after `number` is added. If there are no previous extremes,
+-- both are `number`.
 abbrev pub widened : ℤ → Option Extremes → Extremes
 widened number None = record { least = number; greatest = number }
 widened number (Some so_far) = record { least = int_min number so_far.least; greatest = int_max number so_far.greatest }

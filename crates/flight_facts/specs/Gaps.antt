@@ -6,7 +6,7 @@ use Rattle.flight_facts.specs.declared.acts.ActWord.{ActWord}
 use Rattle.flight_facts.specs.declared.acts.ActWord.TheVariants.{Ran, Halting, Preparing, Initialising, Held, Off, Lost}
 use Rattle.flight_facts.specs.declared.gaps.Gap.{Gap}
 
--- Whether a first word means that an application neither ran nor was off.
+-- Whether the first word of an act means that the application neither ran nor was off.
 abbrev pub is_missing : ActWord → Bool
 is_missing Ran = false
 is_missing Halting = true
@@ -38,8 +38,8 @@ abbrev pub longest_gap : ℕ → ℕ → List Row → Option Gap
 longest_gap a k [] = None
 longest_gap a k (row ∷ rows) = longer (gap_of k (missing_rows a (row ∷ rows))) (longest_gap a (k + 1) rows)
 
--- The text ` gap FRAMES at ROW`, with the number of rows of a gap and the index of its first row, or ` gap 0 at -` if
--- there is no gap.
+-- The text ` gap FRAMES at ROW`. `FRAMES` is the number of rows of a gap, and `ROW` is the index of its first row. If
+-- there is no gap, the text is ` gap 0 at -`.
 abbrev pub gap_text : Option Gap → List ℕ
 gap_text None = codes " gap 0 at -"
 gap_text (Some gap) = codes " gap " ++ decimal gap.frames ++ codes " at " ++ decimal gap.at

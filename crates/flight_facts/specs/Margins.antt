@@ -11,8 +11,8 @@ abbrev pub bound_to : Parts → ConfId → Option ConfId → Option ℕ
 bound_to spec from None = greatest_bound_in spec.bounds from.0
 bound_to spec from (Some to) = bound_in spec.bounds from.0 to.0
 
--- The bound on a reconfiguration, or `None` if none is given. An unfinished reconfiguration has the greatest bound
--- from its source.
+-- The bound on a reconfiguration, or `None` if none is given. For an unfinished reconfiguration, the bound is the
+-- greatest bound from its source.
 abbrev pub bound_of : Parts → Report → Option ℕ
 bound_of spec report = bound_to spec report.from report.to
 

@@ -71,8 +71,9 @@ abbrev pub row_before : List Row → ℕ → Option Row
 row_before rows zero = None
 row_before rows (suc k) = slice_get rows k
 
--- The number of rows of the span of a lane that begins with row `k`: row `k` and the consecutive rows after it that
--- look like row `k` in the lane. The value is `None` if row `k` looks like the preceding row or does not exist.
+-- The length, in rows, of the span that begins with row `k` in a lane. The span has row `k` and the consecutive rows
+-- after it that look like row `k` in the lane. The value is `None` if row `k` looks like the preceding row or does
+-- not exist.
 abbrev pub span_at : Lane → List Row → ℕ → Option ℕ
 span_at lane rows k =
     option_and_then (λ (row : Row). if is_new lane (row_before rows k) row then Some (alike_rows lane row (drop (k + 1) rows) + 1) else None) (slice_get rows k)

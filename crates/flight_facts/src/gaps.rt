@@ -38,8 +38,8 @@ pub fn longest_gap(rows: &[Row], app: usize) -> Option<Gap>
     longest
 }
 
-/// Appends ` gap FRAMES at ROW`, with the number of rows of a gap and the index of its first row, or ` gap 0 at -` if
-/// there is no gap.
+/// Appends ` gap FRAMES at ROW`. `FRAMES` is the number of rows of a gap, and `ROW` is the index of its first row. If
+/// there is no gap, appends ` gap 0 at -`.
 pub fn add_gap(line: &mut Line, gap: Option<Gap>)
     requires { length line.old + 29 ≤ MAX_LINE_BYTES }
     ensures text { line.new ≡ line.old ++ gap_text gap }

@@ -7,8 +7,8 @@ ghost use Rattle.flight_facts.specs.Margins.{bound_of, margin_of, margin_text};
 use scram_types::{Report, Spec};
 use trace_text::lines::Line;
 
-/// Returns the bound on a reconfiguration, in frames, or `None` if none is given. An unfinished reconfiguration has the
-/// greatest bound from its source.
+/// Returns the bound on a reconfiguration, in frames, or `None` if none is given. For an unfinished reconfiguration,
+/// the bound is the greatest bound from its source.
 pub fn bound_of(spec: &Spec, report: &Report) -> Option<u32>
     ensures { result ≡ bound_of spec.now report.now }
 {

@@ -21,8 +21,9 @@ pub enum Lane {
     Application(u8),
 }
 
-/// Returns the number of rows of the span of a lane that begins with row `k`: row `k` and the consecutive rows after
-/// it that look like row `k` in the lane. Returns `None` if row `k` looks like the preceding row or does not exist.
+/// Returns the length, in rows, of the span that begins with row `k` in a lane. The span has row `k` and the
+/// consecutive rows after it that look like row `k` in the lane. Returns `None` if row `k` looks like the preceding
+/// row or does not exist.
 pub fn span_at(lane: Lane, rows: &[Row], k: usize) -> Option<u32>
     requires lane { IsLane lane }
     requires rows { length rows.now < 2 ^ 32 }

@@ -28,8 +28,9 @@ outside_kind_text Changes = codes "changes"
 abbrev pub outside_line : Outside → List ℕ
 outside_line outside = codes "refused: outside at frame " ++ decimal outside.frame ++ codes ": " ++ outside_kind_text outside.kind ++ codes "\n"
 
--- The line for the flight of a mission with a number. It has the number of frames, the number of reconfigurations,
--- the duration in frames of the longest finished reconfiguration, and the last configuration that was run.
+-- The line that `fly` prints for the flight of the mission generated from `number`. It has the number of frames, the
+-- number of reconfigurations, the duration in frames of the longest finished reconfiguration, and the last
+-- configuration that was run.
 abbrev pub fly_line : ℕ → Parts → List Row → List Report → List ℕ
 fly_line number spec rows reports =
     codes "fly " ++ decimal number ++ counts_text rows reports ++ codes " longest " ++ decimal (longest_duration reports)

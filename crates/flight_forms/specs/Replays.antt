@@ -17,7 +17,7 @@ abbrev pub GivesReplay : Replay → ℕ → List ℕ → Type 0
 GivesReplay replay = IsReplayAnswer replay.mission.spec replay.mission.script replay.list
 
 -- The result is a mission with the list by which the mission is flown, the mission's refusal, or the out-of-memory
--- refusal.
+-- refusal. The status of a refusal is not `UNREAD_FILE`.
 abbrev pub MakesReplay : Parts → ScriptParts → List Event → Result Replay Refusal → Type 0
 MakesReplay spec script list (Ok replay) = (replay.mission ≡ mission_of spec script) × (replay.list ≡ list) × (mission_refusal spec script ≡ None)
 MakesReplay spec script list (Err refusal) =

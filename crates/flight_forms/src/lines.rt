@@ -37,9 +37,9 @@ pub fn make_outside_line(outside: &Outside) -> Line
     line
 }
 
-/// Returns the line for the flight of a mission with a number. It has the number of frames, the number of
-/// reconfigurations, the duration in frames of the longest finished reconfiguration, and the last configuration that
-/// was run.
+/// Returns the line that `fly` prints for the flight of the mission generated from `number`. It has the number of
+/// frames, the number of reconfigurations, the duration in frames of the longest finished reconfiguration, and the
+/// last configuration that was run.
 pub fn make_fly_line(number: u32, spec: &Spec, flown: &Flown) -> Line
     requires rows { length flown.now.rows < 2 ^ 32 }
     requires reports { length flown.now.reports < 2 ^ 32 }

@@ -77,8 +77,8 @@ fn fly_pair<K: Sink>(
     }
 }
 
-// Returns the trace of a mission that is flown in rounds. The function is not inlined, since its stack frame contains
-// the states of the pair, which the other forms do not need.
+// Returns the trace of a mission that is flown with the kernel on two units, one of which may halt. The function is
+// not inlined, since its stack frame contains the states of the two units, which the other forms do not need.
 #[inline(never)]
 fn fly_on_units(
     alloc: Global,

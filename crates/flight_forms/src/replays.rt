@@ -25,7 +25,7 @@ use scram_io::{Files, Sink};
 use scram_types::{List, Script, Spec};
 use std::alloc::Global;
 
-/// The names of the files of a mission, and of the schedule by which the mission is flown.
+/// The names of the files of a mission, and the name of the file of the schedule by which the mission is flown.
 #[derive(Clone, Copy)]
 pub struct ReplayFiles<'a> {
     pub specification: &'a str,

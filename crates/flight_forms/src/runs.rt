@@ -58,7 +58,7 @@ pub fn run<R: AllocGlobal + Threads + Wait + Sync, F: Files, K: Sink>(
     }
 }
 
-/// Flies a mission with a thread for each processor, and prints the text of the given kind.
+/// Flies a mission with a thread for each processor, and prints the text of kind `told` for the flight.
 pub fn fly<R: AllocGlobal + Threads + Wait + Sync, K: Sink>(
     rt: &R,
     mission: &Mission,
@@ -91,8 +91,8 @@ fn fly_on_threads<R: AllocGlobal + Threads + Wait + Sync>(
     Ok(flight.run(rt).flown)
 }
 
-/// Prints the text of the given kind for a mission. `flown` must have the rows and reports of the mission's
-/// one-thread flight.
+/// Prints the text of kind `told` for a mission. `flown` must have the rows and reports of the mission's one-thread
+/// flight.
 pub fn print_flight<K: Sink>(
     out: &mut K,
     mission: &Mission,

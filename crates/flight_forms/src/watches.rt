@@ -91,8 +91,8 @@ fn fly_watched<R: AllocGlobal + Threads + Wait + Sync>(
     Ok(last_summary(fly_read(rt, &tap, flight, publisher, (one, other))))
 }
 
-// Flies the mission of a tap while two readers read the summary of the flight. The watch is passed through the scope
-// by value, since nothing is known about a reference that a closure captures.
+// Flies the mission of a tap while two readers read the summary of the flight, and returns the watch. The watch is
+// passed through the scope by value, since nothing is known about a reference that a closure captures.
 fn fly_read<'a, W: Watch, R: Threads + Wait + Sync>(
     rt: &R,
     tap: &Tap<'a>,
@@ -146,7 +146,7 @@ fn last_summary(publisher: Publisher) -> Summary
     tap.read(&mut reader)
 }
 
-// Reads summaries until a summary is of all frames, but at most `MAX_READS` summaries.
+// Reads summaries until one covers all frames of the mission, but reads at most `MAX_READS` summaries.
 fn read_to_the_end(tap: &Tap, mut reader: Reader)
     requires { IsReaderOf tap.now reader }
 {

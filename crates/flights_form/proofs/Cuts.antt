@@ -1,4 +1,4 @@
--- Lemmas on the lines of a file, which line feeds separate.
+-- Lemmas on the lines of a file, which are separated by line feeds.
 use Rattle.std.proofs.Common.{◌≡◌, ◌<◌, ℕ, List, [], ◌∷◌, arith, length, refl}
 use Rattle.trace_text.specs.Pieces.{pieces_of}
 use Rattle.trace_text.proofs.Splitting.{some_piece}

@@ -10,8 +10,8 @@ use Rattle.flights_form.specs.declared.totals.FlightMargin.{FlightMargin}
 use Rattle.flights_form.specs.declared.totals.Totals.{Totals}
 use Rattle.flights_form.specs.Totals.{gap_in_flight, greater_in_flight, greatest_in_flights, is_refused, least_in_flights, lesser_in_flight, margin_in_flight, totals_of, with_outcome}
 
--- Lemmas on outcomes that are followed by a further outcome. Their minimum margin is the smaller of the preceding
--- outcomes' minimum margin and the further outcome's margin.
+-- Lemmas on a list of outcomes to which a further outcome is appended. The minimum margin of the new list is the
+-- smaller of the old list's minimum margin and the further outcome's margin.
 
 lesser_none : (a : Option FlightMargin) → lesser_in_flight a None ≡ a
 lesser_none None = refl
@@ -46,8 +46,8 @@ least_more k (first ∷ outcomes) outcome =
     ∙ sym (lesser_assoc (margin_in_flight k first) (least_in_flights (k + 1) outcomes) (margin_in_flight (k + 1 + length outcomes) outcome))
     ∙ ap (λ (n : ℕ). lesser_in_flight (least_in_flights k (first ∷ outcomes)) (margin_in_flight n outcome)) same
 
--- Lemmas on outcomes that are followed by a further outcome. Their longest gap is the longer of the preceding
--- outcomes' longest gap and the further outcome's gap.
+-- Lemmas on a list of outcomes to which a further outcome is appended. The longest gap of the new list is the longer
+-- of the old list's longest gap and the further outcome's gap.
 
 greater_none : (a : Option FlightGap) → greater_in_flight a None ≡ a
 greater_none None = refl

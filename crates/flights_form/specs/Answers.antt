@@ -29,19 +29,19 @@ outcome_lines spec k (outcome ∷ outcomes) = outcome_line spec k outcome ++ out
 abbrev pub flights_text : Parts → List Outcome → List ℕ
 flights_text spec outcomes = outcome_lines spec 0 outcomes ++ totals_line (totals_of outcomes)
 
--- The text is `flights_text` for the outcomes of the lines of `scripts`, which are the bytes of a file of scripts.
+-- The text is `flights_text` for the outcomes of the lines of a file of scripts with the bytes `scripts`.
 pub record IsFlightsText (spec : Parts) (scripts text : List ℕ) : Type 0 where
   pub outcomes : List Outcome
   pub answers : AreOutcomes spec (lines_of scripts) outcomes
   pub whole : text ≡ flights_text spec outcomes
 
--- The status is 0, and the text is `flights_text` for the outcomes of the lines of `scripts`, which are the bytes of
--- a file of scripts.
+-- The status is 0, and the text is `flights_text` for the outcomes of the lines of a file of scripts with the bytes
+-- `scripts`.
 abbrev pub GivesFlights : Parts → List ℕ → ℕ → List ℕ → Type 0
 GivesFlights spec scripts status text = (status ≡ ANSWERED) × IsFlightsText spec scripts text
 
--- The status and the line that refuse a specification, given its first refusal, or `None` if the specification is
--- accepted.
+-- The status and the line that refuse a specification with the given first refusal. If the specification has no
+-- refusal, the value is `None`.
 abbrev pub acceptance_refusal : Parts → Option Shown → Option (ℕ × List ℕ)
 acceptance_refusal spec None = None
 acceptance_refusal spec (Some shown) = Some (NOT_ACCEPTED, shown_line spec shown)

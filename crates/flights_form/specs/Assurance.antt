@@ -51,7 +51,7 @@ pub record IsAtLeastIn (told : Option FlightGap) (frames : ℕ) : Type 0 where
   pub at_least : frames ≤ gap.frames
 
 -- A bound is given for the reconfiguration to the target `to`. The bound minus the number of frames that the
--- reconfiguration took is at least the reported margin.
+-- reconfiguration took is at least the margin `told`.
 pub record KeepsMargin (spec : Parts) (told : Option Margin) (report : Report) (to : ConfId) : Type 0 where
   pub bound : ℕ
   pub given : bound_in spec.bounds report.from.0 to.0 ≡ Some bound
@@ -85,8 +85,8 @@ pub record AreAssuredFlights (spec : Parts) (scripts text : List ℕ) : Type 0 w
   pub greatest : (k : ℕ) (facts : FlightFacts) (gap : AppGap) → slice_get outcomes k ≡ Some (Flown facts) → facts.gap ≡ Some gap
       → IsAtLeastIn (totals_of outcomes).gap gap.gap.frames
 
--- If `flights` ends with status 0, the flights of the lines of the second file are assured, and no further file was
--- read.
+-- If `flights` ends with status 0, the flights by the specification in the file `specification` and the scripts in
+-- the file `scripts` are assured, and no further file was read.
 abbrev pub AssuresFlights : List ℕ → List ℕ → History → List ℕ → Type 0
 AssuresFlights specification scripts =
     OfSpecification specification (λ (spec : Parts). OfDocument SaysScripts scripts (λ (bytes : List ℕ) (reads : History) (text : List ℕ).

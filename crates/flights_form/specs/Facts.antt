@@ -25,8 +25,8 @@ greater_gap None later = later
 greater_gap (Some gap) None = Some gap
 greater_gap (Some gap) (Some later) = if nat_lt gap.gap.frames later.gap.frames then Some later else Some gap
 
--- The longest gap of the applications in a list, the first of which is application `a`, or `None` if no application
--- has a gap. If several gaps are equally long, the value is the gap of the first of their applications.
+-- The longest gap of the applications in a list, or `None` if no application has a gap. The first application in the
+-- list is application `a`. If several gaps are equally long, the value is the gap of the first of their applications.
 abbrev pub greatest_gap : List Row → ℕ → List AppSpec → Option AppGap
 greatest_gap rows a [] = None
 greatest_gap rows a (app ∷ apps) = greater_gap (gap_of_app rows a) (greatest_gap rows (a + 1) apps)
@@ -55,7 +55,7 @@ abbrev pub least_margin : Parts → List Report → Option Margin
 least_margin spec [] = None
 least_margin spec (report ∷ reports) = lesser_margin (margin_in spec report) (least_margin spec reports)
 
--- The facts of a flight with these rows and reports.
+-- The facts of a flight with the given rows and reports.
 abbrev pub facts_of : Parts → List Row → List Report → FlightFacts
 facts_of spec rows reports = record {
   frames = length rows;

@@ -19,7 +19,7 @@ use Rattle.flights_form.specs.declared.outcomes.Outcome.TheVariants.{Flown, Refu
 use Rattle.flights_form.specs.Facts.{facts_of}
 use Rattle.flights_form.specs.Outcomes.{outcome_of}
 
--- The text is the trace of some rows and reports, and `facts` are their facts.
+-- The text is the trace of some rows and reports, and `facts` are the facts of a flight with these rows and reports.
 pub record SumsUp (spec : Parts) (text : List ℕ) (facts : FlightFacts) : Type 0 where
   pub rows : List Row
   pub reports : List Report

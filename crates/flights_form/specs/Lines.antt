@@ -11,19 +11,21 @@ use Rattle.flights_form.specs.declared.totals.FlightGap.{FlightGap}
 use Rattle.flights_form.specs.declared.totals.FlightMargin.{FlightMargin}
 use Rattle.flights_form.specs.declared.totals.Totals.{Totals}
 
--- The length of the longest gap in frames, the application of the gap and its first frame, or 0 if there is no gap.
+-- The text with the length of the longest gap in frames, the application that has the gap, and the first frame of the
+-- gap. If there is no gap, the text has only the length 0.
 abbrev pub greatest_text : Parts → Option AppGap → List ℕ
 greatest_text spec None = codes " gap 0"
 greatest_text spec (Some gap) = codes " gap " ++ decimal gap.gap.frames ++ codes " " ++ app_name spec gap.app.0 ++ codes " at " ++ decimal gap.gap.at
 
--- The reconfiguration with the minimum margin, and the margin, or `-` if there is no margin.
+-- The text with the reconfiguration that has the minimum margin, and the margin. If there is no margin, the text has
+-- `-` instead.
 abbrev pub worst_text : Parts → Option Margin → List ℕ
 worst_text spec None = codes " worst -"
 worst_text spec (Some margin) =
     codes " worst " ++ conf_name spec margin.report.from.0 ++ target_text spec margin.report margin.report.to
     ++ codes " margin " ++ signed_decimal margin.frames
 
--- The line for flight `k` with these facts.
+-- The line for flight `k`, which has the facts `facts`.
 abbrev pub flown_line : Parts → ℕ → FlightFacts → List ℕ
 flown_line spec k facts =
     codes "flight " ++ decimal k ++ codes " frames " ++ decimal facts.frames ++ codes " reconfigurations " ++ decimal facts.reconfigurations

@@ -13,9 +13,9 @@ use Rattle.flights_form.specs.declared.outcomes.Outcome.{Outcome}
 use Rattle.flights_form.specs.declared.outcomes.Outcome.TheVariants.{Flown, Refused}
 use Rattle.flights_form.specs.Facts.{facts_of}
 
--- The outcome of a script that fits the specification, given the first frame in which the script violates the failure
--- assumption, or `None` if it does not violate the assumption. The outcome is the refusal by `run`, or the facts of
--- the one-thread flight.
+-- The outcome of a script that fits the specification. The last argument is the way in which the script violates the
+-- failure assumption, or `None` if the script keeps to the assumption. The outcome is the refusal with which `run`
+-- refuses the script, or the facts of the script's one-thread flight.
 abbrev pub outcome_within : Parts → ScriptParts → Option Outside → Outcome
 outcome_within spec script (Some outside) = Refused (outside_line outside)
 outcome_within spec script None = Flown (facts_of spec (rows_of spec script) (reports_of spec script))

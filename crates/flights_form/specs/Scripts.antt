@@ -20,7 +20,7 @@ lines_of bytes = without_empty_last (pieces_of 10 bytes)
 abbrev pub SaysScripts : List ℕ → List ℕ → Type 0
 SaysScripts scripts bytes = scripts ≡ bytes
 
--- No bytes break a rule of files of scripts. A file is refused only if it has too many bytes.
+-- No bytes break a rule, since files of scripts have no rules. A file can still have too many bytes.
 abbrev pub BreaksNothing : ℕ × List ℕ → List ℕ → Type 0
 BreaksNothing refusal bytes = ⊥
 

@@ -14,7 +14,7 @@ abbrev pub is_refused : Outcome → Bool
 is_refused (Flown facts) = false
 is_refused (Refused line) = true
 
--- The minimum margin of flight `k`, or `None` if the flight has no margin.
+-- The minimum margin of flight `k`, or `None` if the script was refused or the flight has no margin.
 abbrev pub margin_in_flight : ℕ → Outcome → Option FlightMargin
 margin_in_flight k (Flown facts) = option_map (λ (margin : Margin). record { frames = margin.frames; flight = k }) facts.margin
 margin_in_flight k (Refused line) = None
@@ -26,13 +26,13 @@ lesser_in_flight None later = later
 lesser_in_flight (Some margin) None = Some margin
 lesser_in_flight (Some margin) (Some later) = if int_lt later.frames margin.frames then Some later else Some margin
 
--- The minimum margin of the flights with the given outcomes, the first of which is flight `k`, with the first flight
--- that has this margin, or `None` if no flight has a margin.
+-- The minimum margin of the flights with the given outcomes, and the first flight that has this margin. The value is
+-- `None` if no flight has a margin. The first outcome is the outcome of flight `k`.
 abbrev pub least_in_flights : ℕ → List Outcome → Option FlightMargin
 least_in_flights k [] = None
 least_in_flights k (outcome ∷ outcomes) = lesser_in_flight (margin_in_flight k outcome) (least_in_flights (k + 1) outcomes)
 
--- The longest gap of flight `k`, or `None` if the flight has no gap.
+-- The longest gap of flight `k`, or `None` if the script was refused or the flight has no gap.
 abbrev pub gap_in_flight : ℕ → Outcome → Option FlightGap
 gap_in_flight k (Flown facts) = option_map (λ (gap : AppGap). record { frames = gap.gap.frames; flight = k }) facts.gap
 gap_in_flight k (Refused line) = None
@@ -44,8 +44,8 @@ greater_in_flight None later = later
 greater_in_flight (Some gap) None = Some gap
 greater_in_flight (Some gap) (Some later) = if nat_lt gap.frames later.frames then Some later else Some gap
 
--- The longest gap of the flights with the given outcomes, the first of which is flight `k`, with the first flight
--- that has a gap of this length, or `None` if no flight has a gap.
+-- The longest gap of the flights with the given outcomes, and the first flight that has a gap of this length. The
+-- value is `None` if no flight has a gap. The first outcome is the outcome of flight `k`.
 abbrev pub greatest_in_flights : ℕ → List Outcome → Option FlightGap
 greatest_in_flights k [] = None
 greatest_in_flights k (outcome ∷ outcomes) = greater_in_flight (gap_in_flight k outcome) (greatest_in_flights (k + 1) outcomes)

@@ -34,7 +34,7 @@ pub struct FlightFacts {
     pub margin: Option<Margin>,
 }
 
-/// Returns the facts of a flight with these rows and reports.
+/// Returns the facts of a flight with the given rows and reports.
 pub fn facts_of(spec: &Spec, rows: &[Row], reports: &[Report]) -> FlightFacts
     requires rows { length rows.now < 2 ^ 32 }
     requires reports { length reports.now < 2 ^ 32 }

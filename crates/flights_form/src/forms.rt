@@ -20,8 +20,8 @@ use scram_types::Spec;
 use std::alloc::Global;
 use trace_text::lines::Line;
 
-/// Flies each line of a file of scripts by the specification in another file, on the caller's thread. Prints a line for
-/// each flight and a line of totals.
+/// Flies the script on each line of a file by the specification in another file, on the caller's thread. Prints a
+/// line for each script that was flown or refused, and a line of totals.
 pub fn flights<F: Files, K: Sink>(
     alloc: Global,
     named: ScriptsFiles<'_>,

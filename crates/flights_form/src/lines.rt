@@ -10,7 +10,7 @@ use scram_types::Spec;
 use trace_text::lines::Line;
 use trace_text::report_lines::add_target;
 
-/// Returns the line for flight `k` with these facts.
+/// Returns the line for flight `k`, which has the facts `facts`.
 pub fn make_flown_line(spec: &Spec, k: u32, facts: &FlightFacts) -> Line
     ensures { result ≡ flown_line spec.now k facts.now }
 {
@@ -40,8 +40,8 @@ pub fn make_refused_start(k: u32) -> Line
     line
 }
 
-/// Returns the line that is printed last, with the numbers of lines and of refused lines, the minimum margin and the
-/// longest gap.
+/// Returns the line of totals, which is printed last. It has the number of lines, the number of refused lines, and
+/// the minimum margin and the longest gap, if there are any.
 pub fn make_totals_line(totals: &Totals) -> Line
     ensures { result ≡ totals_line totals.now }
 {

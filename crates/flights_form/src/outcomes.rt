@@ -26,7 +26,7 @@ pub enum Outcome {
     Refused(Line),
 }
 
-/// Reads the script in a line and returns the outcome. If the script satisfies the failure assumption, it is flown on
+/// Reads the script in a line and returns the outcome. If the script keeps to the failure assumption, it is flown on
 /// the caller's thread.
 pub fn fly_line(alloc: Global, spec: &Spec, line: &[u8]) -> Outcome
     ensures { IsOutcome spec.now line.now result }
@@ -62,8 +62,8 @@ fn fly_on_one_thread(alloc: Global, spec: &Spec, script: &Script) -> Outcome
     }
 }
 
-// Flies a script, and returns the facts of the flight. The racks have no boxes, since a processor without boxes follows
-// the same laws.
+// Flies a script, and returns the facts of the flight. The racks have no boxes, since the facts do not depend on the
+// boxes.
 #[tactic(auto, using(trace_props::proofs::Sizes::few_reports))]
 fn sum_up(alloc: Global, spec: &Spec, script: &Script) -> Result<FlightFacts, NoMemory>
     requires { Fits spec.now script.now }

@@ -46,7 +46,7 @@ fn too_long() -> Refusal
     Refusal::new(Refused::Script, make_script_line(&fault))
 }
 
-/// Returns the first line of a file and the bytes after it, or `None` if there is no line.
+/// Returns the first line of a file and the bytes of the lines after it, or `None` if there is no line.
 pub fn next_line(bytes: &[u8]) -> Option<(&[u8], &[u8])>
     ensures lines { MatchOption result (lines_of bytes.now ≡ []) (λ parts. lines_of bytes.now ≡ parts.0.now ∷ lines_of parts.1.now) }
     ensures shorter { IfSome result (λ parts. length parts.1.now < length bytes.now) }

@@ -9,7 +9,7 @@ use Rattle.form_base.specs.Answers.{Answer, AnswersDocument, AnswersFile, Gives}
 use Rattle.form_base.specs.Assurance.{IsAssuring, OfDocument, OfSpecification}
 use Rattle.form_base.specs.Specifications.{AsksSpecification, BreaksSpecification, SaysSpecification, long_specification}
 
--- An answer with a status other than 0 is not an answer with status 0.
+-- No answer with the status `suc n` has status 0.
 pub not_zero : {P : Type 0} (n : ℕ) (line text : List ℕ) → Gives (suc n, line) ANSWERED text → P
 not_zero n line text gives = let same : suc n ≡ ANSWERED = ap (λ (a : ℕ × List ℕ). a.0) gives in absurd (omega (arith, same))
 
@@ -25,8 +25,8 @@ document_assures_by {T} Says Breaks name Then Assures law never bytes before aft
     record { bytes = bytes; rest = rest; read = first; value = is.0; says = is.1; assured = law is.0 bytes is.1 before after rest text is.2 }
 document_assures_by {T} Says Breaks name Then Assures law never bytes before after rest reads text first (inr is) = absurd (never text bytes is.1 refl)
 
--- If no refusal of a document has status 0, the assurance follows from an answer of status 0 to the document. The
--- assurance must follow from an answer of status 0 to the document's value.
+-- Let the assurance follow from each answer of status 0 to a document's value, and let no refusal of the document
+-- have status 0. Then the assurance follows from each answer of status 0 to the document's file.
 pub document_assures : {T : Type 0} (Says : T → List ℕ → Type 0) (Breaks : ℕ × List ℕ → List ℕ → Type 0) (limit n : ℕ) (line name : List ℕ) (Then : T → Answer) (Assures : T → History → List ℕ → Type 0)
     → ((value : T) (bytes : List ℕ) → Says value bytes → IsAssuring (Then value) (Assures value))
     → ((text bytes : List ℕ) → Breaks (ANSWERED, text) bytes → ANSWERED ≢ ANSWERED)
@@ -39,8 +39,8 @@ document_assures {T} Says Breaks limit n line name Then Assures law never before
 no_broken_specification : (text bytes : List ℕ) → BreaksSpecification (ANSWERED, text) bytes → ANSWERED ≢ ANSWERED
 no_broken_specification text bytes breaks = not_zero 4 _ text (sym breaks.line)
 
--- The assurance follows from an answer of status 0 to the specification in a file. The assurance must follow from an
--- answer of status 0 to the specification.
+-- If the assurance follows from each answer of status 0 to a specification, it follows from each answer of status 0
+-- to the specification's file.
 pub specification_assures : (name : List ℕ) (Then : Parts → Answer) (Assures : Parts → History → List ℕ → Type 0)
     → ((spec : Parts) → IsSpec spec → IsAssuring (Then spec) (Assures spec)) → IsAssuring (AsksSpecification name Then) (OfSpecification name Assures)
 specification_assures name Then Assures law before after reads text is =

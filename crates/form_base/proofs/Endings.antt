@@ -25,20 +25,20 @@ pub put_taken : {A E : Type 0} (put : Result A E) (status : ℕ) (text : List �
 put_taken {A} {E} (Ok _) status text old new printed = printed_taken status text old new printed
 put_taken {A} {E} (Err _) status text old new cut = cut_taken status text old new cut
 
--- If the sink took a text of status 0 or a prefix of it, the result is correct for the answer with this status and
+-- If the sink took a text of status 0 or a prefix of it, `PrintsAnswer` holds for the answer with this status and
 -- text.
 pub answered_prints : (text : List ℕ) (old new : SinkState) (code : ℕ) → IsTaken old new code ANSWERED text → PrintsAnswer (Gives (ANSWERED, text)) old new code
 answered_prints text old new code taken =
     record { status = ANSWERED; text = text; answer = inl refl; read = λ same. absurd (omega (arith, same)); written = λ same. absurd (omega (arith, same)); taken = taken }
 
--- If the sink took a text or a prefix of it, the result is correct for the answer with this status and text. The
+-- If the sink took a text or a prefix of it, `PrintsAnswer` holds for the answer with this status and text. The
 -- status must be neither `UNREAD_FILE` nor `UNWRITTEN_OUTPUT`.
 pub given_prints : (status : ℕ) (text : List ℕ) (old new : SinkState) (code : ℕ) → status ≢ UNREAD_FILE → status ≢ UNWRITTEN_OUTPUT
     → IsTaken old new code status text → PrintsAnswer (Gives (status, text)) old new code
 given_prints status text old new code read written taken =
     record { status = status; text = text; answer = inl refl; read = read; written = written; taken = taken }
 
--- If the sink took the out-of-memory line, the result is correct for every answer.
+-- If the sink took the out-of-memory line or a prefix of it, `PrintsAnswer` holds for every answer.
 pub memory_prints : (A : ℕ → List ℕ → Type 0) (old new : SinkState) (code : ℕ) → IsTaken old new code OUT_OF_MEMORY memory_line → PrintsAnswer A old new code
 memory_prints A old new code taken =
     record { status = OUT_OF_MEMORY; text = memory_line; answer = inr (refl, refl); read = λ same. absurd (omega (arith, same)); written = λ same. absurd (omega (arith, same)); taken = taken }
@@ -117,7 +117,7 @@ sent_surely_by (Some n) mid before between now last text first second = λ fits.
     let two : Unrisen between now × (last ≡ Some (n - length text - 0)) = then (omega arith) in
     record { same = two.0.same ∙ one.0.same; below = one.0.below }
 
--- If the sink is certain to take a text and then to send it, the sink's fault count does not rise.
+-- If the sink is certain to take the whole text, neither taking the text nor the flush raises the sink's fault count.
 sent_surely : (old mid new : SinkState) (text : List ℕ) → TakesSurely old mid text → Flushed mid new → IsQuietFor text old new
 sent_surely old mid new text first flushed = sent_surely_by old.surely mid.surely old.faults mid.faults new.faults new.surely text first flushed.surely
 

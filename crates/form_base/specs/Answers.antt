@@ -39,7 +39,8 @@ pub record AnswersLonger (limit : ℕ) (long : ℕ × List ℕ) (name : List ℕ
   pub counted : IfNone before.known_map (Rose before.faults after.faults)
   pub gives : Gives long status text
 
--- Reading the file `name` failed, and the answer reports this failure.
+-- Reading the file `name` failed. No file was read, the fault count of the files rose, and the answer reports that
+-- the file was not read.
 abbrev pub AnswersFailed : List ℕ → Answer
 AnswersFailed name before after reads status text = (reads ≡ []) × Rose before.faults after.faults × Gives (UNREAD_FILE, read_line name) status text
 
@@ -54,8 +55,8 @@ abbrev pub AnswersFile : ℕ → ℕ × List ℕ → List ℕ → (List ℕ → 
 AnswersFile limit long name Answers before after reads status text =
     AnswersBytes limit name Answers before after reads status text ⊎ AnswersUnread limit long name before after reads status text
 
--- Either the bytes encode a value and the answer is the answer to this value, or the bytes break a rule and the
--- answer reports the rule.
+-- Either the bytes encode a value and the answer is the answer `Then` to this value, or the bytes break a rule and
+-- the answer reports the rule. In the second case no further file is read.
 abbrev pub AnswersDocument : {T : Type 0} → (T → List ℕ → Type 0) → (ℕ × List ℕ → List ℕ → Type 0) → (T → Answer) → List ℕ → Answer
 AnswersDocument {T} Says Breaks Then bytes before after reads status text =
     ((value : T) × Says value bytes × Then value before after reads status text) ⊎ ((reads ≡ []) × Breaks (status, text) bytes)

@@ -14,7 +14,7 @@ IsMemoryRefusal status text = (status ≡ OUT_OF_MEMORY) × (text ≡ memory_lin
 abbrev pub AreInTurn : List (List ℕ) → History → Type 0
 AreInTurn names reads = (rest : List (List ℕ)) × (names ≡ map (λ (read : List ℕ × List ℕ). read.0) reads ++ rest)
 
--- All files with these names exist.
+-- The map contains a file with each of these names.
 abbrev pub AreThere : FileMap → List (List ℕ) → Type 0
 AreThere map [] = ⊤
 AreThere map (name ∷ names) = IsSome (file_at name map) × AreThere map names
@@ -23,8 +23,9 @@ AreThere map (name ∷ names) = IsSome (file_at name map) × AreThere map names
 abbrev pub StaysQuiet : List (List ℕ) → FilesState → FilesState → Type 0
 StaysQuiet names before after = IfSome before.known_map (λ map. IsTrue before.steady → AreThere map names → Unrisen before.faults after.faults)
 
--- The status and the text are the answer to the reads, or the named files were read in order until the allocator was
--- out of memory. A file is reported as unread only if the fault count rose.
+-- Either the status and the text are an answer to the reads, or the named files were read in order until the
+-- allocator was out of memory. In the second case the status and the text are those of the out-of-memory refusal. A
+-- file is reported as unread only if the fault count rose.
 pub record Decides (Answers : Answer) (names : List (List ℕ)) (before after : FilesState) (status : ℕ) (text : List ℕ) : Type 0 where
   pub reads : History
   pub grew : Grew before after reads
@@ -32,8 +33,8 @@ pub record Decides (Answers : Answer) (names : List (List ℕ)) (before after : 
   pub answer : Answers before after reads status text ⊎ (IsMemoryRefusal status text × AreInTurn names reads)
   pub unread : status ≡ UNREAD_FILE → Rose before.faults after.faults
 
--- The files that the answer needs were read, in the order of these names. Every answer that `Rest` allows is an answer
--- to these reads.
+-- The files that the answer needs were read, in the order of these names. Every status and text that `Rest` allows is
+-- an answer to the reads.
 pub record IsPrepared (Answers : Answer) (Rest : ℕ → List ℕ → Type 0) (names : List (List ℕ)) (before after : FilesState) : Type 0 where
   pub reads : History
   pub grew : Grew before after reads
@@ -49,14 +50,14 @@ Prepares Answers Rest names before after (Err refusal) = Decides Answers names b
 
 -- A decision was made without reading a file. If the result is a value, every status and text that `Rest` allows for
 -- the value is an answer. If the result is a refusal, the refusal is an answer or reports that the allocator was out
--- of memory.
+-- of memory. The status of the refusal is not `UNREAD_FILE`.
 abbrev pub PreparesWithoutFiles : {T : Type 0} → (ℕ → List ℕ → Type 0) → (T → ℕ → List ℕ → Type 0) → Result T Refusal → Type 0
 PreparesWithoutFiles Answers Rest (Ok value) = (status : ℕ) (text : List ℕ) → Rest value status text → Answers status text
 PreparesWithoutFiles Answers Rest (Err refusal) =
     (Answers (answer_of refusal).0 (answer_of refusal).1 ⊎ IsMemoryRefusal (answer_of refusal).0 (answer_of refusal).1) × ((answer_of refusal).0 ≢ UNREAD_FILE)
 
--- The sink took the text, and the code is the status of the text. If the sink failed, it took a prefix of the text,
--- and the code is `UNWRITTEN_OUTPUT`.
+-- Either the sink took the text and the code is the status of the text, or the sink failed after it took a prefix of
+-- the text and the code is `UNWRITTEN_OUTPUT`.
 pub record IsTaken (old new : SinkState) (code status : ℕ) (text : List ℕ) : Type 0 where
   pub shown : ((code ≡ status) × Took old new text) ⊎ ((code ≡ UNWRITTEN_OUTPUT) × TookPrefix old new text × Rose old.faults new.faults)
   pub surely : TakesSurely old new text
@@ -77,8 +78,8 @@ pub record StoppedIn (old new : SinkState) (text : List ℕ) : Type 0 where
 abbrev pub IsQuietFor : List ℕ → SinkState → SinkState → Type 0
 IsQuietFor text old new = IfSome old.surely (λ room. length text ≤ room → Unrisen old.faults new.faults)
 
--- The text was sent, and the code is the status of the text. If the sending stopped before the end of the text, the
--- code is `UNWRITTEN_OUTPUT`.
+-- Either the text was sent and the code is the status of the text, or the sending failed and the code is
+-- `UNWRITTEN_OUTPUT`.
 pub record IsSent (old new : SinkState) (code status : ℕ) (text : List ℕ) : Type 0 where
   pub shown : ((code ≡ status) × WentOut old new text) ⊎ ((code ≡ UNWRITTEN_OUTPUT) × StoppedIn old new text)
   pub surely : IsQuietFor text old new
@@ -93,8 +94,8 @@ pub record PrintsAnswer (Answers : ℕ → List ℕ → Type 0) (old new : SinkS
   pub written : status ≢ UNWRITTEN_OUTPUT
   pub taken : IsTaken old new code status text
 
--- The result of a form that reads the named files in order. The reads decide a status and a text, and `Shown` holds for
--- both.
+-- The result of a form that reads the named files in order. The reads decide a status and a text. `Shown` holds for
+-- this status and this text, and the status is not `UNWRITTEN_OUTPUT`.
 pub record Ends (Answers : Answer) (names : List (List ℕ)) (before after : FilesState) (Shown : ℕ → List ℕ → Type 0) : Type 0 where
   pub status : ℕ
   pub text : List ℕ

@@ -20,17 +20,18 @@ use Rattle.trace_text.specs.Names.{conf_or_dash, further_joined}
 abbrev pub rule_text : ℕ → List ℕ → List ℕ
 rule_text rule path = codes " rule " ++ decimal rule ++ codes " at " ++ path_text path
 
--- The text of the names of the applications in a cycle of needs, or the empty text if the list of names is empty.
+-- The text that names the applications in a cycle of needs, or the empty text if the list of names is empty.
 abbrev pub cycle_text : List (List ℕ) → List ℕ
 cycle_text [] = []
 cycle_text (name ∷ names) = codes " cycle " ++ name ++ further_joined names
 
--- The refusal of a specification document that breaks a rule.
+-- The line of the refusal of a specification document that breaks a rule.
 abbrev pub specification_line : SpecFault → List ℕ
 specification_line fault =
     codes "refused: specification" ++ rule_text fault.rule fault.path ++ cycle_text fault.names.items ++ codes "\n"
 
--- The text of each factor with its value, each followed by a comma. The number of the first factor is `i`.
+-- The text of the factors with their values, each followed by a comma. The first factor has the number `i`, and
+-- `values` has the values of the factors by number.
 abbrev pub factors_text : List Factor → ℕ → List ℕ → List ℕ
 factors_text [] i values = []
 factors_text (factor ∷ factors) i values =
@@ -76,7 +77,7 @@ other_text spec (other.Least target frames) = conf_name spec target.0 ++ codes "
 other_text spec (other.Item place) = decimal place
 other_text spec (other.Demand place) = demand_name spec place
 
--- The refusal of a specification that is not accepted.
+-- The line of the refusal of a specification that is not accepted.
 abbrev pub shown_line : Parts → Shown → List ℕ
 shown_line spec shown =
     codes "refused: A" ++ decimal shown.condition ++ codes " " ++ conf_or_dash spec shown.conf ++ codes " "

@@ -22,8 +22,8 @@ abbrev pub ReadsAs : {T : Type 0} → (T → List ℕ → Type 0) → (ℕ × Li
 ReadsAs Says Breaks bytes (Ok value) = Says value bytes
 ReadsAs Says Breaks bytes (Err refusal) = Breaks (answer_of refusal) bytes ⊎ IsOutOfMemory (answer_of refusal)
 
--- The reason why a file was not loaded. The file breaks a rule, is too long or was not read, or the allocator was out
--- of memory before or after the reading.
+-- The refusal gives the reason why the file `name` was not loaded. Either the file breaks a rule, is too long or was
+-- not read, or the allocator was out of memory before or after the reading.
 abbrev pub IsUnloaded : (ℕ × List ℕ → List ℕ → Type 0) → ℕ → ℕ × List ℕ → List ℕ → FilesState → FilesState → ℕ × List ℕ → Type 0
 IsUnloaded Breaks limit long name before after refusal =
     HasRead limit name (Breaks refusal) before after
@@ -38,6 +38,6 @@ abbrev pub Loads : {T : Type 0} → (T → List ℕ → Type 0) → (ℕ × List
 Loads Says Breaks limit long name before after (Ok value) = HasRead limit name (Says value) before after
 Loads Says Breaks limit long name before after (Err refusal) = IsUnloaded Breaks limit long name before after (answer_of refusal)
 
--- If a file was refused because it could not be read, the number of faults of the files rose.
+-- If a file was refused because it could not be read, the fault count of the files rose.
 abbrev pub UnreadIsFault : {A : Type 0} → FilesState → FilesState → Result A Refusal → Type 0
 UnreadIsFault before after result = IfErr result (λ (refusal : Refusal). (answer_of refusal).0 ≡ UNREAD_FILE → Rose before.faults after.faults)

@@ -21,7 +21,7 @@ pub record SaysSpecification (spec : Parts) (bytes : List ℕ) : Type 0 where
   pub sound : IsSpec spec
   pub writable : IsWritable spec
 
--- The fault of a specification, with the names of the applications in a cycle of needs.
+-- The fault `fault` of a specification document, with the names `cycle` of the applications in a cycle of needs.
 abbrev pub showing : List (List ℕ) → DocFault → SpecFault
 showing cycle fault = record { rule = fault.rule; path = fault.path; cycle = record { items = [] }; names = record { items = cycle } }
 

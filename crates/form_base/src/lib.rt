@@ -1,4 +1,4 @@
-//! The base of the forms of the command: statuses, refusals, printing, and the loading of the files that the
+//! The parts that the forms of the command share: statuses, refusals, printing, and the loading of the files that the
 //! command's words name. A form reads its files, builds its text and prints it.
 #![tactic(auto)]
 

@@ -1,4 +1,5 @@
-//! The lines of refusals that several forms print, and the parts of these lines, made without allocation.
+//! The lines of refusals that several forms of the command print, and the parts of these lines. All are made without
+//! allocation.
 
 ghost use Rattle.std.specs.Prelude.{◌≡◌, ◌+◌, ◌*◌, ◌≤◌, ◌++◌, [], ◌<◌, ◌^◌, length, codes, if◌then◌else◌};
 ghost use Rattle.scram_types.specs.declared.limits.TheConstants.{MAX_LINE_BYTES};
@@ -12,8 +13,8 @@ use scram_types::{Env, Factor, Flown, Name, Spec};
 use trace_text::lines::Line;
 use trace_text::row_lines::add_conf_or_dash;
 
-/// Returns the line for a specification document that breaks a rule. If the needs have a cycle, the line names the
-/// applications in it.
+/// Returns the line for a specification document that breaks a rule. The line has the rule's number and the path at
+/// which the rule is broken. If `fault` names the applications in a cycle of needs, the line also has their names.
 pub fn make_specification_line(fault: &SpecFault) -> Line
     ensures { result ≡ specification_line fault.now }
 {
@@ -25,8 +26,9 @@ pub fn make_specification_line(fault: &SpecFault) -> Line
     line
 }
 
-/// Returns the line for a specification that is not accepted. The line has the condition, and the configuration, the
-/// environment and the further part at which the condition is broken.
+/// Returns the line for a specification that is not accepted. The line has the number of the broken condition,
+/// followed by the configuration, the environment and the value of `shown.other`. Each of these three is `-` if there
+/// is none.
 pub fn make_shown_line(spec: &Spec, shown: &Shown) -> Line
     ensures { result ≡ shown_line spec.now shown.now }
 {

@@ -10,7 +10,7 @@ use crate::refusals::Refusal;
 use scram_io::{Files, ReadFault};
 use std::alloc::Global;
 
-/// A kind of document, with its maximum length and the values that its bytes encode.
+/// A kind of document. Each document has at most a given length, and its bytes encode a value of type `T`.
 pub trait Document<T> {
     ghost limit: { Self → ℕ };
 
@@ -28,7 +28,7 @@ pub trait Document<T> {
     ///
     /// # Errors
     ///
-    /// Returns the refusal of the first rule that the bytes break, and the out-of-memory refusal if memory runs out.
+    /// Returns the refusal for the first rule that the bytes break, or the out-of-memory refusal if memory runs out.
     fn read(&self, alloc: Global, bytes: &[u8]) -> Result<T, Refusal>
         ensures reads { ReadsAs (Says self.now) (Breaks self.now) bytes.now result }
         ensures other { IfErr result (λ refusal. (answer_of refusal).0 ≢ UNREAD_FILE) };
@@ -43,8 +43,9 @@ pub trait Document<T> {
 ///
 /// # Errors
 ///
-/// Returns the refusal of an unread file if reading fails. Returns the refusal of the document if the file is too
-/// long or breaks a rule. Returns the out-of-memory refusal if memory runs out.
+/// Returns the refusal of a file that was not read if reading fails. Returns the refusal `document.too_long()` if the
+/// file is too long. Returns the refusal of `document.read` if the file breaks a rule. Returns the out-of-memory
+/// refusal if memory runs out.
 pub fn load<T, D: Document<T>, F: Files>(
     alloc: Global,
     document: &D,

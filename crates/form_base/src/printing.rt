@@ -1,4 +1,4 @@
-//! The printing of a text with its status.
+//! The printing of a text, and the status that results.
 
 ghost use Rattle.form_base.specs.Endings.{IsTaken};
 ghost use Rattle.std.specs.Prelude.{◌≡◌};
@@ -9,7 +9,8 @@ use crate::refusals::Refusal;
 use crate::status::{Status, UNWRITTEN_OUTPUT};
 use scram_io::{Sink, SinkFault};
 
-/// Returns the status after a text was written: `code`, or `UNWRITTEN_OUTPUT` if the sink failed.
+/// Returns the status after a text was written with the result `put`: `code`, or `UNWRITTEN_OUTPUT` if the sink
+/// failed.
 pub fn status_after(put: Result<(), SinkFault>, code: u8) -> Status
     ensures { result.code ≡ status_after put code }
 {
@@ -21,7 +22,7 @@ pub fn status_after(put: Result<(), SinkFault>, code: u8) -> Status
     }
 }
 
-/// Writes a text in one piece as the whole output. Returns the status `code`, or `UNWRITTEN_OUTPUT` if the sink
+/// Writes `text` in one piece as the whole output. Returns the status `code`, or `UNWRITTEN_OUTPUT` if the sink
 /// fails.
 pub fn print_text<K: Sink>(out: &mut K, code: u8, text: &[u8]) -> Status
     ensures { IsTaken (K.state out.old) (K.state out.new) result.code code text.now }

@@ -11,7 +11,7 @@ use trace_text::lines::Line;
 /// A kind of refusal.
 #[derive(Clone, Copy, Debug, PartialEq, Eq)]
 pub enum Refused {
-    /// The words match no form of the command.
+    /// The command's words match no form of the command.
     Usage,
     /// A file was not read.
     File,
@@ -53,12 +53,12 @@ impl Refused {
     }
 }
 
-/// The line of a refusal, with or without allocated memory.
+/// The line of a refusal. Memory is allocated only for a line with the name of a file.
 #[derive(Drop)]
 pub enum RefusalLine {
     /// A line that is made without allocation.
     Short(Line),
-    /// A line with the name of a file, which may have any length.
+    /// A line with the name of a file. The name may have any length, so the line is allocated.
     Naming(String),
 }
 

@@ -1,15 +1,15 @@
 //! The statuses of the command.
 
-/// The status with which the command ends. It is one of the constants below.
+/// The status with which the command ends. Its code is one of the constants below.
 #[derive(Clone, Copy, Debug, PartialEq, Eq)]
 pub struct Status {
     pub code: u8,
 }
 
-/// The request was carried out and its output printed.
+/// The request was carried out, and its output was printed.
 pub const ANSWERED: u8 = 0;
 
-/// The words match no form of the command.
+/// The command's words match no form of the command.
 pub const BROKEN_USAGE: u8 = 2;
 
 /// A file was not read.

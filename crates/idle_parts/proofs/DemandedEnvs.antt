@@ -96,7 +96,7 @@ value_same v (first ∷ wants) (suc i) want all there =
         subst (λ (w : Want). factor_in v w.factor.0 ≡ w.value) same (equal _ first.value (and_left (has_wanted v first) _ all))
     wanted_is v (first ∷ wants) (suc i) want all there = wanted_is v wants i want (and_right (has_wanted v first) _ all) there
 
--- Lemmas that all processors of a set are down if and only if each of them is down.
+-- Lemmas on the test `all_down`, which passes for a set if and only if each processor in the set is down.
 
 down_by : (set p : ℕ) (v : Env) → all_down set v ≡ true → has_bit set p ≡ true → is_up_in v p ≡ false
 down_by set p v none bit =

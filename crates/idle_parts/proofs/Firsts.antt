@@ -12,7 +12,7 @@ use Rattle.choice_table.specs.Choices.{rule_fits}
 use Rattle.cube_cover.specs.Shares.{first_rule, is_ruled_by}
 use Rattle.idle_parts.specs.Laws.{IsFirstFit}
 
--- If rule `k` fits and no earlier rule fits, rule `k` is the first rule that fits.
+-- If rule `k` fits and no earlier rule fits, `first_rule` returns `k`.
 first_here : (rules : List Choice) (c : ConfId) (v : Env) (k : ℕ) (rule : Choice) → slice_get rules k ≡ Some rule → rule_fits c v rule ≡ true
     → ((j : ℕ) (earlier : Choice) → j < k → slice_get rules j ≡ Some earlier → rule_fits c v earlier ≡ false) → first_rule rules c v ≡ k
 first_here [] c v k rule there fits before = absurd (cc)
@@ -22,7 +22,7 @@ first_here (first ∷ rules) c v (suc k) rule there fits before =
     let none : rule_fits c v first ≡ false = before 0 first (omega arith) refl in
     rw (none) (ap suc (first_here rules c v k rule there fits (λ j earlier low is. before (suc j) earlier (omega (arith, low)) is)))
 
--- If rule `k` is the first rule that fits, it fits and no earlier rule fits.
+-- If `first_rule` returns `k`, rule `k` fits and no earlier rule fits.
 here_fits : (rules : List Choice) (c : ConfId) (v : Env) (k : ℕ) (rule : Choice) → slice_get rules k ≡ Some rule → first_rule rules c v ≡ k → rule_fits c v rule ≡ true
 here_fits [] c v k rule there is = absurd (cc)
 here_fits (first ∷ rules) c v zero rule there is = by_bool (rule_fits c v first)

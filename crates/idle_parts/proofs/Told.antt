@@ -1,4 +1,4 @@
--- A rule, a configuration or a demand is shown as idle if and only if it has no use.
+-- Proofs of the laws that state which rules, configurations and demands are shown as idle.
 use Rattle.std.proofs.Common.{◌≡◌, ap, length, refl, Bool, true, false}
 use mathlib.Core.Logic.{inl, inr}
 use Rattle.std.specs.Prelude.{◌==◌, not}

@@ -24,6 +24,6 @@ is_target_of_other spec c i = not (i == c) && is_target spec (conf_id i) c
 abbrev pub is_conf_idle : Parts → ℕ → Bool
 is_conf_idle spec c = not (spec.start.0 == c) && not (any_below (is_target_of_other spec c) (length spec.confs))
 
--- Whether a bound is idle, since acceptance does not require a bound from its source to its target.
+-- Whether a bound is idle. It is idle if acceptance does not require a bound from its source to its target.
 abbrev pub is_bound_idle : Parts → Bound → Bool
 is_bound_idle spec bound = not (is_bound_asked spec bound.from bound.to.0)

@@ -6,7 +6,7 @@ use Rattle.scram_types.specs.declared.specification.Bound.{Bound}
 use Rattle.idle_parts.specs.declared.lines.PartKind.{PartKind}
 use Rattle.idle_parts.specs.declared.lines.PartKind.TheVariants.{Rule, Conf, Factor, Bound as BoundKind, Mode, App, Proc, Demand}
 
--- The word for a kind of parts.
+-- The word for a kind of part.
 abbrev pub part_word : PartKind → List ℕ
 part_word Rule = codes "rule"
 part_word Conf = codes "configuration"

@@ -70,8 +70,8 @@ idle_demand_text spec demand = line_if (is_demand_idle spec demand) kind.Demand 
 abbrev pub idle_demand_text_at : Parts → ℕ → List ℕ
 idle_demand_text_at spec k = option_map_or (idle_demand_text spec) (slice_get spec.demands k) []
 
--- The line of part number `n` of a kind if the part is idle, or the empty text otherwise. For the kind `Mode`, these
--- are the lines of the idle modes of application number `n`.
+-- The line of part number `n` of a kind if the part is idle, or the empty text otherwise. For the kind `Mode`, the
+-- text has the lines of the idle modes of application number `n`.
 abbrev pub idle_part_text : Parts → PartKind → ℕ → List ℕ
 idle_part_text spec kind.Rule n = idle_rule_text spec n
 idle_part_text spec kind.Conf n = idle_conf_text spec n

@@ -16,8 +16,8 @@ use scram_types::{Bound, ConfId, List, NoMemory, Spec};
 use spec_forms::{find_asked, is_asked};
 use std::alloc::Global;
 
-// The possible choices from each configuration: the shares of the rules, and the set of configurations to which
-// acceptance requires a bound.
+// The possible choices from each configuration. For each configuration, `shares` has each rule's share of the
+// environments in scope, and `sets` has the set of the targets to which acceptance requires a bound.
 #[derive(Drop)]
 pub(crate) struct Chosen {
     pub(crate) shares: Vec<List<Share>>,
@@ -66,8 +66,8 @@ fn is_first_from(spec: &Spec, shares: &[Share], k: u8, i: u8) -> bool
     has_environment(spec, &shares[usize::from(k)], k, i)
 }
 
-// Returns `true` if rule `k` is the first that fits configuration `i` in some environment in scope, given the share
-// of the rule.
+// Returns `true` if rule `k` is the first that fits configuration `i` in some environment in scope. `share` is the
+// rule's share of the environments in scope.
 fn has_environment(spec: &Spec, share: &Share, k: u8, i: u8) -> bool
     requires { IsShare spec.now (is_ruled_by spec.now (conf_id i) k) share.now }
     ensures { result ≡ is_first_from spec.now k i }
@@ -108,7 +108,7 @@ fn is_target_of_others(spec: &Spec, sets: &[u16; 12], c: u8) -> bool
 }
 
 // Returns `true` if `i` and `c` differ, and configuration `c` is a possible target of configuration `i`. `set` has
-// the targets to which acceptance requires a bound.
+// the targets to which acceptance requires a bound from configuration `i`.
 fn is_target_of_other(spec: &Spec, set: u16, c: u8, i: u8) -> bool
     requires set { set ≡ asked_bounds spec.now (conf_id i) }
     requires conf { c < length spec.now.confs }

@@ -5,7 +5,7 @@ ghost use Rattle.idle_parts.specs.Lines.{idle_line, part_word};
 
 use trace_text::lines::Line;
 
-// A kind of parts of a specification.
+// A kind of part of a specification.
 #[derive(Clone, Copy, Debug, PartialEq, Eq)]
 pub(crate) enum PartKind {
     Rule,

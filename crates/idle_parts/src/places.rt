@@ -8,7 +8,7 @@ ghost use Rattle.idle_parts.specs.Places.{is_app_idle, is_app_placed, is_in_mode
 use choice_forms::is_placed_on;
 use scram_types::{AppId, Mode, Place, ProcId, Spec};
 
-// Returns `true` if no configuration places an application in this mode.
+// Returns `true` if no configuration places application `app` in mode `mode`.
 pub(crate) fn is_mode_idle(spec: &Spec, app: AppId, mode: Mode) -> bool
     ensures { result ≡ is_mode_idle spec.now app.0 mode.0 }
 {
@@ -33,14 +33,14 @@ fn is_in_mode(place: Option<Place>, mode: Mode) -> bool
     }
 }
 
-// Returns `true` if no configuration places an application.
+// Returns `true` if no configuration places application `app`.
 pub(crate) fn is_app_idle(spec: &Spec, app: AppId) -> bool
     ensures { result ≡ is_app_idle spec.now app.0 }
 {
     !is_app_placed(spec, app)
 }
 
-// Returns `true` if some configuration places an application.
+// Returns `true` if some configuration places application `app`.
 pub(crate) fn is_app_placed(spec: &Spec, app: AppId) -> bool
     ensures { result ≡ is_app_placed spec.now app.0 }
 {
@@ -50,7 +50,7 @@ pub(crate) fn is_app_placed(spec: &Spec, app: AppId) -> bool
         .any(|conf| conf.place(app).is_some())
 }
 
-// Returns `true` if no configuration places an application on a processor.
+// Returns `true` if no configuration places an application on processor `proc`.
 pub(crate) fn is_proc_idle(spec: &Spec, proc: ProcId) -> bool
     ensures { result ≡ is_proc_idle spec.now proc.0 }
 {

@@ -18,7 +18,7 @@ use scram_types::{AppId, Choice, Demand, Env, FactorId, Spec, Want};
 /// The number of factors that supply power. They are the first factors, and power monitors read them.
 pub const POWER_FACTORS: u8 = 2;
 
-// Returns `true` if no rule requires a value of a factor, and the factor is not a power supply that a placed
+// Returns `true` if no rule requires a value of factor `factor`, and the factor is not a power supply that a placed
 // application reads. Values that demands require are ignored.
 pub(crate) fn is_factor_idle(spec: &Spec, factor: FactorId) -> bool
     ensures { result ≡ is_factor_idle spec.now factor.0 }

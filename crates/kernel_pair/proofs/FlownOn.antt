@@ -120,8 +120,8 @@ abbrev Processors : PairParts → Type 0
 Processors k = (q : ProcId) (u : ℕ) → q.0 < 8 → u < 2 → IsPairNext (pair_flight k) k.halt (pair_in k) (Fly q u) → ⊥
 
 -- If `IsFlownOn` holds for each of the three parts of a round, then it holds for the whole round. The parts are the
--- frames of the processors, the events of unit 0 and the events of unit 1. If the same number of events remain after
--- the round, then no actor has a next event.
+-- frames of the processors, the events of unit 0 and the events of unit 1. If the round does not change the number of
+-- events that remain, then no actor has a next event.
 pub round_on : (old mid mid2 new : PairParts) → IsFlownOn old mid ((q : ProcId) (u : ℕ) → q.0 < 8 → u < 2 → IsPairNext (pair_flight old) old.halt (pair_in old) (Fly q u) → ⊥)
     → IsFlownOn mid mid2 (next_unit (pair_flight mid) mid.halt (pair_in mid) 0 ≡ None) → IsFlownOn mid2 new (next_unit (pair_flight mid2) mid2.halt (pair_in mid2) 1 ≡ None) → IsFlownOn old new (NoneNext old)
 round_on old mid mid2 new one two_ three =

@@ -49,7 +49,8 @@ begun_at m p f (Halted h) x y d mark bank e =
 pub begun : (m : Flight) (p f : ℕ) (x : Processor) → Flies m → IsProcessor m p x → frame_to_make (m.restart p) x.place ≡ Some f → Begun m p f x
 begun m p f x y o e = begun_at m p f x.place x y o.place o.mark o.bank e
 
--- Lemmas on the place after frame `f`: its mark, end word and banks are those before the next frame.
+-- Lemmas on the place of a processor after frame `f`. The mark, the end word and the banks at this place are those
+-- before the next frame.
 expected_past : (m : Flight) (p f : ℕ) (o : Option ℕ) → Flies m → m.up p f ≡ true → f < m.frames → m.halt p f ≡ o → IsStanding m p (after_frame f o)
 expected_past m p f None y u l e = record { fresh = refl; within = l; up = y.stays p f u e; done = end_up m p f u ∙ ap (λ (o : Option ℕ). end_word_after f o) e }
 expected_past m p f (Some s) y u l e = record { step = s; up = u; halts = e }

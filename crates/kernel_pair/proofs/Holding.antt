@@ -1,4 +1,4 @@
--- Each state with the invariant `PairKept` satisfies `PairHolds`.
+-- Each state that satisfies the invariant `PairKept` satisfies `PairHolds`.
 use Rattle.std.proofs.Common.{ap, ◌∙◌, ℕ, suc, ◌<◌, List, length}
 use Rattle.std.specs.Prelude.{Option}
 use Rattle.scram_types.specs.declared.ids.ProcId.{ProcId}

@@ -72,8 +72,8 @@ pub record IsUnit (m : Flight) (halt : Option UnitHalt) (u : ℕ) (x : KernelUni
 abbrev pub NotBelow : ℕ → ℕ → ℕ → ℕ → Type 0
 NotBelow k j p f = (k ≤ f) × (p < j → k < f)
 
--- The frame that processor `p` makes next is at least the frame of a unit. If the unit has noted `p`, it is above the
--- frame of the unit.
+-- The frame that processor `p` makes next is at least the frame of a unit. If the unit has noted `p`, the processor's
+-- frame is above the frame of the unit.
 abbrev pub IsAhead : Flight → ℕ → Place → KernelUnit → Type 0
 IsAhead m p place x = (f : ℕ) → frame_to_make (m.restart p) place ≡ Some f → NotBelow x.frame x.step p f
 

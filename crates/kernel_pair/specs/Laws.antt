@@ -66,13 +66,14 @@ pub record PairHolds (spec : Parts) (script : ScriptParts) (halt : Option UnitHa
   pub one_stays : OneUnitStays (flight_of spec script) s
   pub goes_on : IsPairOver (flight_of spec script) s ⊎ HasNext (flight_of spec script) halt s
 
--- `PairHolds` holds in each state that a schedule reaches from an opening, for every halt of one unit.
+-- `PairHolds` holds in each state that a schedule reaches from an opening, with or without a halt of one unit.
 abbrev pub PairsHold : Type 0
 PairsHold = (spec : Parts) (script : ScriptParts) → IsSpec spec → Fits spec script
     → (halt : Option UnitHalt) (first : Pair) (events : List PairEvent) (state : Pair)
     → IsPairOpening (flight_of spec script) first → IsPairSchedule (flight_of spec script) halt first events state → PairHolds spec script halt state
 
--- The invariant `PairKept` holds in each state that a schedule reaches from an opening, for every halt of one unit.
+-- The invariant `PairKept` holds in each state that a schedule reaches from an opening, with or without a halt of one
+-- unit.
 abbrev pub PairsKeep : Type 0
 PairsKeep = (spec : Parts) (script : ScriptParts) → Fits spec script → (halt : Option UnitHalt) (first : Pair) (events : List PairEvent) (state : Pair)
     → IsPairOpening (flight_of spec script) first → IsPairSchedule (flight_of spec script) halt first events state → PairKept (flight_of spec script) halt state

@@ -42,7 +42,7 @@ pair_with k event = pair_after (pair_flight k) k.halt (pair_in k) event
 abbrev pub unit_in : PairParts → ℕ → KernelUnit
 unit_in pair u = (pair_in pair).unit u
 
--- The event is the next event of its actor in the pair.
+-- The event is a next event of its actor in the pair.
 abbrev pub IsPairNextIn : PairParts → PairEvent → Type 0
 IsPairNextIn pair event = IsPairNext (pair_flight pair) pair.halt (pair_in pair) event
 
@@ -72,7 +72,7 @@ pub record PairKeeps (spec : Parts) (script : ScriptParts) (halt : Option UnitHa
   pub room_left : count + pair_left (flight_of spec script) halt (pair_of state) ≤ room
 
 -- If the event is a `Fly`, `draft` holds the words of the draft of the processor's next frame. If the event is a
--- `Store`, `word` is the word to store.
+-- `Store`, `word` is the word to store. For any other event, `draft` and `word` are arbitrary.
 abbrev pub AreEventWords : Flight → Pair → PairEvent → List ℕ → ℕ → Type 0
 AreEventWords m s (Fly p u) draft word =
     (f : ℕ) → frame_to_make (m.restart p.0) (s.proc p.0).place ≡ Some f → (i : ℕ) → slice_index_or draft i 0 ≡ word_in (m.draft p.0 f) i

@@ -16,8 +16,8 @@ pub record Processor : Type 0 where
   pub end : ℕ
   pub bank : ℕ → ℕ → ℕ
 
--- A unit: its frame, the number of steps made in it, and the frame of its halt if it has halted. It also has its
--- release word, its ready word, its 20 kernel words, and the marks and the words of the images that it has noted.
+-- A unit: its frame, the number of steps made in the frame, and the frame of its halt if it has halted. It also has
+-- its release word, its ready word, its 20 kernel words, and the marks and the words of the images that it has noted.
 pub record KernelUnit : Type 0 where
   pub frame : ℕ
   pub step : ℕ
@@ -42,8 +42,8 @@ abbrev pub restart_past : ℕ → Option ℕ → Option ℕ
 restart_past h None = None
 restart_past h (Some r) = if nat_lt h r then Some r else None
 
--- The frame that a processor makes next, or `None` if it has halted for good. This is the frame at the beginning of
--- which the processor is, or the frame of its restart.
+-- The frame that a processor makes next, or `None` if it has halted for good. If the processor is at the beginning of
+-- a frame, it makes that frame. If it has halted, it makes the frame of its restart.
 abbrev pub frame_to_make : Option ℕ → Place → Option ℕ
 frame_to_make restart (At f n) = Some f
 frame_to_make restart (Halted h) = restart_past h restart
@@ -93,8 +93,9 @@ plan_unit m u k j ready ends =
     if nat_lt j m.procs then (if may_note m j k (ends j) then Some (Note u (proc_id j)) else None)
     else (if nat_lt (suc k) m.frames then plan_noted m u k j ready else None)
 
--- The next event of unit `u` with state `x`, which has not halted, or `None` if it waits or has made its last note.
--- `stops` is `true` if the unit halts before its next step.
+-- The next event of unit `u`, which has state `x` and has not halted, or `None` if the unit waits or has made its
+-- last note. `ready` is the other unit's ready word, and `ends` are the end words. `stops` is `true` if the unit
+-- halts before its next step.
 abbrev pub next_going : Flight → ℕ → KernelUnit → ℕ → (ℕ → ℕ) → Bool → Option PairEvent
 next_going m u x ready ends stops = if stops then Some (Stop u) else plan_unit m u x.frame x.step ready ends
 

@@ -1,4 +1,4 @@
--- The state of a pair that a value of `PairState` represents.
+-- The pairs that values of `PairState` represent.
 use Rattle.std.specs.Prelude.{ℕ, ℤ, pos, List, [], None, nat_lt, slice_index_or, if◌then◌else◌}
 use Rattle.scram_types.specs.Specification.{Parts}
 use Rattle.bank_words.specs.Numbers.{decode}
@@ -15,7 +15,7 @@ use Rattle.fail_stop.specs.ScriptFlights.{flight_of}
 use Rattle.fail_stop.specs.Flights.{Flight}
 use Rattle.bank_words.specs.Marks.{pick}
 
--- The place that a processor's state between two frames represents.
+-- The `Place` that a `Stand` represents.
 abbrev pub stand_place : Stand → Place
 stand_place (stand.Before f) = At f 0
 stand_place (stand.Halted h) = Halted h
@@ -24,11 +24,11 @@ stand_place (stand.Halted h) = Halted h
 abbrev pub bank_word : List (List ℕ) → ℕ → ℕ → ℕ
 bank_word banks b i = slice_index_or (slice_index_or banks b []) i 0
 
--- The processor of the machine that a processor's state represents.
+-- The `Processor` that a `ProcessorState` represents.
 abbrev pub processor_of : ProcessorState → Processor
 processor_of x = record { place = stand_place x.stand; mark = x.mark; end = x.end; bank = λ b i. bank_word x.banks b i }
 
--- The unit of the machine that a unit's state represents.
+-- The `KernelUnit` that a `UnitState` represents.
 abbrev pub unit_of : UnitState → KernelUnit
 unit_of x = record {
   frame = x.frame;
@@ -49,7 +49,7 @@ blank_processor = record { stand = stand.Before 0; mark = 0; end = 0; banks = []
 abbrev pub blank_unit : UnitState
 blank_unit = record { frame = 0; step = 0; stopped = None; release = 0; ready = 0; words = []; marks = []; images = [] }
 
--- The state of the machine that a pair's state represents.
+-- The `Pair` that a `PairState` represents.
 abbrev pub pair_of : PairState → Pair
 pair_of s = record { proc = λ p. processor_of (slice_index_or s.procs p blank_processor); unit = λ u. unit_of (slice_index_or s.units u blank_unit) }
 
@@ -65,7 +65,7 @@ flight_by setup = flight_of setup.spec.now setup.script.now
 abbrev pub end_word_in : List ProcessorState → ℕ → ℕ
 end_word_in procs p = (processor_of (slice_index_or procs p blank_processor)).end
 
--- Word `i` of the image of processor `q` that a reader in a frame finds.
+-- Word `i` of the image that a reader in frame `frame` finds for processor `q`.
 abbrev pub word_seen : Parts → List ProcessorState → ℕ → ℕ → ℕ → ℤ
 word_seen spec procs q frame i =
     let x = slice_index_or procs q blank_processor in word_decoded spec (slice_index_or x.banks (pick x.mark frame) []) i

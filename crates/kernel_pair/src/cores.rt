@@ -13,8 +13,8 @@ use scram_kernel::Kernel;
 use scram_types::{Flown, NoMemory, ProcId, Row, Script, Spec};
 use std::alloc::Global;
 
-/// A flight of a specification and a script whose kernel runs on two units, one of which may halt. Its events are
-/// made one by one.
+/// The core of a flight of a specification and a script, with the kernel on two units, one of which may halt. It
+/// holds the state of the flight after the events that it has made so far.
 #[derive(Drop)]
 pub struct PairCore<'a> {
     machine: PairMachine<'a>,
@@ -46,8 +46,8 @@ impl<'a> PairCore<'a> {
     ghost use Rattle.kernel_pair.specs.Pairs.{IsPairOpening, IsPairReplay};
     ghost use Rattle.kernel_pair.specs.declared.events.PairEvent.TheVariants.{Fly, Note, Store};
 
-    /// Creates a flight before its first event. All memory of the flight is allocated here: the rows and reports of
-    /// both units, and room for every possible event.
+    /// Creates a flight before its first event. `halt` is the halt of one of the units, if there is one. All memory
+    /// of the flight is allocated here: the rows and reports of both units, and room for every possible event.
     ///
     /// # Errors
     ///
@@ -80,8 +80,8 @@ impl<'a> PairCore<'a> {
         })
     }
 
-    /// Returns the next event of unit 0 or 1. Returns `None` if and only if the unit waits for a processor or for the
-    /// other unit, has halted or has made its last note, or the flight has no frame.
+    /// Returns the next event of unit `unit`, which is 0 or 1. Returns `None` if and only if the unit waits for a
+    /// processor or for the other unit, has halted or has made its last note, or the flight has no frame.
     pub fn next(&self, unit: u8) -> Option<PairEvent>
         requires { unit < 2 }
         ensures { result ≡ next_unit_in self.now unit }
@@ -89,7 +89,7 @@ impl<'a> PairCore<'a> {
         self.machine.next(unit)
     }
 
-    /// Makes an event if it is a next event of its actor. Otherwise nothing changes.
+    /// Makes `event` if it is a next event of its actor. Otherwise nothing changes.
     ///
     /// # Errors
     ///
@@ -151,7 +151,7 @@ impl<'a> PairCore<'a> {
             .make(PairEvent::Store(u, i), &[0; 64], words[usize::from(i)]);
     }
 
-    // Makes an event of a unit that involves no processor and no word, such as a release.
+    // Makes `event`, which must be a `Ready`, `Meet`, `Release` or `Stop`.
     fn turn(&mut self, event: PairEvent)
         requires turn { IsTurn event }
         requires next { IsPairNextIn self.old event }
@@ -161,7 +161,7 @@ impl<'a> PairCore<'a> {
         self.machine.make(event, &[0; 64], 0);
     }
 
-    // Returns the kernel of unit `u`. It has ended the frames in which the unit has noted every processor.
+    // Returns the kernel of unit `u`. The kernel has ended the frames in which the unit has noted every processor.
     fn kernel(&self, u: u8) -> &Kernel<'a>
         requires { u < 2 }
         ensures { IsKernelOf self.now u result.now }
@@ -177,8 +177,8 @@ impl<'a> PairCore<'a> {
         self.machine.events()
     }
 
-    /// Returns the rows of the frames in which unit 0 or 1 has noted every processor. They are the first rows of the
-    /// one-thread trace.
+    /// Returns the rows of the frames in which unit `unit`, which is 0 or 1, has noted every processor. They are the
+    /// first rows of the one-thread trace.
     pub fn rows(&self, unit: u8) -> &[Row]
         requires { unit < 2 }
         ensures { result.now ≡ rows_noted self.now unit }

@@ -22,8 +22,8 @@ use fail_stop::{Flyer, Snapshot};
 use fault_script::halt_in;
 use scram_types::{HaltAt, ProcId};
 
-/// Returns the words of the draft of processor `p` in the frame that it may make by the words of unit `u`. A processor
-/// that has halted restarts with its spare rack. A processor that halts in this frame drops its boxes.
+/// Makes the draft of processor `p` in its next frame by the words of unit `u`, and returns the words of the draft. A
+/// processor that has halted restarts with its spare rack. A processor that halts in this frame drops its boxes.
 pub(crate) fn draft(flyers: &mut [Flyer], machine: &PairMachine, p: ProcId, u: u8) -> [u64; 64]
     requires next { IsPairNextIn machine.now (Fly p u) }
     requires flyers { AreFlyersAt (pair_flight machine.now) (places_in (pair_in machine.now)) flyers.old }
@@ -65,7 +65,7 @@ fn draft_frame(
     image_encoded(&image)
 }
 
-// Halts a processor if it has a halt in this frame.
+// Halts a processor in frame `frame` if `halt`, the processor's halt in that frame, is present.
 fn halt_after(flyer: &mut Flyer, halt: Option<HaltAt>, frame: u32)
     requires { unit_proc flyer.old.unit < 8 }
     ensures { flyer.new ≡ flyer_after (option_map (λ (halt : HaltAt). halt.step) halt) frame flyer.old }

@@ -8,7 +8,8 @@ ghost use Rattle.kernel_pair.specs.Machines.{unit_in};
 use crate::machines::PairMachine;
 use scram_kernel::Kernel;
 
-/// Ends the frame in a unit's kernel if the note that the unit has just made was the last one of the frame.
+/// Ends the frame in `kernel`, the kernel of unit `u`, if the note that the unit has just made was the last one of
+/// the frame.
 pub(crate) fn end_frame(machine: &PairMachine, u: u8, kernel: &mut Kernel)
     requires u { u < 2 }
     requires steps { (unit_in machine.now u).step ≤ length machine.now.spec.procs }

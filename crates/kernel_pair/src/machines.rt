@@ -12,7 +12,8 @@ use fail_stop::Snapshot;
 use scram_types::{Image, NoMemory, ProcId};
 use std::alloc::Global;
 
-/// A state of a pair with its specification, its script, the halt of a unit, and the events that led to the state.
+/// A state of a pair, with the specification, the script, the halt of a unit, if there is one, and the events that
+/// led to the state.
 #[derive(Drop)]
 pub(crate) struct PairMachine<'a> {
     setup: Setup<'a>,
@@ -46,7 +47,8 @@ impl<'a> PairMachine<'a> {
     ghost use Rattle.kernel_pair.specs.Pairs.{IsPairOpening, IsPairReplay, next_unit};
     ghost use Rattle.kernel_pair.specs.declared.events.PairEvent.TheVariants.{Fly};
 
-    /// Creates a pair at its opening, with the kernel's words of the first frame and room for every possible event.
+    /// Creates a pair at its opening, with room for every possible event. `first` must be the kernel's words of the
+    /// first frame.
     ///
     /// # Errors
     ///
@@ -103,7 +105,7 @@ impl<'a> PairMachine<'a> {
         next_unit(&self.setup, &self.state, u)
     }
 
-    /// Returns `true` if an event is a next event of its actor.
+    /// Returns `true` if `event` is a next event of its actor.
     pub(crate) fn is_next(&self, event: PairEvent) -> bool
         ensures { IsTrue result ↔ IsPairNextIn self.now event }
     {
@@ -121,7 +123,7 @@ impl<'a> PairMachine<'a> {
         self.events.push_reserved(event);
     }
 
-    /// Returns the frame that a processor makes next, or `None` if it has halted for good.
+    /// Returns the frame that processor `p` makes next, or `None` if it has halted for good.
     pub(crate) fn frame_of(&self, p: ProcId) -> Option<u32>
         requires { p.0 < 8 }
         ensures { result ≡ frame_to_make_in self.now p.0 }
@@ -129,7 +131,7 @@ impl<'a> PairMachine<'a> {
         frame_of(self.setup.script, &self.state, p)
     }
 
-    /// Returns the snapshot of a processor that may make this frame by the words of a unit.
+    /// Returns the snapshot of processor `p`, which may make frame `frame` by the words of unit `u`.
     pub(crate) fn snapshot(&self, p: ProcId, u: u8, frame: u32) -> Snapshot
         requires next { IsPairNextIn self.now (Fly p u) }
         requires frame { frame_to_make_in self.now p.0 ≡ Some frame }
@@ -140,7 +142,7 @@ impl<'a> PairMachine<'a> {
         snapshot(self.setup.spec, self.setup.script, &self.state, u, frame)
     }
 
-    /// Returns `true` if a unit has noted every processor in its frame.
+    /// Returns `true` if unit `u` has noted every processor in the unit's frame.
     pub(crate) fn has_noted_all(&self, u: u8) -> bool
         requires { u < 2 }
         ensures { IsTrue result ↔ HasNotedAll self.now u }
@@ -149,7 +151,7 @@ impl<'a> PairMachine<'a> {
         spec.procs.items().len() <= usize::from(self.state.units[usize::from(u)].step)
     }
 
-    /// Returns `true` if a unit has halted.
+    /// Returns `true` if unit `u` has halted.
     pub(crate) fn has_halted(&self, u: u8) -> bool
         requires { u < 2 }
         ensures { result ≡ is_some (unit_in self.now u).stopped }
@@ -157,7 +159,7 @@ impl<'a> PairMachine<'a> {
         self.state.units[usize::from(u)].stopped.is_some()
     }
 
-    /// Returns the noted marks of a unit that has noted all processors in its frame.
+    /// Returns the marks that unit `u` has noted. The unit must have noted all processors in its frame.
     pub(crate) fn marks(&self, u: u8) -> [u64; 8]
         requires u { u < 2 }
         requires noted { HasNotedAll self.now u }
@@ -167,7 +169,7 @@ impl<'a> PairMachine<'a> {
         self.state.units[usize::from(u)].marks
     }
 
-    /// Returns the noted images of a unit that has noted all processors in its frame.
+    /// Returns the images that unit `u` has noted. The unit must have noted all processors in its frame.
     pub(crate) fn images(&self, u: u8) -> [Image; 8]
         requires u { u < 2 }
         requires noted { HasNotedAll self.now u }

@@ -69,7 +69,7 @@ fn halt_frame(halt: Option<UnitHalt>) -> u32
     }
 }
 
-/// Returns `true` if a unit has made its last note or has halted.
+/// Returns `true` if unit `u` has made its last note or has halted.
 pub(crate) fn is_at_end(spec: &Spec, script: &Script, state: &PairState, u: u8) -> bool
     requires { u < 2 }
     ensures { IsTrue result ↔ (((pair_of state.now).unit u).stopped ≡ None → IsAtEnd (flight_of spec.now script.now) ((pair_of state.now).unit u)) }

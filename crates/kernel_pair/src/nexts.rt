@@ -49,7 +49,7 @@ fn may_fly(script: &Script, state: &PairState, p: ProcId, u: u8) -> bool
     is_below(frame_of(script, state, p), release_of(state, u))
 }
 
-/// Returns the frame that a processor makes next, or `None` if it has halted for good.
+/// Returns the frame that processor `p` makes next, or `None` if it has halted for good.
 pub(crate) fn frame_of(script: &Script, state: &PairState, p: ProcId) -> Option<u32>
     requires { p.0 < 8 }
     ensures { result ≡ frame_to_make (restart_of script.now p.0) ((pair_of state.now).proc p.0).place }
@@ -134,8 +134,8 @@ fn stops_at(setup: &Setup, u: u8, frame: u32, step: u8) -> bool
     }
 }
 
-// Returns `true` if the flight allows the halt and a unit in `frame` after `step` steps has made exactly the steps
-// before the halt.
+// Returns `true` if the flight allows `halt`, and a unit in frame `frame` after `step` steps has made exactly the
+// steps before that halt.
 fn is_halt_here(setup: &Setup, halt: UnitHalt, frame: u32, step: u8) -> bool
     ensures { result ≡ (nat_lt halt.step (halts_below (flight_by setup.now) halt.frame) && is_at_halt (flight_by setup.now) halt frame step) }
 {

@@ -19,7 +19,7 @@ use frame_model::Sys;
 use scram_types::{NoMemory, ProcId, Script, Spec};
 use std::alloc::Global;
 
-/// Returns the state before the first event, with the kernel's words of the first frame. The banks are read from a
+/// Returns the state before the first event. The kernel words of both units are `first`. The banks are read from a
 /// list of all words, which is freed before the function returns.
 ///
 /// # Errors

@@ -35,7 +35,7 @@ fn fly_round(core: &mut PairCore)
     run_unit(core, 1);
 }
 
-// Makes the next frame of a processor if some unit has released it.
+// Makes the next frame of processor `p` if some unit has released that frame.
 fn fly_processor(core: &mut PairCore, p: ProcId)
     ensures { IsFlownOn core.old core.new ((u : ℕ) → u < 2 → IsPairNextIn core.old (Fly p u) → ⊥) }
 {
@@ -43,7 +43,7 @@ fn fly_processor(core: &mut PairCore, p: ProcId)
     attempt(core, PairEvent::Fly(p, 1));
 }
 
-// Makes an event if it is a next event of its actor.
+// Makes `event` if it is a next event of its actor.
 fn attempt(core: &mut PairCore, event: PairEvent)
     ensures { IsFlownOn core.old core.new (IsPairNextIn core.old event → ⊥) }
 {
@@ -53,7 +53,7 @@ fn attempt(core: &mut PairCore, event: PairEvent)
     }
 }
 
-// Makes the events of a unit until it has no next event.
+// Makes the events of unit `u` until the unit has no next event.
 fn run_unit(core: &mut PairCore, u: u8)
     requires { u < 2 }
     ensures { IsFlownOn core.old core.new (next_unit_in core.old u ≡ None) }

@@ -19,7 +19,7 @@ use fail_stop::Snapshot;
 use fail_stop::law::kernel_images_come_back;
 use scram_types::{Image, Script, Spec};
 
-/// Returns the snapshot of a processor that makes `frame` by the words of unit `u`.
+/// Returns the snapshot of a processor that makes frame `frame` by the words of unit `u`.
 pub(crate) fn snapshot(
     spec: &Spec,
     script: &Script,
@@ -41,7 +41,7 @@ pub(crate) fn snapshot(
     }
 }
 
-// Returns the kernel's words that unit `u` has stored.
+// Returns the kernel words of unit `u`.
 fn words_of(state: &PairState, u: u8) -> [u64; 20]
     requires { u < 2 }
     ensures words { result ≡ (slice_index_or state.now.units u blank_unit).words }
@@ -64,7 +64,7 @@ fn copied(words: &[u64; 20]) -> [u64; 20]
     *words
 }
 
-// Returns, for each processor, the image that a reader in a frame finds.
+// Returns, for each processor, the image that a reader in frame `frame` finds.
 fn images_picked(spec: &Spec, procs: &[ProcessorState; 8], frame: u32) -> [Image; 8]
     ensures words { (q : ℕ) → q < 8 → (i : ℕ) → i < 64 → slice_index_or (image_in result q) i (pos 0) ≡ word_seen spec.now procs.now q frame i }
     ensures long { (q : ℕ) → q < 8 → length (image_in result q) ≡ 64 }
@@ -90,7 +90,7 @@ fn image_picked(spec: &Spec, procs: &[ProcessorState; 8], q: usize, frame: u32) 
     image_decoded(spec, &y.banks[usize::from(pick(y.mark, frame))])
 }
 
-/// Returns the images that the noted words of a unit encode.
+/// Returns the images that `images`, the image words that a unit has noted, encode.
 pub(crate) fn images_decoded(spec: &Spec, images: &[[u64; 64]; 8]) -> [Image; 8]
     ensures words { (p : ℕ) → p < 8 → (i : ℕ) → i < 64
         → slice_index_or (image_in result p) i (pos 0) ≡ word_decoded spec.now (slice_index_or images.now p []) i }
@@ -108,7 +108,7 @@ pub(crate) fn images_decoded(spec: &Spec, images: &[[u64; 64]; 8]) -> [Image; 8]
     ]
 }
 
-// Returns the image that these words encode.
+// Returns the image that `words` encodes.
 fn image_decoded(spec: &Spec, words: &[u64; 64]) -> Image
     ensures words { (i : ℕ) → i < 64 → slice_index_or result i (pos 0) ≡ word_decoded spec.now words.now i }
     ensures long { length result ≡ 64 }

@@ -2,8 +2,9 @@
 
 use crate::processors::ProcessorState;
 
-/// A unit: its frame, the steps made in it and the frame of its halt, if it has halted. It also has its release word,
-/// its ready word, its 20 kernel words, and the marks and the words of the images that it has noted.
+/// A unit: its frame, the number of steps made in the frame, and the frame of its halt if it has halted. It also has
+/// its release word, its ready word, its 20 kernel words, and the marks and the words of the images that it has
+/// noted.
 #[derive(Clone, Copy, Debug)]
 pub struct UnitState {
     pub frame: u32,

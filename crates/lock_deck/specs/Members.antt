@@ -12,6 +12,6 @@ pub record MemberFits {X : Type 0} {Y : X → Type 0} (mission : MissionParts) (
   pub known : unit_proc member.flyer.unit < length mission.spec.procs
   pub drafted : IfSome member.drafted (IsDraftOf mission (unit_proc member.flyer.unit))
 
--- Each of the processors fits the mission. The processors are padded to cache lines.
+-- Each processor in the list satisfies `MemberFits`. The processors are padded to cache lines.
 abbrev pub AreMembersOf : {X : Type 0} {Y : X → Type 0} → MissionParts → List (CachePadded (Member X Y)) → Type 0
 AreMembersOf {X = X} {Y = Y} mission members = All (λ (member : CachePadded (Member X Y)). MemberFits mission member.value) members

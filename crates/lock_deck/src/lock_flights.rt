@@ -163,7 +163,7 @@ fn next_member(mission: &Mission, racks: &mut Vec<Rack>, spares: &mut Vec<Rack>)
     }
 }
 
-// Removes and returns the last rack, or returns `None` if there is none.
+// Removes the last rack from `racks` and returns it, or returns `None` if `racks` is empty.
 fn take_rack(racks: &mut Vec<Rack>) -> Option<Rack>
     ensures fewer { vec_len racks.new ≤ vec_len racks.old }
     ensures one { IfSome result (λ _. vec_len racks.new < vec_len racks.old) }
@@ -171,7 +171,7 @@ fn take_rack(racks: &mut Vec<Rack>) -> Option<Rack>
     racks.pop()
 }
 
-// Adds a processor to the processors that wait for a thread. Returns an error only if memory runs out.
+// Adds `member` to the processors that wait for a thread. Returns an error only if memory runs out.
 fn add_member(members: &mut Vec<CachePadded<Member>>, member: Member) -> Result<(), NoMemory>
     ensures { OnOk result ((mission : MissionParts) → MemberFits mission member → AreMembersOf mission members.old.items
         → AreMembersOf mission members.new.items) }
@@ -288,8 +288,8 @@ fn start_all<'s, 'a, E, J: FlightOf + Send + Sync, R: Threads + Wait + Sync>(
     kept
 }
 
-// Starts a thread that flies a processor, unless the caller flies it. If no thread can be started, marks the processor
-// as flown by the caller. Returns the processor if the caller must fly it.
+// Starts a thread that flies the processor `member`, unless `by_caller` is `true`. If no thread can be started, sets
+// `by_caller` to `true`. Returns the processor if the caller must fly it.
 fn start<'s, E, M: Send + Drop + 's, F: FnOnce(M) + Send + Drop + 's>(
     scope: &Scope<'s, E>,
     by_caller: &'s AtomicBool,
@@ -323,7 +323,7 @@ fn start<'s, E, M: Send + Drop + 's, F: FnOnce(M) + Send + Drop + 's>(
     }
 }
 
-// Removes and returns the last processor, or returns `None` if there is none.
+// Removes the last processor from `members` and returns it, or returns `None` if `members` is empty.
 fn take_member(members: &mut Vec<CachePadded<Member>>) -> Option<Member>
     ensures fits { (mission : MissionParts) → AreMembersOf mission members.old.items → IfSome result (MemberFits mission) }
     ensures rest { (mission : MissionParts) → AreMembersOf mission members.old.items
@@ -336,7 +336,7 @@ fn take_member(members: &mut Vec<CachePadded<Member>>) -> Option<Member>
     }
 }
 
-// Adds a processor, if there is one, to the processors that the caller flies.
+// Adds `member`, if there is one, to `kept`, the processors that the caller flies.
 fn keep_member(kept: &mut Vec<Member>, member: Option<Member>)
     requires room { vec_len kept.old < vec_capacity kept.old }
     ensures fits { (mission : MissionParts) → IfSome member (MemberFits mission) → All (MemberFits mission) kept.old.items

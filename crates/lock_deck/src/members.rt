@@ -13,7 +13,7 @@ use coverage_check::Mission;
 use fail_stop::{Draft, Flyer, Snapshot};
 use scram_types::ProcId;
 
-/// A processor in flight, with its last draft.
+/// A processor in flight, with its last draft, if there is one.
 #[derive(Drop)]
 pub struct Member {
     pub flyer: Flyer,
@@ -21,7 +21,8 @@ pub struct Member {
 }
 
 impl Member {
-    /// Returns a live processor of the mission with its boxes, the boxes for its restart, and no draft.
+    /// Returns processor `proc` of the mission, live and without a draft. It has the boxes of `rack`, and those of
+    /// `spare` for its restart.
     pub fn new(mission: &Mission, proc: ProcId, rack: Rack, spare: Rack) -> Member
         requires proc { proc.0 < length mission.now.spec.procs }
         ensures unit { result.flyer.unit ≡ Up (record { proc = proc; rack = rack }) }
@@ -43,8 +44,9 @@ impl Member {
         self.flyer.proc()
     }
 
-    /// Acts on the result of a turn at the lock. The processor makes a draft of a returned snapshot, and halts if the
-    /// turn was its halt. A start after a halt makes the processor live again with its spare rack.
+    /// Acts on `made`, the result of a turn of this processor at the lock. The processor makes a draft of a returned
+    /// snapshot, and halts if the turn was its halt. A start after a halt makes the processor live again with its
+    /// spare rack.
     pub(crate) fn follow(&mut self, mission: &Mission, made: &Made)
         requires saw { IfSaw made.now (IsSnapshotOf mission.now) }
         requires fits { MemberFits mission.now self.old }
@@ -64,7 +66,7 @@ impl Member {
         }
     }
 
-    // Sets the last draft to the draft of a snapshot, unless the processor has halted.
+    // Sets the last draft to the processor's draft of `snap`, unless the processor has halted.
     fn draft(&mut self, mission: &Mission, snap: &Snapshot)
         requires saw { IsSnapshotOf mission.now snap.now }
         requires fits { MemberFits mission.now self.old }
@@ -99,7 +101,7 @@ impl Member {
     }
 }
 
-// Returns the draft that a live processor of a mission makes of a snapshot.
+// Returns the draft that `flyer`, a live processor of the mission, makes of `snap`.
 fn draft_by(mission: &Mission, flyer: &mut Flyer, snap: &Snapshot) -> Draft
     requires lives { is_down flyer.old.unit ≡ false }
     requires known { unit_proc flyer.old.unit < length mission.now.spec.procs }

@@ -54,12 +54,13 @@ impl<'a, J: FlightOf> SharedCore<'a, J> {
         self.core.over()
     }
 
-    /// Returns `true` if the flight is not over and a processor has no next step.
+    /// Returns `true` if the flight is not over and processor `p` has no next step.
     pub(crate) fn waits(&self, p: ProcId) -> bool {
         self.core.next_of(p).is_none() && !self.core.over()
     }
 
-    /// Returns `true` if the flight is not over and neither the kernel nor any of these processors has a next step.
+    /// Returns `true` if the flight is not over and neither the kernel nor any processor in `members` has a next
+    /// step.
     pub(crate) fn all_wait(&self, members: &[Member]) -> bool {
         if self.core.next_kernel().is_some() || self.core.over() {
             return false;
@@ -77,8 +78,9 @@ impl<'a, J: FlightOf> SharedCore<'a, J> {
         make_kernel(&mut self.core)
     }
 
-    /// Makes the next step of a processor, if there is one. If a store is next and `drafted` is not a draft of the
-    /// processor's current frame, makes no step and returns the snapshot of that frame.
+    /// Makes the next step of processor `p`, if there is one, and returns the result. If a store is next and
+    /// `drafted` is not a draft of the processor's current frame, makes no step and returns the snapshot of that
+    /// frame.
     pub(crate) fn make_step(&mut self, p: ProcId, drafted: Option<&Draft>) -> Made
         requires { (mission : MissionParts) → J.mission ≡ Some mission → IfSome drafted (λ draft. IsDraftOf mission p.0 draft.now) }
         ensures { (mission : MissionParts) → J.mission ≡ Some mission → IfSaw result (IsSnapshotOf mission) }

@@ -16,8 +16,7 @@ use event_core::Core;
 use fail_stop::Draft;
 use scram_types::ProcId;
 
-// Applies an event with its word if the event is the next event of its actor. Returns `true` if the event was
-// applied.
+// Applies `event` with `word` if the event is the next event of its actor. Returns `true` if the event was applied.
 fn make(core: &mut Core, event: Event, word: u64) -> bool
     requires { IsNextIn core.old event → IsWordIn core.old event word }
     ensures spec { core.new.spec ≡ core.old.spec }
@@ -26,7 +25,7 @@ fn make(core: &mut Core, event: Event, word: u64) -> bool
     core.step(event, word).is_ok()
 }
 
-// Returns `true` if an event needs no word.
+// Returns `true` if `event` needs no word.
 fn is_plain(event: Event) -> bool
     ensures { IsTrue result → (m : Flight) (at : Places) (word : ℕ) → IsEventWord m at event word }
 {
@@ -43,7 +42,7 @@ fn is_plain(event: Event) -> bool
     }
 }
 
-// Applies an event if it needs no word and is the next event of its actor. Returns `true` if the event was applied.
+// Applies `event` if it needs no word and is the next event of its actor. Returns `true` if the event was applied.
 fn make_plain(core: &mut Core, event: Event) -> bool
     ensures spec { core.new.spec ≡ core.old.spec }
     ensures script { core.new.script ≡ core.old.script }
@@ -86,8 +85,8 @@ pub(crate) fn make_any(core: &mut Core)
     }
 }
 
-/// Makes the next step of a processor, if there is one. If a store is next and `drafted` is not a draft of the
-/// processor's current frame, makes no step and returns the snapshot of that frame.
+/// Makes the next step of processor `p`, if there is one, and returns the result. If a store is next and `drafted` is
+/// not a draft of the processor's current frame, makes no step and returns the snapshot of that frame.
 pub(crate) fn make_step(core: &mut Core, p: ProcId, drafted: Option<&Draft>) -> Made
     requires drafted { IfSome drafted (λ draft. IsDraftOf (mission_of core.old.spec core.old.script) p.0 draft.now) }
     ensures saw { IfSaw result (IsSnapshotOf (mission_of core.old.spec core.old.script)) }
@@ -136,7 +135,8 @@ fn make_other(core: &mut Core, p: ProcId, event: Event) -> Made
     }
 }
 
-// Returns word `i` of a draft of the given frame, or `None` if there is no such draft.
+// Returns word `i` of the draft `drafted`, encoded for storage. Returns `None` if there is no draft, if it is of
+// another frame than `frame`, or if it has no word `i`.
 fn word_of(drafted: Option<&Draft>, frame: u32, i: u8) -> Option<u64>
     ensures { (mission : MissionParts) (p : ℕ) → IfSome drafted.entry (λ draft. IsDraftOf mission p draft.now)
         → IfSome result (λ word. IsDraftWord mission p frame i word) }

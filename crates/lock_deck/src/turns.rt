@@ -10,7 +10,7 @@ use bank_words::Event;
 use coverage_check::Mission;
 use std::sync::{Condvar, Mutex, MutexGuard, Wait};
 
-/// Flies a processor until the flight is over.
+/// Flies the processor `member` until the flight is over.
 pub(crate) fn fly_processor<'a, J: FlightOf, R: Wait>(
     rt: &R,
     mission: &Mission,
@@ -69,7 +69,7 @@ fn make_turn_of_kernel<'a, J: FlightOf>(
     true
 }
 
-// Makes one turn of each processor in a list.
+// Makes one turn of each processor in `members`.
 fn make_turn_of_each<'a, J: FlightOf, R: Wait>(
     rt: &R,
     mission: &Mission,
@@ -86,8 +86,8 @@ fn make_turn_of_each<'a, J: FlightOf, R: Wait>(
     }
 }
 
-// Makes a step of a processor under the lock, if one is next, and acts on the result of the step outside the lock.
-// Returns `false` if no step was next.
+// Makes a step of the processor `member` under the lock, if one is next, and acts on the result of the step outside
+// the lock. Returns `false` if no step was next.
 fn make_turn<'a, J: FlightOf>(
     mission: &Mission,
     shared: MutexGuard<'_, SharedCore<'a, J>>,
@@ -108,7 +108,7 @@ fn make_turn<'a, J: FlightOf>(
     is_something(&made)
 }
 
-// Returns `true` if the kernel may be waiting for this result.
+// Returns `true` if the kernel may be waiting for the result `made` of a turn.
 fn is_awaited(made: &Made) -> bool {
     match made {
         Made::Done => true,

@@ -9,14 +9,14 @@ use Rattle.mission_gen.specs.Turns.{turns_to}
 abbrev change : ℕ → ℕ → ℕ → Change
 change frame factor value = record { frame = frame; factor = record { 0 = factor }; value = value }
 
--- The changes of the first `k` blocks of mission `n`.
+-- The changes in the blocks 1 to `k` of mission `n`.
 abbrev first_changes : ℕ → ℕ → List Change
 first_changes n k = changes_by (replicate 6 0) (turns_to n k)
 
 randoms_0 : random 0 1 ∷ random 0 2 ∷ random 0 3 ∷ random 0 4 ∷ random 0 5 ∷ [] ≡ 12345 ∷ 1406932606 ∷ 654583775 ∷ 1449466924 ∷ 229283573 ∷ []
 randoms_0 = refl
 
--- No change is in block 5.
+-- The changes in the blocks 1 to 6 of mission 0. Block 5 has no change.
 changes_0 : first_changes 0 6
     ≡ change 60 0 1 ∷ change 126 0 0 ∷ change 187 0 1 ∷ change 187 3 1 ∷ change 244 1 1 ∷ change 364 1 0 ∷ change 364 4 1 ∷ change 366 0 0 ∷ []
 changes_0 = refl

@@ -14,8 +14,8 @@ use Rattle.mission_gen.specs.Turns.{Turn, turns_to}
 use Rattle.mission_gen.proofs.Ordering.{AreTurns, IsTurn, Precedes, Sorted, turns_kept}
 
 -- The specification has the counts that a generated script requires: two processors, three applications, two factors
--- with two values each, and four factors with four values each. The failure assumption allows one halt, and has one
--- change and a window of 40 frames.
+-- with two values each, and four factors with four values each. In the failure assumption, the number of halts is 1,
+-- the number of changes is 1, and the window has 40 frames.
 pub record HasCounts (spec : Parts) : Type 0 where
   pub procs : length spec.procs ≡ 2
   pub apps : length spec.apps ≡ 3

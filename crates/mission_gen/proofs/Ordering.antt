@@ -5,7 +5,7 @@ use Rattle.fault_script.specs.Fits.{Before}
 use Rattle.mission_gen.specs.Blocks.{alternator, delay, first_frame, random, turns_both}
 use Rattle.mission_gen.specs.Turns.{Turn, turn, turns_in, turns_to}
 
--- A turn is of a factor that exists, in a frame from `low` on and below `high`.
+-- The factor of a turn exists, and the turn is in a frame from `low` on and below `high`.
 pub record IsTurn (low high : ℕ) (t : Turn) : Type 0 where
   pub from : low ≤ t.frame
   pub below : t.frame < high

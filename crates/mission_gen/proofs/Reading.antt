@@ -108,7 +108,7 @@ generated_counts spec given =
     let read : counts (Ok spec) ≡ counts (reading generated_text) = ap counts (sym given ∙ plain_read generated_text generated_is_plain) in
     has_counts spec (same_Some _ _ (read ∙ generated_reads))
 
--- The canonical text of the specification that was read, or the empty text if it was refused.
+-- The canonical text of the specification that was read, or the empty text if no specification was read.
 abbrev canonical : Result Parts DocFault → List ℕ
 canonical (Ok spec) = spec_text spec
 canonical (Err fault) = []

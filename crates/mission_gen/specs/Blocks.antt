@@ -14,8 +14,8 @@ random n (suc k) = next_random (random n k)
 abbrev pub first_frame : ℕ → ℕ → ℕ
 first_frame k x = 60 * k + (x / 256) % 8
 
--- The number of frames from the change of the first alternator to the change of the other alternator, given the
--- block's random number `x`.
+-- The number of frames, 1 to 8, from the change of the alternator that changes first to the change of the other
+-- alternator, given the block's random number `x`.
 abbrev pub delay : ℕ → ℕ
 delay x = 1 + (x / 4096) % 8
 

@@ -48,7 +48,7 @@ last_block frames = (frames - 20) / 60
 abbrev pub changes_of : ℕ → ℕ → List Change
 changes_of n frames = changes_by (replicate 6 0) (turns_to n (last_block frames))
 
--- The halt of mission `n`, which is in block 5.
+-- The halt in the script of mission `n`. The halt is in block 5.
 abbrev pub generated_halt : ℕ → HaltAt
 generated_halt n = record { proc = record { 0 = n % 2 }; frame = first_frame 5 (random n 5); step = random n 5 % 26 }
 

@@ -25,7 +25,7 @@ pub record GivesSpecification (text : List ℕ) : Type 0 where
   pub spec : Parts
   pub given : spec_of text ≡ Ok spec
 
--- A further factor with this name, which has four values.
+-- A further factor with the given name, which has four values.
 abbrev pub further_factor : List ℕ → Factor
 further_factor name = record { name = name; values = codes "v0" ∷ codes "v1" ∷ codes "v2" ∷ codes "v3" ∷ [] }
 

@@ -11,12 +11,13 @@ pub record Turn : Type 0 where
 abbrev pub turn : ℕ → ℕ → Turn
 turn frame factor = record { frame = frame; factor = factor }
 
--- The turn of one of the four further factors in a frame, if the number of the block is a multiple of three.
+-- The turn of one of the four further factors in a frame, if `k`, the number of the block, is a multiple of three.
+-- Otherwise, the list is empty.
 abbrev pub aux_turns : ℕ → ℕ → List Turn
 aux_turns k frame = if k % 3 == 0 then turn frame (2 + (k / 3) % 4) ∷ [] else []
 
 -- The turn of the other alternator, `delay x` frames after `frame`, if the block with random number `x` turns both
--- alternators.
+-- alternators. Otherwise, the list is empty.
 abbrev pub other_turns : ℕ → ℕ → List Turn
 other_turns frame x = if turns_both x then turn (frame + delay x) (1 - alternator x) ∷ [] else []
 

@@ -11,8 +11,8 @@ pub record Turned (before after : Walk) (turns : List Turn) : Type 0 where
   pub values : after.values ≡ values_after before.values turns
   pub changes : after.changes.items ≡ before.changes.items ++ changes_by before.values turns
 
--- The turns of block `k`, as the next random number determines them, were made, and their changes were added to the
--- walk.
+-- The next random number was drawn, the turns that it determines in block `k` were made, and their changes were added
+-- to the walk.
 pub record WalkedBlock (k : ℕ) (before after : Walk) : Type 0 where
   pub random : after.random ≡ next_random before.random
   pub values : after.values ≡ values_after before.values (turns_in k (next_random before.random))

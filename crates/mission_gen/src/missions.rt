@@ -49,7 +49,7 @@ fn count_frames(n: u32) -> u32
     1000 + 1000 * (n % 19)
 }
 
-/// Returns the halt of mission `n`, which is in block 5.
+/// Returns the halt in the script of mission `n`. The halt is in block 5.
 fn generated_halt(n: u32) -> HaltAt
     ensures { result ≡ generated_halt n }
 {

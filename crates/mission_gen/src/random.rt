@@ -1,4 +1,4 @@
-//! The random numbers of the generator. Each random number determines the events in a block.
+//! The random numbers of the generator. Each random number determines the events in a block of sixty frames.
 
 ghost use Rattle.std.specs.Prelude.{◌≡◌, ◌<◌, ◌≤◌, ◌^◌};
 ghost use Rattle.mission_gen.specs.Blocks.{alternator, choice, delay, first_frame, next_random, random, turns_both};
@@ -30,8 +30,8 @@ pub(crate) fn first_frame(k: u32, x: u32) -> u32
     60 * k + x / 256 % 8
 }
 
-/// Returns the number of frames, 1 to 8, from the change of the first alternator to the change of the other
-/// alternator, given the block's random number `x`.
+/// Returns the number of frames, 1 to 8, from the change of the alternator that changes first to the change of the
+/// other alternator, given the block's random number `x`.
 pub(crate) fn delay(x: u32) -> u32
     ensures value { result ≡ delay x }
     ensures most { result ≤ 8 }

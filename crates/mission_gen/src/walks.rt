@@ -44,7 +44,8 @@ fn add_turn(walk: &mut Walk, frame: u32, factor: u8) -> Result<(), NoMemory>
     Ok(())
 }
 
-/// Adds the change of one of the further factors in a frame, if the number of the block is a multiple of three.
+/// Adds the change of one of the four further factors in a frame, if `k`, the number of the block, is a multiple of
+/// three.
 fn add_aux_turn(walk: &mut Walk, k: u32, frame: u32) -> Result<(), NoMemory>
     ensures { OnOk result (Turned walk.old walk.new (aux_turns k frame)) }
 {
@@ -55,7 +56,8 @@ fn add_aux_turn(walk: &mut Walk, k: u32, frame: u32) -> Result<(), NoMemory>
     }
 }
 
-/// Adds the later change of the other alternator, if the block with random number `x` turns both alternators.
+/// Adds the change of the other alternator, `delay(x)` frames after `frame`, if the block with random number `x`
+/// turns both alternators.
 fn add_other_turn(walk: &mut Walk, frame: u32, x: u32) -> Result<(), NoMemory>
     requires { frame ≤ 100000 }
     ensures { OnOk result (Turned walk.old walk.new (other_turns frame x)) }
@@ -67,7 +69,7 @@ fn add_other_turn(walk: &mut Walk, frame: u32, x: u32) -> Result<(), NoMemory>
     }
 }
 
-/// Adds the changes of block `k`. The walk has the block's random number.
+/// Adds the changes of block `k`. Block 5 has no changes. The walk has the block's random number.
 fn add_turns(walk: &mut Walk, k: u32) -> Result<(), NoMemory>
     requires { k ≤ 1000 }
     ensures { OnOk result (Turned walk.old walk.new (turns_in k walk.old.random)) }

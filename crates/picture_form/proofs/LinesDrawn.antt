@@ -46,8 +46,8 @@ use Rattle.picture_form.specs.Laws.{IsReportDrawn, IsRowDrawn}
 
 -- Lemmas on the elements of lists.
 
--- If element `a` of a list is replaced by `x`, `Fact` still holds for element `i`. It must hold for element `i`
--- before the replacement, and for `x` if `i` equals `a`.
+-- If `Fact` holds for element `i` of a list, it still holds after element `a` is replaced by `x`. If `i` equals `a`,
+-- it must also hold for `x`.
 set_item : {A : Type 0} (Fact : A → Type 0) (none x : A) (xs : List A) (a i : ℕ) → (i ≡ a → Fact x) → Fact (slice_index_or xs i none)
     → Fact (slice_index_or (slice_set xs a x) i none)
 set_item Fact none x [] a i here there = there

@@ -165,8 +165,8 @@ word_found word.Lost = refl
 words_differ : (what other : ActWord) → word_text what ≡ word_text other → word_number what ≡ word_number other
 words_differ what other e = same_some (word_number what) (word_number other) (sym (word_found what) ∙ ap (number_in word_names) e ∙ word_found other)
 
--- The first rows of two boxes look alike, and the boxes begin in the same row and have the same number of rows. The
--- boxes begin in rows `k` and `j`, and have `n + 1` and `m + 1` rows.
+-- Two boxes begin in rows `k` and `j`, and have `n + 1` and `m + 1` rows. The first rows of the boxes look alike, and
+-- the boxes begin in the same row and have the same number of rows.
 pub record SameEnds (k n j m : ℕ) (alike : Bool) : Type 0 where
   pub same : alike ≡ true
   pub first : k ≡ j

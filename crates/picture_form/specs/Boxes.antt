@@ -1,7 +1,7 @@
 -- Pieces of a picture: boxes, names and labels.
 use Rattle.std.specs.Prelude.{ℕ, zero, suc, ◌+◌, ◌*◌, List, [], ◌++◌, length, nat_le, codes, decimal, if◌then◌else◌}
 
--- The attributes `x` and `y` of an element at this position.
+-- The attributes `x` and `y` of an element at the given position.
 unfoldable pub place_text : ℕ → ℕ → List ℕ
 place_text x y = codes " x=\"" ++ decimal x ++ codes "\" y=\"" ++ decimal y ++ codes "\""
 
@@ -13,13 +13,13 @@ box_text x y width = place_text x y ++ codes " width=\"" ++ decimal width ++ cod
 abbrev pub name_text : ℕ → List ℕ → List ℕ
 name_text y name = codes "<text class=\"name\" x=\"128\" y=\"" ++ decimal y ++ codes "\">" ++ name ++ codes "</text>"
 
--- A text element with this class, position and text.
+-- A text element with the given class, position and text.
 unfoldable pub placed_text : List ℕ → ℕ → ℕ → List ℕ → List ℕ
 placed_text class x y text =
     codes "<text class=\"" ++ class ++ codes "\"" ++ place_text x y ++ codes ">" ++ text ++ codes "</text>"
 
--- The label of a box with this position and width, or the empty text if the box is too narrow for the label. Each
--- letter counts as 7 pixels.
+-- The label of a box with the given position and width, or the empty text if the box is too narrow for the label.
+-- Each letter counts as 7 pixels.
 abbrev pub label_text : ℕ → ℕ → ℕ → List ℕ → List ℕ
 label_text x y width label = if nat_le (7 * length label + 3) width then placed_text (codes "value") (x + 3) (y + 12) label else []
 

@@ -26,8 +26,8 @@ drop_of extremes number =
     if distance extremes.least extremes.greatest == 0 then 240
     else 480 - distance extremes.least number * 480 / distance extremes.least extremes.greatest
 
--- Whether a quantity crosses north between two consecutive rows, given its values in these rows. Crossing north
--- interrupts the quantity's curve. Only the heading can cross north.
+-- Whether a quantity crosses north between two consecutive rows, given its values in these rows. Only the heading can
+-- cross north. It does so if its values are more than 180 degrees apart. Crossing north interrupts the curve.
 abbrev pub crosses_north : Quantity → ℤ → ℤ → Bool
 crosses_north Altitude before number = false
 crosses_north Climb before number = false

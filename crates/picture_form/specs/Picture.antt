@@ -108,7 +108,7 @@ foot_text sheet rows = curves_text sheet rows ++ legend_text sheet
 abbrev pub lanes_and_foot : Parts → Sheet → List Row → List ℕ
 lanes_and_foot spec sheet rows = lanes_text spec sheet rows ++ foot_text sheet rows
 
--- The part of the document in front of the grid: the lanes, the curves and the legend.
+-- The part of the document that is drawn over the grid: the lanes, the curves and the legend.
 abbrev pub front_text : Parts → Sheet → List Row → List Report → List ℕ
 front_text spec sheet rows reports = top_text spec sheet rows reports ++ lanes_and_foot spec sheet rows
 

@@ -17,8 +17,8 @@ abbrev pub begin_line : Sheet → ℕ → List ℕ
 begin_line sheet begin =
     codes "<path class=\"begin\" d=\"M" ++ decimal (x_of sheet begin) ++ codes " 44V" ++ decimal (bottom_of sheet) ++ codes "\"/>\n"
 
--- The vertical line at the start of reconfiguration `n`, or the empty text if the reconfiguration does not begin in a
--- row.
+-- The vertical line at the start of reconfiguration `n`, or the empty text if there is no such reconfiguration or it
+-- does not begin in a row.
 abbrev pub begin_text : Sheet → List Report → ℕ → List ℕ
 begin_text sheet reports n =
     option_map_or (λ (report : Report). if nat_lt report.begin sheet.rows then begin_line sheet report.begin else []) (slice_get reports n) []
@@ -60,7 +60,8 @@ report_boxes spec sheet report =
     ++ box_text (x_of sheet report.begin) 48 (rows_width sheet report.begin report.end) ++ codes "><title>"
     ++ report_title spec report ++ codes "</title></rect>\n"
 
--- The boxes of reconfiguration `n`, or the empty text if the reconfiguration does not begin in a row.
+-- The boxes of reconfiguration `n`, or the empty text if there is no such reconfiguration or it does not begin in a
+-- row.
 abbrev pub reconfiguration_boxes : Parts → Sheet → List Report → ℕ → List ℕ
 reconfiguration_boxes spec sheet reports n =
     option_map_or (λ (report : Report). if nat_lt report.begin sheet.rows then report_boxes spec sheet report else []) (slice_get reports n) []

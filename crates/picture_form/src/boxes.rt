@@ -58,7 +58,8 @@ pub fn add_name(line: &mut Line, y: u64, name: &[u8])
     line.text(b"</text>");
 }
 
-/// Appends a text element with a text of at most 33 bytes, a position, and a class of at most 10 bytes.
+/// Appends a text element with the given class, position and text. The class has at most 10 bytes, and the text has
+/// at most 33 bytes.
 #[tactic(auto, unfolding(crate::specs::Boxes::placed_text))]
 pub fn add_placed(line: &mut Line, class: &[u8], x: u64, y: u64, text: &[u8])
     requires room { length line.old + 120 ≤ MAX_LINE_BYTES }
@@ -76,7 +77,7 @@ pub fn add_placed(line: &mut Line, class: &[u8], x: u64, y: u64, text: &[u8])
     line.text(b"</text>");
 }
 
-/// Appends a label of at most 33 bytes in a box, or nothing if the box is too narrow.
+/// Appends the label of a box, or nothing if the box is too narrow for the label. The label has at most 33 bytes.
 pub fn add_label(line: &mut Line, x: u64, y: u64, width: u64, label: &[u8])
     requires room { length line.old + 120 ≤ MAX_LINE_BYTES }
     requires label { length label.now ≤ 33 }

@@ -13,8 +13,8 @@ use trace_text::lines::Line;
 use trace_text::report_lines::add_length;
 use trace_text::row_lines::add_conf_or_dash;
 
-/// Returns the vertical line at the start of reconfiguration `n`, or the empty line if the reconfiguration does not
-/// begin in a row.
+/// Returns the vertical line at the start of reconfiguration `n`, or the empty line if there is no such
+/// reconfiguration or it does not begin in a row.
 pub fn make_begin(sheet: Sheet, reports: &[Report], n: usize) -> Line
     requires { IsSheet sheet }
     ensures { result ≡ begin_text sheet reports.now n }
@@ -42,7 +42,8 @@ fn make_begin_line(sheet: Sheet, begin: u32) -> Line
     line
 }
 
-/// Returns the boxes of reconfiguration `n`, or the empty line if the reconfiguration does not begin in a row.
+/// Returns the boxes of reconfiguration `n`, or the empty line if there is no such reconfiguration or it does not
+/// begin in a row.
 pub fn make_reconfiguration(spec: &Spec, sheet: Sheet, reports: &[Report], n: usize) -> Line
     ensures { result ≡ reconfiguration_boxes spec.now sheet reports.now n }
 {

@@ -65,8 +65,9 @@ pub record Leads (m : Flight) (s : Machine) (es : List Event) (p : ℕ) (place :
   pub schedule : IsSchedule m s es state
   pub came : Came m p s state place
 
--- The place of a processor after its last step of frame `f`, given the step of its halt in the frame, or `None` if it
--- does not halt there. Without a halt, the place is the beginning of the next frame. With a halt, it is `Halted f`.
+-- The place of a processor after its last step of frame `f`. The last argument is the step of the processor's halt in
+-- the frame, or `None` if the processor does not halt there. Without a halt, the place is the beginning of the next
+-- frame. With a halt, it is `Halted f`.
 abbrev pub ended_at : ℕ → Option ℕ → Place
 ended_at f None = At (suc f) 0
 ended_at f (Some s) = Halted f

@@ -35,7 +35,7 @@ not_at_once : (o : Option ℕ) (f : ℕ) → back_by o f f ≡ false
 not_at_once None f = refl
 not_at_once (Some r) f = grind (arith, nat_tests)
 
--- A processor at this place has not yet had its turn in frame `f`.
+-- A processor at the given place has not yet had its turn in frame `f`.
 abbrev Waits : ℕ → Place → Type 0
 Waits f (At g n) = (g ≡ f) × (n ≡ 0)
 Waits f (Halted h) = h < f

@@ -1,4 +1,4 @@
--- The rules that a line of a schedule breaks, each rule on its own. Rule 4 depends on the form of the line.
+-- Rules 1 to 4 for a line of a schedule, each stated on its own. Rule 4 depends on the form of the line.
 use Rattle.std.specs.Prelude.{ℕ, ◌==◌, ◌&&◌, not, Bool, true, false, List, length, Option, Some, None, is_some, option_and_then, if◌then◌else◌}
 use Rattle.std.specs.List.{list_all}
 use Rattle.scram_types.specs.Specification.{Parts}
@@ -22,9 +22,9 @@ has_words words verb = list_all is_filled words && (length words == word_count v
 abbrev pub event_form : List ℕ → Option Verb
 event_form line = option_and_then (λ (verb : Verb). if has_words (words_of line) verb then Some verb else None) (verb_of line)
 
--- Whether the words of a line for an event of the kind satisfy rule 4. Each processor that they name must be known.
--- The number in a `Store` must be the index of a word of an image, and the number in a `KernelStore` the index of one
--- of the kernel's 20 words.
+-- Whether the words of a line for an event of the given kind satisfy rule 4. Each processor that the words name must
+-- be known. The number in a `Store` must be the index of a word of an image. The number in a `KernelStore` must be
+-- the index of one of the kernel's 20 words.
 abbrev pub names_event : Parts → List (List ℕ) → Verb → Bool
 names_event spec words Start = is_some (proc_named spec (word_at words 1))
 names_event spec words Look = is_some (proc_named spec (word_at words 1)) && is_some (proc_named spec (word_at words 2))
@@ -36,8 +36,8 @@ names_event spec words Note = is_some (proc_named spec (word_at words 1))
 names_event spec words KernelStore = is_some (spelled_number 20 (word_at words 1))
 names_event spec words Release = true
 
--- Whether a line, without its line feed, breaks the rule of this number. Only a line that has the form of a kind of
--- event can break rule 4.
+-- Whether a line, given without its line feed, breaks rule `rule`. Only a line that has the form of a kind of event
+-- can break rule 4.
 abbrev pub breaks_event_rule : Parts → List ℕ → ℕ → Bool
 breaks_event_rule spec line rule =
     if rule == BROKEN_LINE then not (is_legible line)
@@ -45,6 +45,6 @@ breaks_event_rule spec line rule =
     else (if rule == NO_FORM then not (is_some (event_form line))
     else (if rule == UNKNOWN_EVENT then not (keeps (event_form line) (names_event spec (words_of line))) else false)))
 
--- A line that breaks no rule is read. For any other line, the rule with the lowest number that it breaks is reported.
+-- A line that breaks no rule is read. For any other line, the broken rule with the lowest number is reported.
 abbrev pub LeastEventRuleIsReported : Type 0
 LeastEventRuleIsReported = (spec : Parts) (line : List ℕ) → ReportsLeast (breaks_event_rule spec line) (event_read spec line)

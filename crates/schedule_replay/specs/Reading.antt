@@ -43,8 +43,8 @@ words_for verb line = option_and_then (words_counted verb) (words_in line)
 abbrev pub proc_in : Parts → List (List ℕ) → Option ProcId
 proc_in spec words = proc_named spec (word_at words 1)
 
--- The event of a kind that the words of a line encode, or `None` if they encode none. A line without an event breaks
--- rule 4.
+-- The event of the given kind that the words of a line encode, or `None` if they encode none. A line without an event
+-- breaks rule 4.
 abbrev pub event_told : Parts → Verb → List (List ℕ) → Option Event
 event_told spec Start words = option_map event.Start (proc_in spec words)
 event_told spec Look words =
@@ -69,7 +69,7 @@ line_event spec line =
 abbrev pub event_read : Parts → List ℕ → Result Event ℕ
 event_read spec line = if is_legible line then line_event spec line else Err BROKEN_LINE
 
--- The fault of line `line`, counted from 1, that breaks rule `rule`.
+-- The fault with line `line` and rule `rule`. Lines are counted from 1. Line 0 stands for the whole schedule.
 abbrev pub schedule_fault : ℕ → ℕ → ScheduleFault
 schedule_fault line rule = record { line = line; rule = rule }
 

@@ -13,15 +13,17 @@ use Rattle.fail_stop.specs.Schedules.{IsSchedule, Machine, opening}
 use Rattle.fail_stop.specs.ScriptFlights.{flight_of}
 use Rattle.fault_script.specs.Fits.{Fits}
 
--- The steps of processor `p` in a frame after its stores, given the step of its halt in the frame, or `None` if it
--- does not halt there. Without a halt they are the flip and the end of the frame. With a halt they are the halt,
--- preceded by the flip if the step is greater than the width of an image.
+-- The steps of processor `p` in a frame after its stores. The last argument is the step of the processor's halt in
+-- the frame, or `None` if the processor does not halt there. Without a halt, the steps are the flip and the end of
+-- the frame. With a halt, they are the halt, preceded by the flip if the step of the halt is greater than the width
+-- of an image.
 abbrev pub ending : Flight → ℕ → Option ℕ → List Event
 ending m p None = Flip (proc_id p) ∷ Done (proc_id p) ∷ []
 ending m p (Some step) = if nat_lt m.width step then Flip (proc_id p) ∷ Halt (proc_id p) ∷ [] else Halt (proc_id p) ∷ []
 
--- All steps of processor `p` in a frame, given the step of its halt in the frame, or `None` if it does not halt
--- there. They are the start, a look at each processor, the stores, and the steps after the stores.
+-- All steps of processor `p` in a frame: the start, a look at each processor, the stores, and the steps after the
+-- stores. The last argument is the step of the processor's halt in the frame, or `None` if the processor does not
+-- halt there.
 abbrev pub steps_by : Flight → ℕ → Option ℕ → List Event
 steps_by m p halt =
     Start (proc_id p) ∷ (listed_below (λ (q : ℕ). Look (proc_id p) (proc_id q)) m.procs

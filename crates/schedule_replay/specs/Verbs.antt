@@ -16,7 +16,7 @@ verb_named word =
     else (if bytes_eq word (codes "kstore") then Some KernelStore
     else (if bytes_eq word (codes "release") then Some Release else None))))))))
 
--- The number of words in a line of this kind, including the first.
+-- The number of words in a line for an event of the given kind, including the first word.
 abbrev pub word_count : Verb → ℕ
 word_count Start = 2
 word_count Look = 3

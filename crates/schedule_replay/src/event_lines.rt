@@ -18,7 +18,7 @@ use trace_text::numbers::read_number;
 use trace_text::progress::is_printable_text;
 use trace_text::words::{Words, first_word};
 
-/// Appends the text of an event, which has at most 64 bytes.
+/// Appends the text of `event` to `line`. The text has at most 64 bytes.
 pub fn add_event(line: &mut Line, spec: &Spec, event: Event)
     requires { length line.old + 64 ≤ MAX_LINE_BYTES }
     ensures text { line.new ≡ line.old ++ event_text spec.now event }
@@ -47,7 +47,7 @@ pub fn add_event(line: &mut Line, spec: &Spec, event: Event)
     }
 }
 
-// Appends the text `text` and the name of processor `p`.
+// Appends `text` and the name of processor `p` to `line`.
 fn add_proc(line: &mut Line, text: &[u8], spec: &Spec, p: ProcId)
     requires short { length text.now ≤ 8 }
     requires room { length line.old + 24 ≤ MAX_LINE_BYTES }

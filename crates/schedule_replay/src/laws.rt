@@ -9,14 +9,13 @@ ghost use Rattle.schedule_replay.specs.Turns.{TurnsLeadToTheEnd};
 use event_core::Core;
 use scram_types::Spec;
 
-/// States that the round-robin sequence of a script that fits its specification is a schedule at whose end the flight
-/// is over.
+/// States that if a script fits its specification, the flight is over at the end of the round-robin schedule.
 pub fn turns_lead_to_the_end()
     ensures { TurnsLeadToTheEnd }
 {}
 
-/// States that a line that breaks no rule is read, and that for any other line the rule with the lowest number that
-/// it breaks is reported. Each rule is stated on its own, without an order of tests.
+/// States that a line that breaks no rule is read, and that for any other line the broken rule with the lowest number
+/// is reported. Each rule is stated on its own, without an order of tests.
 pub fn least_rule_is_reported()
     ensures { LeastEventRuleIsReported }
 {}

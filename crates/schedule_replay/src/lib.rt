@@ -1,6 +1,6 @@
-//! Schedules as text. The text of a schedule is read as exactly its events. Any other text is refused at the first line
-//! that breaks a rule, with the first rule that the line breaks. Text that is written for events of the specification
-//! is read back, if it is not too long.
+//! Schedules as text. The text of a schedule is read as exactly its events. Any other text is refused at the first
+//! line that breaks a rule, with the first rule that the line breaks. Text that is written for events of the
+//! specification is read back as those events, if the text is not too long.
 #![tactic(auto)]
 
 pub mod event_lines;

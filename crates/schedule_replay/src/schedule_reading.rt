@@ -14,8 +14,8 @@ use scram_types::Spec;
 use std::alloc::Global;
 use trace_text::pieces::split_once;
 
-/// The number of the first line that breaks a rule, counted from 1, and the number of the first rule that the line
-/// breaks, 1 to 5. A schedule that is too long breaks rule 5 at line 0.
+/// The fault of a schedule: the number of the first line that breaks a rule, counted from 1, and the number of the
+/// first rule that the line breaks. If the schedule is too long, the line is 0 and the rule is 5.
 #[derive(Clone, Copy, Debug, PartialEq, Eq)]
 pub struct ScheduleFault {
     pub line: u32,
@@ -33,8 +33,8 @@ pub enum ScheduleError {
 ///
 /// # Errors
 ///
-/// Returns an error with the first line that breaks a rule and the first rule that it breaks, and `NoMemory` if memory
-/// runs out.
+/// Returns an error with the first line that breaks a rule and the first rule that the line breaks. Returns
+/// `NoMemory` if memory runs out.
 pub fn read_schedule(alloc: Global, bytes: &[u8], spec: &Spec) -> Result<Vec<Event>, ScheduleError>
     ensures read { AnswersSchedule (schedule_of spec.now bytes.now) result }
     ensures known { IfOk result (λ list. HasEvents spec.now list.items) }

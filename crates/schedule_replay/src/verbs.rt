@@ -44,7 +44,7 @@ pub fn verb_named(word: &[u8]) -> Option<Verb>
     }
 }
 
-/// Returns the number of words in a line of this kind, including the first.
+/// Returns the number of words in a line for an event of kind `verb`, including the first word.
 pub fn word_count(verb: Verb) -> usize
     ensures { result ≡ word_count verb }
 {

@@ -18,7 +18,7 @@ use std::thread::Threads;
 const NO_MEMORY: u8 = 9;
 /// The status if a line that this file prints cannot be written.
 const UNWRITTEN_OUTPUT: u8 = 4;
-/// The status if a box that the program makes is not of the kind that its place in the rack requires.
+/// The status if a box is not of the kind that its place in a rack requires.
 const UNFIT_RACKS: u8 = 1;
 
 fn main(rt: HostRuntime) -> ExitCode {

@@ -145,7 +145,7 @@ has_room specification script map mission before old holds room = record {
   memory = room.memory;
 }
 
--- If the fault count of the sink did not rise, the whole text was written, and the code is its status.
+-- If the fault count of the sink did not rise, the whole text was written, and `code` is `status`.
 shown_whole : (old new : SinkState) (code status : ℕ) (text : List ℕ) → Unrisen old.faults new.faults
     → ((code ≡ status) × WentOut old new text) ⊎ ((code ≡ UNWRITTEN_OUTPUT) × StoppedIn old new text) → (code ≡ status) × WentOut old new text
 shown_whole old new code status text quiet (inl is) = is

@@ -30,7 +30,7 @@ two_valued name = record { name = name; values = codes "ok" ∷ codes "failed" �
 abbrev proc : List ℕ → Proc
 proc name = record { name = name; capacity = 100 }
 
--- A specification with these factors and bounds, two processors, one application and two configurations.
+-- A specification with the given factors and bounds, two processors, one application and two configurations.
 abbrev named : List Factor → List Bound → Parts
 named factors bounds = record {
   procs = proc (codes "p0") ∷ proc (codes "p1") ∷ [];

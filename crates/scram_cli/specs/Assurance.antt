@@ -51,8 +51,8 @@ AssuresLook Summary = AssuresView summary_text
 AssuresLook Columns = AssuresView columns_text
 AssuresLook Picture = AssuresView picture_text
 
--- The assurance of status 0 for a form. For `None`, it is false, since words that have no form never end with status
--- 0.
+-- The assurance of status 0 for a form. For `None`, it is false, since the command never ends with status 0 if the
+-- words have no form.
 abbrev pub AssuresForm : Option (Form (List ℕ)) → History → List ℕ → Type 0
 AssuresForm None reads text = ⊥
 AssuresForm (Some (Flight flight)) reads text = AssuresFlightForm flight reads text

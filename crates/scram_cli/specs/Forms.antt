@@ -34,7 +34,7 @@ form_of_one command =
     if bytes_eq command (codes "--help") then Some (Told Help)
     else (if bytes_eq command (codes "--version") then Some (Told Version) else None)
 
--- The question of a command about the specification in a file, or `None` if there is no such question.
+-- The question that `command` asks about the specification in a file, or `None` if there is no such question.
 abbrev pub question_of : List ℕ → List ℕ → Option (SpecificationForm (List ℕ))
 question_of command specification =
     if bytes_eq command (codes "check") then Some (Check specification)
@@ -106,7 +106,7 @@ form_of_six command specification script unit frame step =
 abbrev pub choose_form : List ℕ → List ℕ → List (List ℕ) → Option (Form (List ℕ))
 choose_form specification conf state = option_map (λ (words : List StateWord). Specification (Choose specification conf words)) (state_in state)
 
--- The form of at most six words, or `None` if there is no such form.
+-- The form of the words, or `None` if they have no form other than `choose`. Such a form has at most six words.
 abbrev pub form_of_few : List (List ℕ) → Option (Form (List ℕ))
 form_of_few [] = None
 form_of_few (command ∷ []) = form_of_one command

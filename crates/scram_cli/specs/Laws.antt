@@ -18,7 +18,8 @@ use Rattle.scram_cli.specs.Answers.{FormAnswers}
 use Rattle.form_base.specs.Endings.{Completes, Ends, IsSent, WentOut}
 use Rattle.scram_cli.specs.Forms.{files_of, form_of}
 
--- The text that is printed for a mission is read back as the mission's rows and reports.
+-- For every specification and every script that fits it, the text that is printed for their mission is read back as
+-- the mission's rows and reports.
 abbrev pub PrintedMissionsAreRead : Type 0
 PrintedMissionsAreRead = (spec : Parts) (script : ScriptParts) → IsSpec spec → Fits spec script
     → trace_of spec (text_of spec (rows_of spec script) (reports_of spec script)) ≡ Ok (record { rows = rows_of spec script; reports = reports_of spec script })

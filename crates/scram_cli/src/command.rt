@@ -41,7 +41,8 @@ use trace_forms::props_form;
 use trace_props::missions::reconfigurations_are_assured;
 use trace_text::lines::Line;
 
-/// Answers the words after the program's name by their form. Words that have none of these forms are refused.
+/// Answers `words`, which are the words after the program's name, by their form. Words that have none of the
+/// following forms are refused.
 ///
 /// - `run SPEC SCRIPT` flies a mission.
 /// - `watch SPEC SCRIPT` flies a mission while two readers read the summary of the flight.
@@ -63,9 +64,10 @@ use trace_text::lines::Line;
 /// - `gen N` prints the mission generated from a number, and `fly N` flies it.
 /// - `--help` and `--version` describe the program.
 ///
-/// When the call returns, all printed text has been written, or the status is 4.
+/// When the call returns, all printed text has been written, or the status is 4, `UNWRITTEN_OUTPUT`.
 ///
-/// A mission is flown with a thread for each processor. `replay`, `pair` and `flights` fly without threads.
+/// `run`, `watch` and `fly` fly a mission with a thread for each processor. `replay`, `pair` and `flights` fly
+/// without threads.
 pub fn scram<R: AllocGlobal + Threads + Wait + Sync, F: Files, K: Sink>(
     rt: &R,
     words: &[String],

@@ -19,7 +19,7 @@ const HALT_FRAMES: u64 = 20_000;
 
 const HALT_STEPS: u64 = 32;
 
-/// A form of the command's words. `N` is the type of a name.
+/// A form of the command's words. `N` is the type of the names of files and configurations in the form.
 #[derive(Debug, Drop)]
 pub enum Form<N> {
     /// A form about flights.
@@ -56,13 +56,14 @@ pub enum FlightForm<N> {
         specification: N,
         script: N,
     },
-    /// Flies the mission of a specification and a script with the kernel on two units, one of which may halt.
+    /// Flies the mission of a specification and a script with the kernel on two units, one of which may halt. Prints
+    /// the trace of the flight.
     Pair {
         specification: N,
         script: N,
         halt: UnitHalt,
     },
-    /// Flies the mission of a specification and a script by a schedule.
+    /// Flies the mission of a specification and a script by a schedule, and prints the trace of the flight.
     Replay {
         specification: N,
         script: N,
@@ -118,7 +119,7 @@ pub enum SpecificationForm<N> {
     Choices {
         specification: N,
     },
-    /// Prints the choice from a configuration in a state of the environment.
+    /// Prints the configuration that is chosen from `conf` in a state of the environment.
     Choose {
         specification: N,
         conf: N,
@@ -170,7 +171,8 @@ fn choose_form<'a>(specification: &'a str, conf: &'a str, state: &[String]) -> O
     }
 }
 
-// Returns the form of at most six words, or `None` if they have no form.
+// Returns the form of the words, or `None` if they have no form other than `choose`. Such a form has at most six
+// words.
 fn form_of_few(words: &[String]) -> Option<Form<&str>>
     ensures { option_map (with_names (λ name. name.now)) result ≡ form_of_few (map string_bytes words.now) }
 {
@@ -220,7 +222,7 @@ fn form_of_two<'a>(command: &str, word: &'a str) -> Option<Form<&'a str>>
     }
 }
 
-// Returns the question of a command about the specification in a file, or `None` if there is no such question.
+// Returns the question that `command` asks about the specification in a file, or `None` if there is no such question.
 fn question_of<'a>(command: &str, specification: &'a str) -> Option<SpecificationForm<&'a str>>
     ensures { option_map (question_with_names (λ name. name.now)) result ≡ question_of command.now specification.now }
 {

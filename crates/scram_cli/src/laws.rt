@@ -2,8 +2,8 @@
 
 ghost use Rattle.scram_cli.specs.Laws.{MissionsAreAnswered, PrintedMissionsAreRead};
 
-/// States that the text that `run` prints for a mission is read back as the mission's rows and reports, for every
-/// specification and every script that fits it. No trace is too long to be read.
+/// States that, for every specification and every script that fits it, the text that `run` prints for their mission
+/// is read back as the mission's rows and reports. No trace is too long to be read.
 pub fn printed_missions_are_read()
     ensures { PrintedMissionsAreRead }
 {}

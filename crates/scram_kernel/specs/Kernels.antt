@@ -28,9 +28,9 @@ kernel_after spec script f = record { spec = spec; script = script; past = f }
 abbrev pub rows_below : Parts → ScriptParts → ℕ → List Row
 rows_below spec script f = listed_below (row_at spec script) f
 
--- The values are those of a kernel after `f` frames: the image of frame `f` and the areas before that frame. The rows
--- are those of the first `f` frames. `reading` is the reading of these rows, and `reports` are the reports of the
--- reconfigurations that ended in these rows.
+-- The values are those of a kernel after `f` frames. `image` is the kernel image of frame `f`, and `areas` are the
+-- areas before that frame. `rows` are the rows of the first `f` frames, `reading` is the reading of these rows, and
+-- `reports` are the reports of the reconfigurations that ended in these rows.
 pub record HoldsFlight (spec : Parts) (script : ScriptParts) (f : ℕ) (image : KernelImage) (areas : List (List ℤ))
     (reading : Reading) (rows : List Row) (reports : List Report) : Type 0 where
   pub image_is : image ≡ kernel_image spec script f

@@ -19,8 +19,8 @@ pub(crate) struct Stored<'a> {
     pub(crate) images: &'a [Image; 8],
 }
 
-/// Returns the row of the image's frame, given the tasks of the frame. `areas` contains the areas before the frame,
-/// and is set to the areas after the frame.
+/// Returns the row of the frame of `image`, given the tasks of that frame, and the marks and images after it. `areas`
+/// contains the areas before the frame, and is set to the areas after the frame.
 pub(crate) fn draw(
     spec: &Spec,
     image: &KernelImage,
@@ -58,7 +58,7 @@ fn acts_drawn(image: &KernelImage, tasks: &[Task; 8], marks: &[u64; 8]) -> [Act;
     ]
 }
 
-// Replaces the areas before the frame by the areas after the frame.
+// Replaces `areas`, the areas before the frame, by the areas after the frame.
 fn draw_areas(image: &KernelImage, tasks: &[Task; 8], stored: &Stored<'_>, areas: &mut [Area; 8])
     ensures { (spec : Parts) → tasks.now ≡ eight (task_in_image spec image.now)
         → areas.new ≡ areas_drawn spec image.now stored.now.marks.now stored.now.images.now areas.old }
@@ -105,8 +105,9 @@ fn act_after(task: &Task, marks: &[u64; 8], frame: u32) -> Act
     }
 }
 
-// Sets the area of application `a` before the frame to its area after the frame: zeros if the application is off, the
-// application's slot if the application's processor has committed the frame, or else the old area.
+// Sets `area`, the area of application `a` before the frame, to the area after the frame. The new area is zeros if
+// the application is off, the application's slot if the application's processor has committed the frame, or else the
+// old area.
 fn draw_area(task: &Task, stored: &Stored<'_>, frame: u32, a: u8, area: &mut Area)
     requires { a < 8 }
     ensures { area.new ≡ area_from (has_committed stored.now.marks.now frame) stored.now.images.now a area.old task.now.proc }
@@ -183,8 +184,8 @@ mod tests {
     use super::*;
     use scram_types::{Mode, Order};
 
-    // The marks after frame 4. Processor 0 has committed frame 4, processor 1 has committed frame 2 last, and processor
-    // 2 has committed none.
+    // The marks after frame 4. Processor 0 has committed frame 4, processor 1 has committed frame 2 last, and
+    // processor 2 has committed no frame.
     const MARKS: [u64; 8] = [11, 6, 0, 0, 0, 0, 0, 0];
 
     fn task(proc: Option<ProcId>) -> Task {

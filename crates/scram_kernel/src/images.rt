@@ -22,8 +22,8 @@ pub(crate) fn image_given(spec: &Spec, sys: &Sys, env: Env) -> KernelImage
     }
 }
 
-/// Returns the kernel image of the frame after a row, given the keepers after the row and the environment of that
-/// frame.
+/// Returns the kernel image of the frame after the frame of `row`, given the keepers after `row` and the environment
+/// of the image's frame.
 pub(crate) fn image_next(
     spec: &Spec,
     row: &Row,

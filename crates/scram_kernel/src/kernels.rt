@@ -8,10 +8,10 @@ use frame_model::{Reading, Sys, close, read_row, tasks_of};
 use scram_types::{Area, Flown, Image, List, NoMemory, Report, Row, Script, Spec};
 use std::alloc::Global;
 
-/// The kernel of a flight, given by a specification and a script, after a number of frames. The kernel calls no
-/// application. It computes the acts of a frame from the marks and the images of the processors after the frame. It
-/// reads the environment of the next frame from the script. It has the image of the running frame, the areas before
-/// that frame, and the rows and the reconfigurations of the frames that have ended.
+/// The kernel of the flight of a specification and a script. The kernel calls no application. It computes the acts of
+/// a frame from the marks and the images of the processors after the frame. It reads the environment of the next
+/// frame from the script. It holds the kernel image of the running frame, which is the first that has not ended, and
+/// the areas before that frame. It also holds the rows and the reconfigurations of the frames that have ended.
 #[derive(Drop)]
 pub struct Kernel<'a> {
     spec: &'a Spec,
@@ -145,7 +145,7 @@ impl<'a> Kernel<'a> {
 ghost use Rattle.std.specs.Prelude.{◌≡◌, ◌<◌, ◌≤◌, ◌+◌, ◌++◌, vec_capacity, vec_len};
 ghost use Rattle.frame_model.specs.Readings.{as_list};
 
-// Appends a report, if there is one. The report fits the reserved capacity.
+// Appends `report`, if there is one. `reports` must have capacity for one more report.
 fn log(reports: &mut Vec<Report>, report: Option<Report>)
     requires { vec_len reports.old < vec_capacity reports.old }
     ensures items { reports.new.items ≡ reports.old.items ++ as_list report }

@@ -25,11 +25,11 @@ abbrev pub bounds_answer : Parts → Option Shown → ℕ × List ℕ
 bounds_answer spec (Some shown) = (NOT_ACCEPTED, shown_line spec shown)
 bounds_answer spec None = (ANSWERED, bounds_text spec)
 
--- The answer to `check` about the specification in the file of this name.
+-- The answer to `check` about the specification in the file `specification`.
 abbrev pub CheckAnswers : List ℕ → Answer
 CheckAnswers specification = AsksSpecification specification (λ (spec : Parts). WithoutFiles (Gives (check_answer spec (first_refusal spec))))
 
--- The answer to `bounds` about the specification in the file of this name.
+-- The answer to `bounds` about the specification in the file `specification`.
 abbrev pub BoundsAnswers : List ℕ → Answer
 BoundsAnswers specification = AsksSpecification specification (λ (spec : Parts). WithoutFiles (Gives (bounds_answer spec (state_refusal spec))))
 

@@ -5,7 +5,7 @@ use Rattle.form_base.specs.Answers.{Gives}
 use Rattle.spec_forms.specs.declared.bound_pairs.Asked.{Asked}
 use Rattle.spec_forms.specs.Bounds.{AreAskedBounds, bounds_text}
 
--- The sets hold, for each configuration, the configurations to which the specification must give a bound.
+-- Set `i` holds, as bits, the configurations to which a bound from configuration `i` is required.
 abbrev pub AreAsked : Asked → Type 0
 AreAsked asked = AreAskedBounds asked.spec asked.sets
 

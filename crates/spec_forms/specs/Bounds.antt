@@ -14,7 +14,7 @@ bound_text_of spec i j = if is_bound_asked spec (conf_id i) j then bound_line sp
 abbrev pub bounds_text_from : Parts → ℕ → List ℕ
 bounds_text_from spec i = texts_below (bound_text_of spec i) (length spec.confs)
 
--- The lines of all required bounds, in the order of their sources.
+-- The lines of all required bounds, in the order of their sources and then of their targets.
 abbrev pub bounds_text : Parts → List ℕ
 bounds_text spec = texts_below (bounds_text_from spec) (length spec.confs)
 

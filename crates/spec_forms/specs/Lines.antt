@@ -14,7 +14,8 @@ accepted_line spec =
     codes "accepted: configurations " ++ decimal (length spec.confs) ++ codes " states " ++ decimal (states spec)
     ++ codes " bounds " ++ decimal (length spec.bounds) ++ codes "\n"
 
--- The line of a pair of configurations. It has the smallest bound that suffices and the bound that is given.
+-- The line of the bound from `from` to `to`. It has the smallest bound that suffices, in frames, and the given bound,
+-- or `-` if no bound is given.
 abbrev pub bound_line : Parts → ConfId → ConfId → List ℕ
 bound_line spec from to =
     codes "bound " ++ conf_name spec from.0 ++ codes " " ++ conf_name spec to.0 ++ codes " least " ++ decimal (least spec from to)

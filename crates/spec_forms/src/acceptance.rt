@@ -20,7 +20,9 @@ use scram_types::Spec;
 use std::alloc::Global;
 use trace_text::lines::Line;
 
-/// Prints that the specification in a file is accepted, with its counts, or prints the refusal.
+/// Prints whether the specification in a file is accepted. If it is accepted, the line has the number of
+/// configurations, the number of environments in scope, and the number of given bounds. Otherwise, the line is the
+/// refusal.
 pub fn check<F: Files, K: Sink>(
     alloc: Global,
     specification: &str,

@@ -136,7 +136,7 @@ fn put_bounds_from<K: Sink>(
     Ok(())
 }
 
-// Writes the line of a pair of configurations if a bound is required for the pair.
+// Writes the line of the bound from `from` to `to` if the bound is required.
 fn put_bound<K: Sink>(
     out: &mut K,
     spec: &Spec,

@@ -1,5 +1,5 @@
 //! The forms `check` and `bounds`, which answer a question about a specification. The output of a form depends only
-//! on the bytes of the file that its words name.
+//! on the bytes of the file that the command's words name.
 #![tactic(auto)]
 
 mod acceptance;

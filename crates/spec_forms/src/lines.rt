@@ -25,8 +25,8 @@ pub fn make_accepted_line(spec: &Spec) -> Line
     line
 }
 
-/// Returns the line of a pair of configurations. It has the smallest bound that suffices, in frames, and the bound that
-/// is given.
+/// Returns the line of the bound from `from` to `to`. It has the smallest bound that suffices, in frames, and the
+/// given bound, or `-` if no bound is given.
 pub fn make_bound_line(spec: &Spec, from: ConfId, to: ConfId) -> Line
     ensures { result ≡ bound_line spec.now from to }
 {

@@ -19,7 +19,7 @@ use Rattle.flight_facts.specs.declared.extremes.Extremes.{Extremes}
 use Rattle.flight_facts.specs.declared.extremes.Quantity.TheVariants.{Altitude, Climb, Bank}
 use Rattle.form_base.specs.Lines.{counts_text}
 
--- Whether a reconfiguration has no target. This is the case if the flight ended before the reconfiguration.
+-- Whether a reconfiguration has no target. This is the case if the flight ended before the reconfiguration ended.
 abbrev pub has_no_target : Option ConfId → Bool
 has_no_target None = true
 has_no_target (Some to) = false
@@ -32,13 +32,14 @@ count_unfinished reports = count_by (λ (report : Report). has_no_target report.
 abbrev pub flight_line : List Row → List Report → List ℕ
 flight_line rows reports = codes "flight" ++ counts_text rows reports ++ codes " unfinished " ++ decimal (count_unfinished reports) ++ codes "\n"
 
--- The line of a reconfiguration, given the preceding reconfiguration `earlier`, or `None` if there is none.
+-- The line of the reconfiguration `report`. `earlier` is the preceding reconfiguration, or `None` if there is none.
 abbrev pub reconfiguration_line : Parts → List Row → Option Report → Report → List ℕ
 reconfiguration_line spec rows earlier report =
     codes "reconfiguration " ++ conf_name spec report.from.0 ++ target_text spec report report.to ++ codes " margin " ++ margin_of spec report
     ++ codes " cause " ++ cause_text spec rows earlier report.begin ++ codes "\n"
 
--- The line of the changes of the environment from the preceding row to row `k`, with `-` if nothing changed.
+-- The line with the changes of the environment from the preceding row to row `k`. If nothing changed, the line has
+-- `-` instead.
 abbrev pub change_line : Parts → List Row → ℕ → List ℕ
 change_line spec rows k =
     codes "  frame " ++ decimal k ++ codes " " ++ difference_or_dash spec (env_before spec rows k) (env_in rows k) ++ codes "\n"
@@ -58,6 +59,6 @@ ranges_text (Some altitude) (Some climb) None = codes " -"
 ranges_text (Some altitude) (Some climb) (Some bank) =
     codes " altitude " ++ extremes_text altitude ++ codes " climb " ++ extremes_text climb ++ codes " bank " ++ extremes_text bank
 
--- The line of the world, with the ranges of altitude, climb and bank.
+-- The line of the world. It has the ranges of altitude, climb and bank, or `-` if there are no rows.
 abbrev pub world_line : List Row → List ℕ
 world_line rows = codes "world" ++ ranges_text (extremes_of Altitude rows) (extremes_of Climb rows) (extremes_of Bank rows) ++ codes "\n"

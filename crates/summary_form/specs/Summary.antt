@@ -10,7 +10,8 @@ use Rattle.form_base.specs.Texts.{texts_below}
 use Rattle.summary_form.specs.Lines.{app_summary_line, change_line, flight_line, reconfiguration_line, world_line}
 use Rattle.scram_types.specs.Lookups.{env_in, env_before}
 
--- The line of the changes of the environment in row `k`, or the empty text if nothing changed.
+-- The line with the changes of the environment from the preceding row to row `k`, or the empty text if nothing
+-- changed.
 abbrev pub change_text : Parts → List Row → ℕ → List ℕ
 change_text spec rows k = if differ spec (env_before spec rows k) (env_in rows k) then change_line spec rows k else []
 
@@ -23,8 +24,8 @@ first_row_after_decision rows report = decided_in rows report.begin + 1
 abbrev pub rows_after_decision : List Row → Report → ℕ
 rows_after_decision rows report = min (report.end + 1) (length rows) - first_row_after_decision rows report
 
--- The lines of the changes of the environment in the rows after the row in which a reconfiguration is decided, up to
--- the end of the reconfiguration.
+-- The lines with the changes of the environment in the rows after the row in which a reconfiguration is decided, up
+-- to the end of the reconfiguration.
 abbrev pub changes_text : Parts → List Row → Report → List ℕ
 changes_text spec rows report = texts_below (λ (j : ℕ). change_text spec rows (first_row_after_decision rows report + j)) (rows_after_decision rows report)
 
@@ -33,7 +34,8 @@ abbrev pub report_before : List Report → ℕ → Option Report
 report_before reports zero = None
 report_before reports (suc n) = slice_get reports n
 
--- The line of a reconfiguration, followed by the lines of the changes of the environment after its decision.
+-- The line of a reconfiguration, followed by the lines with the changes of the environment after the reconfiguration
+-- is decided.
 abbrev pub report_text : Parts → List Row → Option Report → Report → List ℕ
 report_text spec rows earlier report = reconfiguration_line spec rows earlier report ++ changes_text spec rows report
 

@@ -54,7 +54,8 @@ fn has_no_target(to: Option<ConfId>) -> bool
     }
 }
 
-/// Returns the line of a reconfiguration, given the preceding reconfiguration `earlier`, or `None` if there is none.
+/// Returns the line of the reconfiguration `report`. `earlier` is the preceding reconfiguration, or `None` if there
+/// is none.
 pub fn make_reconfiguration_line(
     spec: &Spec,
     rows: &[Row],
@@ -75,7 +76,8 @@ pub fn make_reconfiguration_line(
     line
 }
 
-/// Returns the line of the changes of the environment from the preceding row to row `k`, with `-` if nothing changed.
+/// Returns the line with the changes of the environment from the preceding row to row `k`. If nothing changed, the
+/// line has `-` instead.
 pub fn make_change_line(spec: &Spec, rows: &[Row], k: usize) -> Line
     requires { k < 2 ^ 32 }
     ensures { result ≡ change_line spec.now rows.now k }
@@ -110,7 +112,7 @@ pub fn make_app_line(rows: &[Row], a: usize, app: &AppSpec) -> Line
     line
 }
 
-/// Returns the line of the world, with the ranges of altitude, climb and bank.
+/// Returns the line of the world. It has the ranges of altitude, climb and bank, or `-` if there are no rows.
 pub fn make_world_line(rows: &[Row]) -> Line
     ensures { result ≡ world_line rows.now }
 {

@@ -8,9 +8,9 @@ use Rattle.telemetry_tap.specs.declared.views.TapView.{TapView}
 use Rattle.telemetry_tap.specs.Summaries.{summary_after}
 use Rattle.telemetry_tap.specs.Words.{FitsWord, summary_encode}
 
--- View `v`, with number `j`, satisfies the rule of the tap's table if the writer's view has number `writer` and the
--- writer has published `m` rows. The view's mission is `mission`. A view that writes has number `writer` and has seen
--- `m` rows. A view that only reads has seen at most `m` rows.
+-- View `v`, with number `j`, satisfies the rule of the tap's table, given that the writer's view has number `writer`
+-- and that the writer has published `m` rows. The view's mission is `mission`. A view that writes has number `writer`
+-- and has seen `m` rows. A view that only reads has seen at most `m` rows.
 pub record IsTapView (mission : MissionParts) (m writer j : ℕ) (v : TapView) : Type 0 where
   pub planned : v.mission ≡ Some mission
   pub writing : v.writes ≡ true → (j ≡ writer) × (v.seen ≡ m)

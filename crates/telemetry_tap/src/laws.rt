@@ -19,8 +19,8 @@ pub fn summaries_go_on()
     beginnings_are_read();
 }
 
-/// States that a summary that fits its word is decoded from that word, and that a word of 48 bits is encoded again
-/// from its summary.
+/// States that encoding and decoding are inverse, for each summary whose parts fit the word and for each word of 48
+/// bits.
 pub fn summaries_come_back()
     ensures { SummariesComeBack }
 {}

@@ -15,8 +15,8 @@ use scram_types::NoMemory;
 use std::alloc::Global;
 
 impl<'a> Tap<'a> {
-    /// Opens a tap for the flight of a mission, with a writer that has published no row and 0 to 8 readers that have
-    /// seen no row.
+    /// Opens a tap for the flight of a mission, with a writer that has published no row and `readers` readers that
+    /// have seen no row. There may be 0 to 8 readers.
     ///
     /// # Errors
     ///

@@ -22,7 +22,8 @@ impl<'a> Tap<'a> {
         self.mission
     }
 
-    /// Publishes the summary after the next row of the mission. This method does not allocate and does not block.
+    /// Publishes the summary after `row`, which must be the next row of the mission. This method does not allocate
+    /// and does not block.
     pub fn publish(&self, writer: &mut Writer, row: &Row)
         requires writer { IsWriterOf self.now writer.old }
         requires row { IsRowAt (tap_mission self.now) (rows_published writer.old) row.now }

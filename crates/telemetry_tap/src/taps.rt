@@ -8,7 +8,8 @@ use coverage_check::Mission;
 use frame_model::Reading;
 use std::alloc::Global;
 
-/// The word of a flight's summary, with the flight's mission. Threads share a tap by reference.
+/// A tap of a flight: the shared word that encodes the summary of the flight, and the flight's mission. Threads share
+/// a tap by reference.
 #[derive(Drop)]
 pub struct Tap<'a> {
     pub(crate) mission: &'a Mission,

@@ -18,7 +18,7 @@ pub trait Watch: Drop {
     /// The number of rows that the watch has taken.
     ghost taken: { Self → ℕ };
 
-    /// Takes the next row.
+    /// Takes `row`, which must be the next row of the mission.
     fn row(&mut self, row: &Row)
         requires { IsRowAt (watched self.old) (taken self.old) row.now }
         ensures watched { watched self.new ≡ watched self.old }

@@ -36,8 +36,8 @@ const FIRST: [(u32, u8, u8); 5] = [
     (244, 1, 1),
 ];
 
-// Returns the number of frames of a script, its number of changes, whether it begins with the first changes of
-// mission 0, and whether its only halt is the halt of mission 0.
+// Returns four facts about a script: its number of frames, its number of changes, whether it begins with the first
+// changes of mission 0, and whether its only halt is the halt of mission 0.
 fn facts(script: &Script) -> (u32, usize, bool, bool) {
     let changes = script.changes.items();
     (

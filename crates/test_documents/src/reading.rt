@@ -143,7 +143,7 @@ fn texts_and_numbers_are_refused_at_the_first_broken_rule(rt: HostRuntime) -> Re
     Ok(())
 }
 
-/// JSON texts, with the integers from -7 to 10 that they encode, or `None`.
+/// JSON texts, each with the integer from -7 to 10 that it encodes, or `None` if it encodes no such integer.
 const NUMBERS: [(&str, Option<i64>); 11] = [
     ("0", Some(0)),
     ("5", Some(5)),

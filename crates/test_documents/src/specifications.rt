@@ -71,8 +71,8 @@ fn deep_texts(rt: HostRuntime) -> Result<(), Fail> {
     Ok(())
 }
 
-/// Returns the rule and the path of the first fault of the byte 255 followed by the example. The byte 255 occurs in
-/// no UTF-8 text.
+/// Returns the rule and the path of the first fault of a text that begins with the byte 255 and continues with the
+/// example. The byte 255 occurs in no UTF-8 text.
 fn refusal_after_byte(alloc: Global) -> Result<(u8, Path), NoMemory> {
     let mut bytes = Vec::from_slice(alloc, &[255])?;
     bytes.extend_from_slice(EXAMPLE.as_bytes())?;

@@ -15,8 +15,8 @@ use std::io::{self, ErrorKind};
 use std::rt::HostRuntime;
 use test_kit::{Counters, print_image};
 
-/// Flies `uav` with these racks for its two processors, and prints the results and the numbers of calls of the
-/// autopilots. The racks of the flight on one thread have no boxes.
+/// Flies `uav` with the racks `rack` and `other` for its two processors, and prints the results and the numbers of
+/// calls of the autopilots. The racks of the flight on one thread have no boxes.
 pub fn start(rt: &HostRuntime, rack: Rack, other: Rack, counters: &Counters) -> io::Result<()> {
     let racks = empty_racks(rt.alloc())?;
     let one = Live::new(ProcId(0), rack);
@@ -114,7 +114,8 @@ fn input_of(frame: u32) -> Input {
     }
 }
 
-/// Returns the snapshot that the processors see in a frame, given the state before the frame and its input.
+/// Returns the snapshot that the processors see in a frame, given the state before the frame and the input of the
+/// frame.
 fn snapshot(spec: &Spec, sys: &Sys, input: &Input, images: &[Image; 8]) -> Snapshot {
     let factors = input.factors;
     let env = Env {
@@ -171,7 +172,8 @@ fn print_images(rt: &HostRuntime, spec: &Spec, images: &[Image; 8]) -> io::Resul
     print_image(rt, spec, 1, &images[1])
 }
 
-/// Prints a line for each area of a row that differs from the slot in its keeper's image.
+/// Compares each area of a row with the slot in the image of the area's keeper. Prints a line for each area that
+/// differs.
 fn print_areas(rt: &HostRuntime, sys: &Sys, row: &Row, images: &[Image; 8]) -> io::Result<()> {
     for a in 0..8 {
         if let Some(keeper) = sys.keepers[a] {

@@ -62,8 +62,8 @@ impl Counts {
     }
 }
 
-/// Flies the mission whose files are named in `words` on one thread and on threads, over words and over a lock, and
-/// prints the results.
+/// Flies a mission on one thread and on threads, over words and over a lock, and prints the results. The names of the
+/// mission's files are in `words`.
 pub fn fly<R: AllocGlobal + Threads + Wait + Sync>(
     rt: &HostRuntime,
     threads: &R,
@@ -110,7 +110,7 @@ fn fly_trials<R: AllocGlobal + Threads + Wait + Sync>(
     print_flights(rt, threads, mission, wanted, last)
 }
 
-/// Flies a mission for a trial, and prints how often the result was the expected one.
+/// Flies a mission as `trial` describes, and prints how many of the results equal `wanted`.
 fn print_flights<R: AllocGlobal + Threads + Wait + Sync>(
     rt: &HostRuntime,
     threads: &R,
@@ -216,8 +216,8 @@ fn all_but(place: usize) -> [bool; 8] {
     asked
 }
 
-/// Flies a mission over words, over a lock, and again by the history of the flight over the lock. Counts the expected
-/// results.
+/// Flies a mission over words, over a lock, and again by the history of the flight over the lock. Counts in `counts`
+/// each of the three results that equals `wanted`.
 fn fly_both<R: AllocGlobal + Threads + Wait + Sync>(
     rt: &R,
     mission: &Mission,

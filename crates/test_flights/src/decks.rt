@@ -31,7 +31,7 @@ pub fn fly_over<R: AllocGlobal + Threads + Wait + Sync>(
     fly_with(rt, mission, deck, boxes)
 }
 
-/// Flies a mission with a thread for each processor, and with these boxes.
+/// Flies a mission with a thread for each processor, and with the boxes `boxes`.
 pub fn fly_with<R: AllocGlobal + Threads + Wait + Sync>(
     rt: &R,
     mission: &Mission,

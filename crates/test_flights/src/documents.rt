@@ -28,7 +28,8 @@ pub fn read_mission(rt: &HostRuntime, names: &str) -> io::Result<Mission> {
 }
 
 impl Documents {
-    /// Returns the mission of the two texts. The step replaces `STEP` in the script, if it occurs there.
+    /// Returns the mission of the two texts. The number `step` replaces the first `STEP` in the script, if the script
+    /// has one.
     pub fn mission(&self, alloc: Global, step: u32) -> io::Result<Mission> {
         let script = fill(alloc, self.script.as_str(), "STEP", step)?;
         mission_of_texts(alloc, self.spec.as_str(), script.as_str())

@@ -16,7 +16,8 @@ use std::io::{self, ErrorKind};
 use std::sync::Wait;
 use std::thread::Threads;
 
-/// Flies a mission over a lock. Returns the result, and the text of the history.
+/// Flies a mission over a lock, with a thread for each processor in `asked`, or for all processors if it is `None`.
+/// Returns the result, and the text of the history.
 pub fn fly_and_write<R: AllocGlobal + Threads + Wait + Sync>(
     rt: &R,
     mission: &Mission,

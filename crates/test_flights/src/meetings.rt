@@ -13,8 +13,8 @@ use std::sync::Wait;
 use std::thread::Threads;
 use test_kit::{Counters, counted_racks, counted_spares, fly_alone, is_same};
 
-/// Flies the mission whose files are named in `words`, over words and over a lock, with boxes that count their calls.
-/// Prints the counts.
+/// Flies a mission over words and over a lock with boxes that count their calls, and prints the counts. The names of
+/// the mission's files are in `words`.
 pub fn meet<R: AllocGlobal + Threads + Wait + Sync>(
     rt: &HostRuntime,
     threads: &R,
@@ -73,7 +73,8 @@ fn fly_counted<R: AllocGlobal + Threads + Wait + Sync>(
     fly_fitting(rt, mission, deck, racks, spares)
 }
 
-/// Flies a mission with these boxes, or returns an error if a box is not of the kind of its place in the rack.
+/// Flies a mission with the boxes in `racks` and `spares`. Returns an error if a box is not of the kind of its place
+/// in the rack.
 fn fly_fitting<R: AllocGlobal + Threads + Wait + Sync>(
     rt: &R,
     mission: &Mission,

@@ -58,8 +58,8 @@ fn fly_once<R: AllocGlobal + Threads + Wait + Sync>(
     }
 }
 
-/// Returns the deck of this name. Returns `None` for `one`, the name of flights on one thread, and an error for any
-/// other name.
+/// Returns the deck that `name` names. Returns `None` for `one`, the name of flights on one thread, and an error for
+/// any other name.
 fn deck_named(name: &str) -> io::Result<Option<Deck>> {
     match name {
         "words" => Ok(Some(Deck::Words)),

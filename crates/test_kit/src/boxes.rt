@@ -11,7 +11,7 @@ use std::sync::atomic::Ordering;
 /// The maximum number of times that a box checks whether the awaited call has come.
 const TURNS: u32 = 50_000_000;
 
-/// A wrapper of a box that counts the calls and returns the results of the box. If `awaited` is given, each call
+/// A wrapper of a box. It counts the calls of the box and returns the box's results. If `awaited` is given, each call
 /// first spins until a box of the awaited rack has been called, or until `TURNS` checks have been made.
 #[derive(Drop)]
 pub struct Counted<B: App> {
@@ -56,8 +56,8 @@ fn count(calls: &Calls, kind: KindId) {
     }
 }
 
-/// Spins until a box has been called, or until `TURNS` checks have been made. Returns `true` if a box has been
-/// called.
+/// Spins until `calls` counts a call of a box, or until `TURNS` checks have been made. Returns `true` if a call has
+/// been counted.
 fn wait_for(calls: &Calls) -> bool {
     for _ in 0..TURNS {
         if calls.any() {

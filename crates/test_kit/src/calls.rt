@@ -57,8 +57,9 @@ impl Calls {
     }
 }
 
-/// The counts for the first racks and the spare racks: of the first processor, of the second processor, and of all
-/// other processors together. The counts are never freed, so that boxes on any thread can refer to them.
+/// The counts of the calls of all boxes. Each of the first two processors has counts for its first rack and counts
+/// for its spare rack. All other processors share the counts for their first racks, and share the counts for their
+/// spare racks. The counts are never freed, so that boxes on any thread can refer to them.
 #[derive(Drop)]
 pub struct Counters {
     first: &'static Calls,
@@ -86,7 +87,7 @@ impl Counters {
         })
     }
 
-    /// Returns the counts for the first rack of a processor. All processors from 2 on share their counts.
+    /// Returns the counts for the first rack of processor `proc`. All processors from 2 on share their counts.
     pub fn own(&self, proc: u32) -> &'static Calls {
         match proc {
             0 => self.first,
@@ -95,7 +96,7 @@ impl Counters {
         }
     }
 
-    /// Returns the counts for the spare rack of a processor. All processors from 2 on share their counts.
+    /// Returns the counts for the spare rack of processor `proc`. All processors from 2 on share their counts.
     pub fn spare(&self, proc: u32) -> &'static Calls {
         match proc {
             0 => self.first_spare,
@@ -104,7 +105,8 @@ impl Counters {
         }
     }
 
-    /// Returns the counts for the rack that the boxes of a processor wait for, or `None` if they do not wait.
+    /// Returns the counts for the rack that the boxes of processor `proc` wait for, or `None` if these boxes do not
+    /// wait.
     pub fn awaited(&self, proc: u32) -> Option<&'static Calls> {
         match proc {
             0 => Some(self.second),

@@ -12,8 +12,8 @@ use app_model::{
 };
 use scram_types::{KindId, Mode};
 
-// Returns the numbers of a kind, a mode and a variable with these names. The mode and the variable belong to kind
-// `kind`.
+// Returns the numbers of the kind, the mode and the variable whose names are in `names`, in this order. The mode and
+// the variable belong to kind `kind`.
 fn numbers_of(kind: u8, names: (&str, &str, &str)) -> (Option<KindId>, Option<Mode>, Option<u8>) {
     (
         kind_named(names.0),
@@ -63,7 +63,8 @@ fn names_are_those_of_the_tables(rt: HostRuntime) {
     }
 }
 
-// Numbers of kinds, and of modes and variables that these kinds do not have, with the names of the kinds.
+// Each row has the numbers of a kind, a mode and a variable, and the name of the kind, or `None` if there is no such
+// kind. The mode and the variable are in no table of the kind.
 const UNNAMED: [(u8, u8, u8, Option<&str>); 3] = [
     (6, 1, 3, None),
     (0, 0, 7, Some("autopilot")),

@@ -127,7 +127,8 @@ fn plain_autopilot_answers_as_was_worked_out(rt: HostRuntime) {
     assert_eq!(rt; answers(&mut app, Order::Run, &seen), (want, want, want));
 }
 
-// Returns what a flight control sees in level flight if the autopilot has this status and requests this pitch.
+// Returns what a flight control sees in level flight if its elevator is at `elevator`, and the autopilot has the
+// status `status` and requests the pitch `pitch`.
 fn seen_with_autopilot(mode: u8, elevator: i64, status: i64, pitch: i64) -> Seen {
     let own = [1, elevator, 0, 0, 0, 0, 0, 0];
     let autopilot = [status, pitch, 0, 0, 0, 0, 0, 0];
@@ -187,8 +188,8 @@ fn flight_control_answers_as_was_worked_out(rt: HostRuntime) {
     }
 }
 
-// Returns what a power monitor sees in level flight with this charge, if the factors of the two alternators have
-// these values.
+// Returns what a power monitor with the charge `charge` sees in level flight, if the factors of the two alternators
+// have the values `first` and `second`.
 fn seen_with_charge(mode: u8, charge: i64, first: u8, second: u8) -> Seen {
     Seen {
         factors: [first, second, 0, 0, 0, 0],
@@ -244,8 +245,8 @@ fn navigator_answers_as_was_worked_out(rt: HostRuntime) {
     }
 }
 
-// Returns what a data link sees in level flight if the first applications of the first four kinds have these
-// statuses.
+// Returns what a data link sees in level flight if the first applications of the first four kinds have the statuses
+// in `statuses`.
 fn seen_with_statuses(mode: u8, own: Area, statuses: [i64; 4]) -> Seen {
     let [first, second, third, fourth] = statuses;
     Seen {

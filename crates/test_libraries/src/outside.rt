@@ -9,7 +9,7 @@ use std::io::{ErrorKind, Read, Write};
 use std::process::Abort;
 use std::test::Fail;
 
-// Returns files in memory with these names and bytes. The reads with the numbers in `failing` fail.
+// Returns files in memory with the names and bytes in `named`. The reads with the numbers in `failing` fail.
 fn files_of(alloc: Global, named: &[(&str, &[u8])], failing: &[u32]) -> Result<MemFiles, Fail> {
     let failing = failing.to_vec(alloc)?;
     let mut entries = Vec::new(alloc);
@@ -172,7 +172,8 @@ impl Write for Trickle {
     }
 }
 
-// Returns the number of bytes that are read from a stream, at most one more than the limit, or the kind of the error.
+// Returns the number of bytes that are read from a stream, or the kind of the error. At most `limit + 1` bytes are
+// read.
 fn length_past<I: Read>(alloc: Global, input: &mut I, limit: usize) -> Result<usize, ErrorKind> {
     match read_past(alloc, input, limit) {
         Ok(bytes) => Ok(bytes.len()),

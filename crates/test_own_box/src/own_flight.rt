@@ -17,8 +17,8 @@ use test_kit::mission_of_texts;
 use trace_text::put_trace;
 use word_deck::WordFlight;
 
-/// Flies the mission whose files are beside the program with these boxes, and prints the trace. Refuses the boxes if
-/// a box is not of the kind that its place in the rack requires.
+/// Flies the mission whose files are beside the program with the boxes in `racks`, and prints the trace. Refuses the
+/// boxes if a box is not of the kind that its place in the rack requires.
 pub fn fly<R: AllocGlobal + Threads + Wait + Sync>(
     rt: &HostRuntime,
     threads: &R,

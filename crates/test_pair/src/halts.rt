@@ -42,8 +42,8 @@ impl Halts {
             .saturating_mul(self.steps)
     }
 
-    /// Returns the halt with a number, counted from 0. From one number to the next, the step varies fastest, then the
-    /// frame, and then the unit.
+    /// Returns the halt with number `number`, counted from 0. From one number to the next, the step varies fastest,
+    /// then the frame, and then the unit.
     pub(crate) fn halt(&self, number: u32) -> UnitHalt {
         let frames = number / self.steps;
         UnitHalt {

@@ -47,7 +47,8 @@ fn fly_all(rt: &HostRuntime, mission: &Mission, row: &str, single: &Flown) -> io
     print_reports(rt, single.reports.items())
 }
 
-/// Flies a mission with a halt, if there is one, and compares the result with the result on one thread.
+/// Flies a mission with the halt `halt`, if there is one. Compares the result with `single`, the result on one
+/// thread.
 fn compare(
     rt: &HostRuntime,
     mission: &Mission,

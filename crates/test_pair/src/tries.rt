@@ -54,7 +54,7 @@ fn try_lines(rt: &HostRuntime, core: &mut PairCore, row: &str) -> io::Result<()>
     Ok(())
 }
 
-/// Makes the event that the words name, or for `go UNIT` all next events of a unit in order, and prints the result.
+/// Makes the event that `words` names, or for `go UNIT` all next events of the unit in order, and prints the result.
 fn try_words(rt: &HostRuntime, core: &mut PairCore, words: &str) -> io::Result<()>
     requires { IsSpec core.old.spec }
 {

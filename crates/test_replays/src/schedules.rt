@@ -6,7 +6,7 @@ use std::alloc::Global;
 use std::io::{self, ErrorKind};
 use test_kit::{number, split_word};
 
-/// Returns the bytes of the schedule of a row: the pieces that its lines contain, in order.
+/// Returns the bytes of the schedule of a row. They are the pieces that the lines of the row contain, in order.
 pub fn bytes_of(alloc: Global, spec: &Spec, script: &Script, row: &str) -> io::Result<Vec<u8>> {
     let text = text_in_turns(alloc, spec, script)?;
     match str::from_utf8(&text) {
@@ -46,7 +46,8 @@ fn add_line(bytes: &mut Vec<u8>, line: &str, turns: &str) -> io::Result<()> {
     }
 }
 
-/// Appends the lines of the round-robin schedule in a range `FROM TO`, where `TO` is exclusive.
+/// Appends the lines of the round-robin schedule from `FROM`, counted from 0, up to but not including `TO`. The text
+/// `range` has the form `FROM TO`.
 fn add_turns(bytes: &mut Vec<u8>, range: &str, turns: &str) -> io::Result<()> {
     let (from, to) = split_word(range);
     let from = number(from)?;

@@ -70,8 +70,8 @@ module _ (m : Flight) (at : Places) (words : Word → ℕ) (backwards : Bool) wh
     by_side (yes d) = late place d (omega (arith, low, is))
     by_side (no d) = early place (omega arith) (omega (arith, d))
 
-  -- If no actor at a place from `begin` to before `at'` has a next event, and the actor at `at'` has none, then no
-  -- actor at a place from `begin` to before `at' + 1` has a next event.
+  -- Suppose that no actor at a place from `begin` up to but not including `at'` has a next event, and that the actor
+  -- at `at'` has none. Then no actor at a place from `begin` up to and including `at'` has a next event.
   pub none_more : (begin at' : ℕ) → ((place : ℕ) → begin ≤ place → place < at' → next_in_order m at words backwards place ≡ None) → next_in_order m at words backwards at' ≡ None
       → (place : ℕ) → begin ≤ place → place < at' + 1 → next_in_order m at words backwards place ≡ None
   none_more begin at' before none place low high = by_side (dec_le at' place) where

@@ -47,8 +47,8 @@ either_found (Some found) other = Some found
 abbrev pub first_from : (ℕ → Option Event) → ℕ → ℕ → Option (ℕ × Event)
 first_from next procs begin = either_found (first_in next begin (procs + 1 - begin)) (first_in next 0 begin)
 
--- The place that follows the given place of the last event's actor. It is the first place if that actor is the
--- kernel, or if there has been no event.
+-- The place after the place of the last event's actor. It is the first place if that actor is the kernel, or if there
+-- has been no event.
 abbrev pub place_in_turn : ℕ → Option ℕ → ℕ
 place_in_turn procs None = 0
 place_in_turn procs (Some place) = if nat_lt place procs then suc place else 0

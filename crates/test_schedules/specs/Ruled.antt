@@ -17,8 +17,8 @@ AreChosen m chooser s [] last t = (last ≡ chooser) × (t ≡ s)
 AreChosen m chooser s (e ∷ es) last t =
     (place : ℕ) × (chosen m s.at s.words chooser ≡ Some (place, e)) × AreChosen m (chooser_after chooser place) (happened m s e) es last t
 
--- The events are a schedule from the opening state to a state with these places and words, and the rule chooses each
--- event.
+-- The events are a schedule from the opening state to a state with the places `at` and the words `words`. The rule
+-- chooses each event.
 pub record IsByRule (m : Flight) (rule : Rule) (events : List Event) (at : Places) (words : Word → ℕ) : Type 0 where
   pub replay : IsReplay m events at words
   pub chooser : Chooser

@@ -36,7 +36,7 @@ pub(crate) struct Chooser {
 }
 
 impl Chooser {
-    /// Creates the state of a rule before the first choice.
+    /// Creates the chooser of a rule, with its state before the first choice.
     pub(crate) fn new(rule: Rule) -> Chooser
         ensures { result ≡ first_chooser rule }
     {
@@ -100,8 +100,8 @@ fn seed_of(rule: Rule) -> u64
     }
 }
 
-// Returns the place that follows the place `last` of the last event's actor. It is the first place if that actor is
-// the kernel, or if there has been no event.
+// Returns the place after the place `last` of the last event's actor. It is the first place if that actor is the
+// kernel, or if there has been no event.
 fn place_in_turn(procs: usize, last: Option<usize>) -> usize
     requires { procs ≤ 8 }
     ensures place { result ≡ place_in_turn procs last }
@@ -125,8 +125,8 @@ fn is_backwards(rule: Rule) -> bool
     }
 }
 
-// Returns the next event of the actor at a place of the order, or `None` if the actor has none. The order has the
-// processors, in descending order if `backwards` is `true`, and then the kernel.
+// Returns the next event of the actor at place `place` of the order, or `None` if the actor has none. The order has
+// the processors, in descending order if `backwards` is `true`, and then the kernel.
 fn next_in_order(core: &Core, procs: usize, backwards: bool, place: usize) -> Option<Event>
     requires procs { procs ≡ length core.now.spec.procs }
     requires few { procs ≤ 8 }

@@ -13,9 +13,9 @@ use test_kit::{fly_frames, is_same, line_after, number_after};
 use trace_props::props;
 
 /// The results of the flights of a row. `flights` is the number of flights. `other` counts the flights whose result
-/// differs from the result on one thread, `broken` the flights that are not judged `Ok`, and `unlike` the flights
-/// whose result differs from the result of the first flight. `events` and `first` are the number of events and the
-/// result of the first flight.
+/// differs from the result on one thread. `broken` counts the flights that are not judged `Ok`. `unlike` counts the
+/// flights whose result differs from the result of the first flight. `events` and `first` are the number of events
+/// and the result of the first flight.
 #[derive(Drop)]
 struct Compared {
     flights: u32,

@@ -12,8 +12,8 @@ use std::io::{self, ErrorKind};
 use std::rt::HostRuntime;
 use test_kit::{number, print_image, split_word};
 
-/// Flies the script of a row for the number of events in each line that begins with `after `, and prints what the
-/// line requests.
+/// For each line of a row that begins with `after `, flies the script of the row for the number of events in the
+/// line, and prints what the line requests.
 pub(crate) fn look_row(rt: &HostRuntime, spec: &Spec, row: &str) -> io::Result<()> {
     let halt = Halts::of_row(row)?.halt(0);
     for line in row.split('\n') {
@@ -25,7 +25,7 @@ pub(crate) fn look_row(rt: &HostRuntime, spec: &Spec, row: &str) -> io::Result<(
     Ok(())
 }
 
-/// Flies the script of a row with a halt for the number of events in a line, and prints what the line requests.
+/// Flies the script of a row with the halt `halt`, for the number of events in `line`. Prints what the line requests.
 fn look_after(rt: &HostRuntime, spec: &Spec, row: &str, halt: Halt, line: &str) -> io::Result<()> {
     let script = script_of(rt.alloc(), spec, row, halt)?;
     let looked = look(rt, spec, &script, line);
@@ -75,7 +75,8 @@ fn print_kernel(rt: &HostRuntime, core: &Core) -> io::Result<()> {
     )
 }
 
-/// Prints the core's answer to an event, and, if the core refuses it, the numbers of events before and after it.
+/// Prints the core's answer to an event. If the core has refused the event, also prints the numbers of events of the
+/// core before and after the refusal.
 fn print_answer(
     rt: &HostRuntime,
     core: &Core,

@@ -64,7 +64,7 @@ pub fn fly_some<'a>(
     Ok(fly_events(core, spec, &mut flyers, rule, events))
 }
 
-// Flies to the end by a rule, and returns the core.
+// Flies `core` by a rule to the end of the flight, and returns the core.
 fn fly_on<'a>(core: Core<'a>, spec: &Spec, flyers: &mut Flyers, rule: Rule) -> Core<'a>
     requires spec { core.spec ≡ spec.now }
     requires opened { core.history ≡ [] }
@@ -84,7 +84,7 @@ fn fly_on<'a>(core: Core<'a>, spec: &Spec, flyers: &mut Flyers, rule: Rule) -> C
     core
 }
 
-// Flies the given number of events by a rule, or fewer if the flight is over earlier, and returns the core.
+// Makes the given number of events of `core` by a rule, or fewer if the flight is over earlier, and returns the core.
 fn fly_events<'a>(
     core: Core<'a>,
     spec: &Spec,

@@ -33,7 +33,7 @@ fn filled(alloc: Global, row: &str, halt: Halt) -> io::Result<String> {
     )
 }
 
-/// Returns the rule of this name, or an error if there is none.
+/// Returns the rule that `name` names, or an error if it names none.
 pub(crate) fn rule_named(name: &str) -> io::Result<Rule> {
     match name {
         "turns" => Ok(Rule::InTurns),

@@ -11,8 +11,8 @@ use std::rt::HostRuntime;
 use telemetry_tap::{Publisher, Summary, Tap, Watch};
 use test_kit::{fly_alone, given, mission_of_texts, uav_text};
 
-/// Publishes the first `count` rows of a mission of `uav` with this script, and prints the summaries that the readers
-/// see.
+/// Publishes the first `count` rows of the mission of `uav` with the script `script`, and prints the summaries that
+/// the readers see.
 pub fn note(rt: &HostRuntime, count: u32, script: &str) -> io::Result<()> {
     let text = uav_text(rt.alloc())?;
     let mission = mission_of_texts(rt.alloc(), text.as_str(), script)?;

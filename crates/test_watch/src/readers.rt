@@ -96,7 +96,8 @@ fn fly_mission<R: AllocGlobal + Threads + Wait + Sync>(
     compared
 }
 
-/// Flies a mission while two readers read, and compares the result with that of the flight on one thread.
+/// Flies a mission while two readers read, and compares the result with `flown`, the result of the flight on one
+/// thread.
 fn fly_beside<R: AllocGlobal + Threads + Wait + Sync>(
     rt: &HostRuntime,
     threads: &R,
@@ -152,7 +153,7 @@ fn read_flight<'a, R: AllocGlobal + Threads + Wait + Sync>(
     }
 }
 
-/// Prints whether a flight equals that on one thread, and the results of the readers of the flight.
+/// Prints whether the watched flight equals `flown`, the flight on one thread, and prints the result of each reader.
 fn print_watched(rt: &HostRuntime, watched: &Watched, flown: &Flown) -> io::Result<()> {
     println!(rt; "as on one thread: {}", is_same(&watched.flown, flown))?;
     print_seen(rt, "one", watched.one)?;
@@ -229,7 +230,8 @@ fn read_beside<'a, W: Watch, R: Threads + Wait + Sync>(
     )
 }
 
-/// Reads until the summary of all frames is read, or gives up after [`MAX_READS`] reads.
+/// Reads until the summary of all frames is read, or gives up after [`MAX_READS`] reads. Returns the result of the
+/// reader.
 fn read_on(tap: &Tap, mut reader: Reader, summaries: &[Summary]) -> Seen
     requires { IsReaderOf tap.now reader }
 {
@@ -250,7 +252,7 @@ fn read_on(tap: &Tap, mut reader: Reader, summaries: &[Summary]) -> Seen
 }
 
 impl Seen {
-    /// Adds a summary that was read to the result.
+    /// Adds to the result a summary that the reader has read.
     fn add(&mut self, summary: &Summary, summaries: &[Summary]) {
         if summary.frames < self.frames || !is_listed(summary, summaries) {
             self.right = false;

@@ -1,5 +1,5 @@
--- If each item of a list of two items satisfies a fact for its index, the item that is taken from the end first
--- satisfies the fact for 1, and the other item satisfies the fact for 0.
+-- Suppose that each item of a list of two items satisfies a fact for its index. Then the item that is taken from the
+-- end first satisfies the fact for 1, and the other item satisfies the fact for 0.
 use Rattle.std.proofs.Common.{◌≡◌, ◌∙◌, ℕ, ap, arith, List, [], ◌∷◌, ◌++◌, length, subst}
 use Rattle.std.specs.Prelude.{Option, Some, None, IfSome, option_to_list, slice_get}
 use Rattle.std.proofs.lemmas.List.{length-append}

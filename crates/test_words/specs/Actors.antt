@@ -15,7 +15,7 @@ pub record PairFits {X : Type 0} {Y : X → Type 0} (words : WordTable) (pair : 
   pub first_fits : IsCrewOf words pair.first
   pub second_fits : IsCrewOf words pair.second
 
--- The two processors and the kernel belong to a table of words of this mission, each of them between two turns.
+-- The two processors and the kernel belong to a table of words of `mission`. Each of them is between two turns.
 pub record ActorsFit {X : Type 0} {Y : X → Type 0} (words : WordTable) (mission : MissionParts) (actors : Actors X Y) : Type 0 where
   pub same : mission_in words ≡ mission
   pub flown : actors.kernel.mission.now ≡ mission

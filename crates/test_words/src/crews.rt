@@ -25,8 +25,8 @@ pub struct Actors<'a> {
     pub kernel: KernelCrew<'a>,
 }
 
-/// Returns the crews of two processors before the first frame, with racks and spare racks from the ends of the lists.
-/// Returns an error if there are not two seats.
+/// Returns the crews of two processors before the first frame, with racks and spare racks from the ends of the lists
+/// in `boxes`. Returns an error if there are not two seats.
 pub fn pair_of(words: &WordTable, mut seats: Vec<Seat>, boxes: Boxes) -> io::Result<Pair>
     requires seats { AreSeatsOf words.now seats.items }
     requires opening { AreOpening seats.items }

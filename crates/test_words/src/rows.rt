@@ -92,7 +92,7 @@ fn fly_actors(
     fly_asked(rt, mission, words, actors, row)
 }
 
-// Makes the turns of the line `rounds N WHO ..`, if the row has this line.
+// If the row has the line `rounds N WHO ..`, makes the turns of this line.
 fn repeat_asked(
     mission: &Mission,
     words: &WordTable,
@@ -108,7 +108,7 @@ fn repeat_asked(
     }
 }
 
-// Makes the turns of the line `turns WHO ..` and prints their results, if the row has this line.
+// If the row has the line `turns WHO ..`, makes the turns of this line and prints their results.
 fn print_asked(
     rt: &HostRuntime,
     mission: &Mission,
@@ -125,8 +125,8 @@ fn print_asked(
     }
 }
 
-// Makes the turns of the line `order WHO ..` to the end of the flight, and compares the rows with the rows of the
-// flight on one thread, if the row has this line.
+// If the row has the line `order WHO ..`, makes the turns of this line to the end of the flight, and compares the
+// rows with the rows of the flight on one thread.
 fn fly_asked(
     rt: &HostRuntime,
     mission: &Mission,

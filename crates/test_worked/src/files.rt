@@ -4,8 +4,8 @@
 //!   the file by `OTHER`.
 //! - The second file has the lines of the row that begin with `= `. It is missing if no line begins with `=`.
 //! - The third file has the lines of the row that begin with `- `. It is missing if no line begins with `-`.
-//! - `! read N` and `! put N`: A read or a put that fails, counted from 0. If a put fails, the number of lines that
-//!   were written is printed.
+//! - `! read N` and `! put N`: Makes read `N` or put `N` fail. Reads and puts are counted from 0. If a put fails, the
+//!   number of lines that were written is printed.
 //! - `! room N`: The number of bytes for which the sink has room.
 //! - `! first N` and `! second N`: Extend the first or the second file to `N` bytes, with spaces at its end.
 //! - `! plain N`: Gives processor `N` the autopilot that does not remember its last call.
@@ -27,7 +27,7 @@ pub fn list_words(alloc: Global, line: &str) -> io::Result<Vec<String>> {
     Ok(words)
 }
 
-/// Returns the files that the words name.
+/// Returns the files that the command's words name.
 pub fn make_files(rt: &HostRuntime, words: &[String], row: &str) -> io::Result<MemFiles> {
     let mut entries = Vec::new(rt.alloc());
     for (i, word) in words.iter().enumerate() {
@@ -71,8 +71,8 @@ pub fn numbers(alloc: Global, row: &str, words: &str) -> io::Result<Vec<u32>> {
     Ok(numbers)
 }
 
-/// Returns the text, padded with spaces to the number of bytes in the line of the row that begins with `words`.
-/// Returns the text itself if there is no such line.
+/// Returns the text, padded with spaces at its end to a number of bytes. This number is in the line of the row that
+/// begins with `words`. Returns the text itself if there is no such line.
 fn pad(alloc: Global, text: String, row: &str, words: &str) -> io::Result<String> {
     match numbers(alloc, row, words)?.first() {
         Some(length) => {
@@ -97,7 +97,7 @@ fn listed_file(alloc: Global, row: &str, mark: &str) -> io::Result<Option<String
     Ok(file)
 }
 
-/// Returns the text, with a line appended if there is one.
+/// Returns the text, with `line` and a line feed appended unless `line` is `None`.
 fn append_line(alloc: Global, text: String, line: Option<&str>) -> io::Result<String> {
     match line {
         Some(line) => Ok(format!(in alloc; "{text}{line}\n")?),

@@ -56,7 +56,8 @@ fn answer_words<R: AllocGlobal + Threads + Wait + Sync>(
     }
 }
 
-/// Prints the answer of the command, and the number of lines that were written if the row names a put that fails.
+/// Prints the answer of the command. If the row names a put that fails, also prints the number of lines that were
+/// written.
 fn print_plain(
     rt: &HostRuntime,
     status: u8,

@@ -12,7 +12,7 @@ use Rattle.form_base.specs.Specifications.{AsksSpecification}
 use Rattle.trace_files.specs.declared.files.Flight.{Flight}
 use Rattle.trace_files.specs.Traces.{AsksTrace, SaysTrace}
 
--- A function that returns the text to print for the rows and reports of a flight of a specification.
+-- A function that returns the text to print for a specification and the rows and reports of a flight.
 abbrev pub View : Type 0
 View = Parts → List Row → List Report → List ℕ
 

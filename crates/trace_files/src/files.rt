@@ -16,7 +16,7 @@ use scram_io::Files;
 use scram_types::{Flown, Spec};
 use std::alloc::Global;
 
-/// The names of two files: a specification, and a trace of its missions.
+/// The names of the files of a specification and of a trace of its missions.
 #[derive(Clone, Copy)]
 pub struct TraceFiles<'a> {
     pub specification: &'a str,

@@ -5,7 +5,8 @@ use Rattle.trace_props.specs.declared.breaks.Broken.{Broken}
 use Rattle.trace_props.specs.Breaks.{property_number}
 use Rattle.form_base.specs.Lines.{counts_text}
 
--- The line for a trace for which the six properties hold.
+-- The line for a trace for which the six properties of reconfigurations hold. The line has the number of frames and
+-- the number of reconfigurations.
 abbrev pub holds_line : Flown → List ℕ
 holds_line flown = codes "holds:" ++ counts_text flown.rows flown.reports ++ codes "\n"
 

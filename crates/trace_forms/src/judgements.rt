@@ -29,8 +29,8 @@ struct Judgement {
     line: Line,
 }
 
-/// Prints whether the six properties hold for the trace in a file. If they do not, prints the first property that the
-/// trace breaks, and the frame in which it breaks the property.
+/// Prints whether the six properties of reconfigurations hold for the trace in a file. If they do not, prints the
+/// first property that the trace breaks, and the frame in which it breaks the property.
 pub fn props_form<F: Files, K: Sink>(
     alloc: Global,
     named: TraceFiles<'_>,

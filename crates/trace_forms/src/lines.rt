@@ -8,8 +8,8 @@ use scram_types::Flown;
 use trace_props::Broken;
 use trace_text::lines::Line;
 
-/// Returns the line for a trace for which the six properties hold. The line has the number of frames and the number of
-/// reconfigurations.
+/// Returns the line for a trace for which the six properties of reconfigurations hold. The line has the number of
+/// frames and the number of reconfigurations.
 pub fn make_holds_line(flown: &Flown) -> Line
     requires rows { length flown.now.rows < 2 ^ 32 }
     requires reports { length flown.now.reports < 2 ^ 32 }

@@ -11,12 +11,12 @@ use Rattle.word_deck.specs.declared.scopes.Boarding.TheVariants.{Threaded, Own, 
 use Rattle.word_deck.specs.Crews.{IsCrewOf}
 use Rattle.word_deck.specs.Landing.{IsLanded}
 
--- Each of these seats belongs to the table, belongs to the processor whose number is the seat's index, and is at its
--- opening place.
+-- Each seat of the list belongs to the table, belongs to the processor whose number is the seat's index, and is at
+-- its opening place.
 abbrev pub AreOpen : WordTable → List Seat → Type 0
 AreOpen words seats = (p : ℕ) (seat : Seat) → slice_get seats p ≡ Some seat → IsSeatOf words seat × (proc_of seat ≡ p) × (seat_place seat ≡ At 0 0)
 
--- Each of these seats has the id and the mission of the table, belongs to the processor whose number is the seat's
+-- Each seat of the list has the id and the mission of the table, belongs to the processor whose number is the seat's
 -- index, and is at its opening place.
 abbrev pub AreAtTable : WordTable → List Seat → Type 0
 AreAtTable words seats = (p : ℕ) (seat : Seat) → slice_get seats p ≡ Some seat
@@ -27,11 +27,11 @@ AreAtTable words seats = (p : ℕ) (seat : Seat) → slice_get seats p ≡ Some 
 abbrev pub AreCrewsOf : {X : Type 0} {Y : X → Type 0} → WordTable → List (Crew X Y) → Type 0
 AreCrewsOf {X = X} {Y = Y} words crews = All (λ (crew : Crew X Y). IsCrewOf words crew) crews
 
--- The numbers of the processors of these crews.
+-- The number of each crew's processor, in the order of the crews.
 abbrev pub numbers_in : {X : Type 0} {Y : X → Type 0} → List (Crew X Y) → List ℕ
 numbers_in {X = X} {Y = Y} crews = map (λ (crew : Crew X Y). proc_of crew.seat) crews
 
--- Each of these seats belongs to the processor whose number is the seat's index, and that processor has landed.
+-- Each seat of the list belongs to the processor whose number is the seat's index, and that processor has landed.
 abbrev pub AreLanded : WordTable → List Seat → Type 0
 AreLanded words seats = (p : ℕ) (seat : Seat) → slice_get seats p ≡ Some seat → IsLanded words p seat
 

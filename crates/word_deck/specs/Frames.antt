@@ -7,7 +7,7 @@ use Rattle.fail_stop.specs.Flights.{Flight}
 use Rattle.word_table.specs.declared.seats.Seat.{Seat}
 use Rattle.word_table.specs.Tables.{proc_of, seat_place}
 
--- A processor at this place has not halted and has made `n` steps of its frame.
+-- A processor at `place` has not halted and has made `n` steps of its frame.
 abbrev pub IsAfter : ℕ → Place → Type 0
 IsAfter n place = place ≡ At (frame_of place) n
 

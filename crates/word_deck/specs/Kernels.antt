@@ -15,7 +15,8 @@ use Rattle.word_deck.specs.declared.turns.Turn.TheVariants.{Worked, NotYet, Fini
 abbrev pub frames_noted : ℕ → KSeat → ℕ
 frames_noted procs kseat = if nat_lt (kernel_steps kseat) procs then kernel_frame kseat else suc (kernel_frame kseat)
 
--- The noted marks and images of the first `n` processors are those that they have committed by the end of frame `k`.
+-- The noted marks and images of the first `n` processors are the marks and images that these processors have
+-- committed by the end of frame `k`.
 pub record AreNoted (mission : MissionParts) (k n : ℕ) (noted : Noted) : Type 0 where
   pub marks : (p : ℕ) → p < n → mark_in noted.marks p ≡ mark_after mission.spec mission.script p (suc k)
   pub images : (p : ℕ) → p < n → image_in noted.images p ≡ image_after mission.spec mission.script p (suc k)
@@ -40,10 +41,10 @@ pub record KernelCrewKeeps (mission : MissionParts) (kseat : KSeat) (kernel : Ke
   pub log : kernel ≡ kernel_after mission.spec mission.script (frames_noted (length mission.spec.procs) kseat)
   pub noted_are : AreNoted mission (kernel_frame kseat) (kernel_steps kseat) noted
 
--- The second seat is the kernel's seat after a turn with the given result. The first seat is the kernel's seat before
--- the turn. After `NotYet`, the kernel is at the same place and has counted another try. After `Worked`, it has noted
--- more processors of its frame, or is at the start of the next frame. After `Finished`, it is in the same frame and
--- has made at least as many steps as before.
+-- `before` and `after` are the kernel's seats before and after a turn with the given result. After `NotYet`, the
+-- kernel is at the same place and has counted another try. After `Worked`, it has noted more processors of its frame,
+-- or is at the start of the next frame. After `Finished`, it is in the same frame and has made at least as many steps
+-- as before.
 abbrev pub IsKernelMoved : Turn → ℕ → ℕ → KSeat → KSeat → Type 0
 IsKernelMoved NotYet procs frames before after =
     (kernel_frame after ≡ kernel_frame before) × (kernel_steps after ≡ kernel_steps before) × (kernel_tries after ≡ suc (kernel_tries before))

@@ -1,5 +1,5 @@
-//! Processors at their seats. The type guarantees that the unit has the number of the seat's processor. It also
-//! guarantees that the unit and the processor at the seat have both halted, or that neither has halted. The fields
+//! Processors at their seats. The type `Crew` guarantees that its unit has the number of the seat's processor. It
+//! also guarantees that the unit and the seat's processor have both halted, or that neither has halted. The fields
 //! are public because contracts refer to them.
 
 ghost use Rattle.std.specs.Prelude.{◌≡◌, ◌<◌, IfSome, Some, false};
@@ -42,7 +42,8 @@ impl Crew {
     ghost use Rattle.word_table.specs.declared.tables.WordTable as word_tables;
     ghost use Rattle.word_deck.specs.declared.turns.Turn.TheVariants.{Finished, Worked};
 
-    /// Returns a processor at its opening place, with the boxes `rack` and the boxes `spare` for its restart.
+    /// Returns the crew of a processor at its opening place, with the boxes `rack`, and with the boxes `spare` for a
+    /// restart.
     pub fn processor(seat: Seat, rack: Rack, spare: Rack) -> Crew
         requires opening { seat_place seat ≡ At 0 0 }
         requires few { proc_of seat < 8 }
@@ -104,7 +105,8 @@ impl Crew {
         }
     }
 
-    // Returns the result of a turn in which the processor has flown a frame: `Finished` or `Worked`.
+    // Returns the result of a turn in which the processor has flown a frame. It is `Finished` if the processor has
+    // flown all frames or has halted for good, and `Worked` otherwise.
     fn outcome(&self, mission: &Mission) -> Turn
         ensures { result ≡ (if is_done (mission_flight mission.now) (proc_of self.now.seat) (seat_place self.now.seat) then Finished else Worked) }
     {
@@ -152,7 +154,7 @@ impl Crew {
         self.end(mission, words);
     }
 
-    // Sets the crew's image to the draft of the unit in the frame of the last snapshot. The unit must be up.
+    // Sets the crew's image to the draft of the crew's unit in the frame of the last snapshot. The unit must be up.
     #[tactic(auto, using(crate::proofs::Steps::drafted_by))]
     fn draft(&mut self, mission: &Mission)
         requires lives { is_halted (seat_place self.old.seat) ≡ false }

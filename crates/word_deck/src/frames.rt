@@ -68,8 +68,8 @@ pub(crate) fn commit(words: &WordTable, seat: &mut Seat, image: &Image, width: u
     words.done(seat);
 }
 
-/// Halts the seat's processor after `step` stores. If `step` is above the number of words, the processor halts after
-/// all stores and the flip.
+/// Halts the seat's processor after `step` stores. If `step` is greater than `width`, which is the number of words of
+/// an image, the processor halts after all stores and the flip.
 #[tactic(auto, using(crate::proofs::Steps::halts_on, crate::proofs::Steps::stopped))]
 pub(crate) fn halt_after(words: &WordTable, seat: &mut Seat, image: &Image, width: u32, step: u32)
     requires seat { IsSeatOf words.now seat.old }
@@ -88,7 +88,8 @@ pub(crate) fn halt_after(words: &WordTable, seat: &mut Seat, image: &Image, widt
     words.halt(seat);
 }
 
-// Makes `step` stores. If `step` is above the number of words, makes all stores and the flip.
+// Makes `step` stores. If `step` is greater than `width`, which is the number of words of an image, makes all stores
+// and the flip.
 #[tactic(auto, using(crate::proofs::Steps::flips_on, crate::proofs::Steps::halts_then, crate::proofs::Steps::flipped))]
 fn make_steps(words: &WordTable, seat: &mut Seat, image: &Image, width: u32, step: u32)
     requires seat { IsSeatOf words.now seat.old }

@@ -99,7 +99,7 @@ impl<'a> KernelCrew<'a> {
         Turn::Worked
     }
 
-    /// Returns the kernel's seat and its log.
+    /// Returns the kernel's seat and the kernel's log.
     #[tactic(auto, using(crate::proofs::Noting::done_log))]
     pub(crate) fn into_parts(self) -> (KSeat, Kernel<'a>)
         ensures seat { result.0 ≡ self.entry.kseat }

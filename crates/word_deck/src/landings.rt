@@ -34,7 +34,7 @@ pub(crate) struct RackCell {
 }
 
 impl RackCell {
-    /// Returns a cell with this pair, or an empty cell if `pair` is `None`.
+    /// Returns a cell that holds `pair`, or an empty cell if `pair` is `None`.
     pub(crate) fn new(alloc: Global, pair: Option<RackPair>) -> RackCell {
         RackCell {
             pair: Mutex::new(pair),
@@ -60,8 +60,8 @@ pub(crate) struct Landing {
     pub(crate) flown: bool,
 }
 
-/// The promise of a thread for a processor, given the table and the seat with which the processor started. The
-/// processor has landed, or has not flown and returns this seat.
+/// The promise of the thread of a processor. It has the table, and the seat with which the processor started. The
+/// thread promises that the processor has landed, or that it has not flown and returns that seat.
 #[derive(Drop)]
 pub(crate) struct Lander(Snapshot<WordTable>, Snapshot<Seat>);
 
@@ -166,7 +166,8 @@ pub(crate) fn start<'s, E, R: Wait + Threads + Sync>(
     }
 }
 
-// Flies a processor with the boxes from its cell. If the cell is empty, returns the seat unchanged.
+// Flies the processor of `seat` with the boxes from `cell`. If the cell is empty, returns a landing with the
+// unchanged seat and with `flown` set to `false`.
 #[tactic(auto, using(crate::proofs::Units::few))]
 fn fly_seat<R: Wait>(
     rt: &R,
@@ -193,8 +194,8 @@ fn fly_seat<R: Wait>(
     }
 }
 
-/// Returns the processor of this seat, with the boxes from its cell. There is no proof that the cell contains boxes.
-/// If the cell is empty, the processor flies with racks without boxes.
+/// Returns the processor of `seat`, with the boxes from `cell`. There is no proof that the cell contains boxes. If
+/// the cell is empty, the processor flies with racks without boxes.
 #[tactic(auto, using(crate::proofs::Units::few))]
 pub(crate) fn crew_from<R: Wait>(rt: &R, words: &WordTable, cell: &RackCell, seat: Seat) -> Crew
     requires seat { IsSeatOf words.now seat }

@@ -174,8 +174,8 @@ fn land_boarded<R: Threads + Wait>(
     }
 }
 
-// Makes the turns of the kernel and of the processors that fly in the caller's turns, until the kernel has made its
-// last note or no frame is flown. The caller sleeps only if no processor flies in the caller's turns.
+// Makes turns of the kernel, and of the processors that fly in the caller's turns, until a turn of the kernel is
+// `Finished`. Returns the kernel. The caller sleeps only if no processor flies in the caller's turns.
 fn fly_kernel<K: KernelActor, R: Wait>(
     rt: &R,
     shared: &Shared<'_>,
@@ -209,7 +209,7 @@ fn fly_kernel<K: KernelActor, R: Wait>(
     unreachable!()
 }
 
-// Makes one turn of each of these processors.
+// Makes one turn of each processor in `own`.
 fn turn_all(mission: &Mission, words: &WordTable, own: &mut Vec<Crew>)
     requires mission { mission_in words.now ≡ mission.now }
     requires own { AreCrewsOf words.now own.old.items }

@@ -46,7 +46,8 @@ impl<'a, 'w, W: Watch> KernelActor for WatchedKernel<'a, 'w, W> {
     }
 }
 
-// Hands the last of these rows to a watch that has taken `before` rows. Does nothing if there are only `before` rows.
+// Hands the last row of `rows` to `watch`, which has taken `before` rows. Does nothing if `rows` has only `before`
+// rows.
 #[tactic(auto, using(crate::proofs::Watching::next_row))]
 fn hand_row<W: Watch>(mission: &Mission, rows: &[Row], before: usize, watch: &mut W)
     requires watched { W.watched watch.old ≡ mission.now }

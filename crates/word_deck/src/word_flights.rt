@@ -23,7 +23,7 @@ use telemetry_tap::Watch;
 use trace_props::missions::reconfigurations_are_assured;
 use word_table::{KSeat, Seat, WordTable, Words};
 
-/// A flight of a mission that is ready to start and has all memory that it needs. It has the words, the kernel, the
+/// A flight of a mission, ready to start, with all memory that the flight needs. It has the words, the kernel, the
 /// seats and the boxes of all processors, and room for the seats of the landed processors.
 #[derive(Drop)]
 pub struct WordFlight<'a> {
@@ -88,9 +88,9 @@ impl<'a> WordFlight<'a> {
     }
 
     /// Flies the mission with a thread for each processor and the kernel on the caller's thread. A processor for
-    /// which no thread can be created flies in the caller's turns. Returns the one-thread trace, for which SP1 to SP6
-    /// hold, and the words with all seats. The actors of the seats have no more steps. This method blocks until the
-    /// threads have ended, and cannot fail.
+    /// which no thread can be created flies in the caller's turns. Returns the one-thread trace, for which the
+    /// properties SP1 to SP6 hold, and the words with all seats. The actors of the seats have no more steps. This
+    /// method blocks until the threads have ended, and cannot fail.
     pub fn run<R: Threads + Wait + Sync>(self, rt: &R) -> Landed<'a>
         ensures flown { IsTraceOf self.entry.mission.now result.flown }
         ensures mission { result.words.mission ≡ self.entry.mission }

@@ -132,7 +132,8 @@ module _ (mission : MissionParts) (slots id : ℕ) (me : Sat) (y : IsSound (miss
           (refl, empty),
         )
 
-  -- A load of the release by a processor that waits for a frame is a start or a try. The processor may have halted.
+  -- A load of the release word by a processor that waits for a frame is a start or a try. The processor may have
+  -- halted.
   module _ (p f : ℕ) (x : Place) (l : p < m.procs) (alone : me.0.actors ≡ actor_at p x ∷ []) (planned : me.0.mission ≡ Some mission)
       (next : (release : ℕ) → nat_lt f release ≡ true → next_from m p release x ≡ Some (Start (proc_id p))) (to : moved m (Start (proc_id p)) p x ≡ At f 1)
       (wait : awaited m (actor_at p x) ≡ f) (go : begun m (actor_at p x) ≡ Runs p f 1) (awaits : AwaitsRelease m 0 (actor_at p x ∷ [])) where

@@ -58,8 +58,8 @@ unused_stay_zero p marks images mark image before q least most =
       get_or-set_other images p q image [] other ∙ was.1,
     )
 
--- The item that an iterator yields next is the item of the whole list at the index that equals the number of items
--- yielded before.
+-- If an iterator over a list has yielded `n` items, the item that it yields next is the item of the list at index
+-- `n`.
 at_front : (l rest : List Seat) (x : Seat) → slice_get (l ++ x ∷ rest) (length l) ≡ Some x
 at_front [] rest x = refl
 at_front (y ∷ l) rest x = at_front l rest x

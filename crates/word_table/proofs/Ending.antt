@@ -1,4 +1,5 @@
--- The marks and images that are read off a closed table are those that the processors have committed at their places.
+-- The marks and images that are read off a closed table are those that the processors have committed up to their
+-- places.
 use Rattle.std.proofs.Common.{◌≡◌, ℕ, zero, suc, ℤ, ◌+◌, ◌*◌, ◌%◌, ◌<◌, refl, sym, ap, subst, ◌∙◌, arith, List, [], ◌∷◌, map, length}
 use Rattle.std.specs.Prelude.{Option, Some, slice_get, slice_index}
 use Rattle.scram_types.specs.Specification.{IsSpec}

@@ -134,7 +134,7 @@ module _ (mission : MissionParts) (fits : Fits mission.spec mission.script) wher
   bank_low q f = rw (← sides_same mission.spec mission.script fits q f) (side_le m q f)
 
   module _ (facts : IsSpec mission.spec) where
-    -- If a processor reads an image in frame `f` with the first word last, the image is the image that processor `q`
+    -- The image that a processor reads in frame `f`, with the first word read last, is the image that processor `q`
     -- has committed after the first `f` frames.
     pub image_looked : (p f n q at z : ℕ) (image : List ℤ) → p < m.procs → 0 < n → q < m.procs → at ≡ index_of (BankWord q (image_bank_after mission.spec mission.script q f) 0)
         → AreRead m (Runs p f n ∷ []) at 1 m.width image → IsFound m (Runs p f n ∷ []) at z → slice_set image 0 (decode z) ≡ image_after mission.spec mission.script q f
@@ -153,8 +153,8 @@ module _ (mission : MissionParts) (fits : Fits mission.spec mission.script) wher
             get_or-set_other image 0 i (decode z) (pos 0) d ∙ r.value
             ∙ ap decode (bank_found p f n l begun q i (at + i) r.word lq inside (omega (arith, place)) r.found)
 
-    -- If the kernel reads the image of processor `p` after noting `p` in frame `k`, the image is the image that `p`
-    -- has committed after the first `k + 1` frames.
+    -- The image of processor `p` that the kernel reads after it has noted `p` in frame `k` is the image that `p` has
+    -- committed after the first `k + 1` frames.
     pub image_noted : (k p at : ℕ) (image : List ℤ) → p < m.procs → at ≡ index_of (BankWord p (image_bank_after mission.spec mission.script p (suc k)) 0)
         → AreRead m (Kernel k (suc p) ∷ []) at 0 m.width image → image ≡ image_after mission.spec mission.script p (suc k)
     image_noted k p at image l place read =

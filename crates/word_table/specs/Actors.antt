@@ -91,7 +91,7 @@ next_frame (Runs p f n) = Runs p (suc f) 0
 next_frame (Stopped p h) = Stopped p h
 next_frame (Kernel k j) = Kernel (suc k) 0
 
--- An actor after its processor has halted in its frame. The kernel does not change.
+-- An actor after it has halted in its frame. A halted processor and the kernel do not change.
 abbrev pub halted_actor : Actor → Actor
 halted_actor (Runs p f n) = Stopped p f
 halted_actor (Stopped p h) = Stopped p h

@@ -12,7 +12,7 @@ use Rattle.word_table.specs.declared.actors.Actor.TheVariants.{Runs, Stopped, Ke
 use Rattle.word_table.specs.declared.actors.View.{View}
 use Rattle.word_table.specs.Actors.{StandsAt, Waits, awaited, begun, halted_actor, mission_flight, next_frame, one_more, tried, with_actors}
 
--- A seat of the table, which has a view and no slots.
+-- The state of a seat of the table: a view and no slots.
 abbrev pub Sat : Type 0
 Sat = Me (Unit {0}) View
 
@@ -24,12 +24,12 @@ Stepped = Step (Unit {0})
 abbrev pub Has : Sat → View → Type 0
 Has me v = (me.0 ≡ v) × (me.1 ≡ [])
 
--- Each of these actors is at its place in `at`.
+-- Each actor of the list is at its place in `at`.
 abbrev pub AllStand : Places → List Actor → Type 0
 AllStand at [] = Unit {0}
 AllStand at (a ∷ rest) = StandsAt at a × AllStand at rest
 
--- In some state that satisfies `Kept`, these actors are at their places and `n` is the word at place `i`.
+-- In some state that satisfies `Kept`, the actors of the list are at their places and `n` is the word at place `i`.
 pub record IsFound (m : Flight) (actors : List Actor) (i n : ℕ) : Type 0 where
   pub at : Places
   pub list : List ℕ
@@ -81,19 +81,19 @@ GoesOrTries ready go v after = MatchBool ready (Has after (each_actor go v)) (Ha
 abbrev pub MovesIfWaiting : Type 0 → Bool → (Actor → Actor) → View → Sat → Type 0
 MovesIfWaiting waits ready go v after = (waits → GoesOrTries ready go v after) × (¬ waits → Has after v)
 
--- `after` is a seat with view `v` after a load at place `i` that found `n`. If the first actor waits for this word
--- and may start, each actor has started its frame. If the first actor waits and may not start, the view counts
--- another try.
+-- `after` is what a seat with view `v` becomes by a load at place `i` that found `n`. If the first actor waits for
+-- this word and may start, each actor has started its frame. If the first actor waits for this word and may not
+-- start, the view counts another try. Otherwise the view does not change.
 abbrev pub IsAfterStart : Flight → ℕ → ℕ → View → Sat → Type 0
 IsAfterStart m i n v after = MovesIfWaiting (AwaitsRelease m i v.actors) (may_start m v.actors n) (begun m) v after
 
--- `after` is a seat with view `v` after a load at place `i` that found `n`. If the first actor is the kernel, waits
--- for this word and may note the processor, the kernel has made a step. If the kernel waits and may not note, the
--- view counts another try.
+-- `after` is what a seat with view `v` becomes by a load at place `i` that found `n`. If the first actor is the
+-- kernel, waits for this word and may note the processor, the kernel has made a step. If the kernel waits for this
+-- word and may not note, the view counts another try. Otherwise the view does not change.
 abbrev pub IsAfterNote : Flight → ℕ → ℕ → View → Sat → Type 0
 IsAfterNote m i n v after = MovesIfWaiting (AwaitsEnd m i v.actors) (can_note m v.actors n) one_more v after
 
--- The word that the first actor stores next. Its next step must be a store into a bank or a store of one of the
+-- The word that the first actor stores next, if its next step is a store into a bank or a store of one of the
 -- kernel's words. The value is 0 if there is no actor or the first actor is a halted processor.
 abbrev pub word_due : Flight → List Actor → ℕ
 word_due m [] = 0
@@ -113,7 +113,8 @@ reads s me n after = Has after me.0 × ShowsWord me.0 s.word n
 abbrev pub looks : Stepped → Sat → ℕ → Sat → Type 0
 looks s me n after = Has after (each_actor one_more me.0) × ShowsWord me.0 s.word n
 
--- A load of the release for which a processor waits is a start or a try. Any other load does not change the seat.
+-- A load of the release word by a processor that waits for a frame is a start or a try. Any other load does not
+-- change the seat.
 abbrev pub starts : Stepped → Sat → ℕ → Sat → Type 0
 starts s me n after = IfSome me.0.mission (λ mission. IsAfterStart (mission_flight mission) s.word n me.0 after)
 
@@ -122,7 +123,7 @@ starts s me n after = IfSome me.0.mission (λ mission. IsAfterStart (mission_fli
 abbrev pub notes : Stepped → Sat → ℕ → Sat → Type 0
 notes s me n after = IfSome me.0.mission (λ mission. IsAfterNote (mission_flight mission) s.word n me.0 after) × ShowsWord me.0 s.word n
 
--- A store into a bank, of a mark, or of one of the kernel's words is a step of the actor.
+-- A store of a mark, of a word in a bank, or of one of the kernel's words is a step of the actor.
 abbrev pub stores : Stepped → Sat → ℕ → Sat → Type 0
 stores s me n after = Has after (each_actor one_more me.0)
 
@@ -130,7 +131,7 @@ stores s me n after = Has after (each_actor one_more me.0)
 abbrev pub confirms : Stepped → Sat → ℕ → Sat → Type 0
 confirms s me n after = IfSome me.0.mission (λ mission. StepsIf (nat_eq n (word_due (mission_flight mission) me.0.actors)) me.0 after)
 
--- A store of the end word of a finished frame, or of the release, puts the actor at the start of the next frame.
+-- A store of the release word, or of the end word of a finished frame, puts the actor at the start of the next frame.
 abbrev pub finishes_frame : Stepped → Sat → ℕ → Sat → Type 0
 finishes_frame s me n after = Has after (each_actor next_frame me.0)
 

@@ -75,7 +75,7 @@ AreOpening seats = (p : ℕ) (seat : Seat) → slice_get seats p ≡ Some seat �
 abbrev pub has_halted_by : Flight → ℕ → ℕ → Bool
 has_halted_by m p k = not (m.up p k && is_none (m.halt p k))
 
--- The number `n` such that the mark of a processor at a place is its mark after the first `n` frames.
+-- The number `n` such that the mark of a processor at a place is the processor's mark after the first `n` frames.
 abbrev pub frames_marked : MissionParts → Place → ℕ
 frames_marked mission place = marked (mission_flight mission) place
 
@@ -123,14 +123,14 @@ committed_mark words p n = mark_after (mission_in words).spec (mission_in words)
 abbrev pub committed_image : WordTable → ℕ → ℕ → List ℤ
 committed_image words p n = image_after (mission_in words).spec (mission_in words).script p n
 
--- For each seat of a list, the mark at the seat's index is the mark that the seat's processor has committed at its
--- place.
+-- `marks` has, at the index of each seat, the mark that the seat's processor has committed up to the place of the
+-- seat.
 abbrev pub AreMarksOf : WordTable → List Seat → List ℕ → Type 0
 AreMarksOf words seats marks = (p : ℕ) (seat : Seat) → slice_get seats p ≡ Some seat
     → slice_index marks p ≡ committed_mark words p (frames_marked (mission_in words) (seat_place seat))
 
--- For each seat of a list, the image at the seat's index is the image that the seat's processor has committed at its
--- place.
+-- `images` has, at the index of each seat, the image that the seat's processor has committed up to the place of the
+-- seat.
 abbrev pub AreImagesOf : WordTable → List Seat → List (List ℤ) → Type 0
 AreImagesOf words seats images = (p : ℕ) (seat : Seat) → slice_get seats p ≡ Some seat
     → slice_index_or images p [] ≡ committed_image words p (frames_marked (mission_in words) (seat_place seat))

@@ -4,9 +4,9 @@
 use atomic_table::{Join, Play, Split, TableRule};
 use coverage_check::Mission;
 
-/// An actor with its place. A running processor has its number, its frame and the number of steps made in it. A halted
-/// processor has its number and the frame in which it halted. The kernel has its frame and the number of steps made in
-/// it.
+/// An actor with its place. `Runs` has the number of a running processor, its frame, and the number of steps that it
+/// has made in that frame. `Stopped` has the number of a halted processor and the frame in which it halted. `Kernel`
+/// has the kernel's frame and the number of steps that the kernel has made in that frame.
 pub enum Actor {
     Runs(u64, u64, u64),
     Stopped(u64, u64),
@@ -22,8 +22,8 @@ pub struct View {
     pub actors: [Actor; 0],
 }
 
-/// The rule of the table. The law of events holds for the words and for the places of the actors. Each actor is at
-/// its place and in exactly one view.
+/// The rule of the table, which every step keeps. The law of events holds for the words and for the places of the
+/// actors. Each actor is at its place and in exactly one view.
 pub struct WordRule;
 
 impl TableRule<(), View, Mission> for WordRule {
@@ -52,7 +52,8 @@ impl Play<(), View> for Looks {
     ghost then = { looks };
 }
 
-/// A load that starts a frame if it reads the release for which a processor waits and finds the frame released.
+/// A load that starts a frame if it reads the release word for a waiting processor and finds that the processor's
+/// frame is released. The release word is the number of released frames.
 pub struct Starts;
 
 impl Play<(), View> for Starts {
@@ -61,7 +62,7 @@ impl Play<(), View> for Starts {
     ghost then = { starts };
 }
 
-/// A store into a bank, or of a mark.
+/// A store of a mark, or of a word in a bank.
 pub struct Stores;
 
 impl Play<(), View> for Stores {
@@ -79,7 +80,7 @@ impl Play<(), View> for Confirms {
     ghost then = { confirms };
 }
 
-/// A store of the end word of a finished frame.
+/// A store of a processor's end word that ends the processor's frame.
 pub struct Ends;
 
 impl Play<(), View> for Ends {
@@ -88,7 +89,7 @@ impl Play<(), View> for Ends {
     ghost then = { finishes_frame };
 }
 
-/// A store of the end word of a frame in which the processor halts.
+/// A store of a processor's end word that halts the processor in its frame.
 pub struct Halts;
 
 impl Play<(), View> for Halts {
@@ -116,7 +117,7 @@ impl Play<(), View> for Publishes {
     ghost then = { stores };
 }
 
-/// A store of the release.
+/// A store of the release word, which releases the next frame.
 pub struct Releases;
 
 impl Play<(), View> for Releases {

@@ -27,8 +27,8 @@ pub struct LastWords {
 
 impl WordTable {
     /// Closes the table and takes back all its seats. Returns for each processor the mark and the image that the
-    /// processor has committed at its place. The entries after the last processor are zero. This method does not
-    /// block.
+    /// processor has committed up to the place of its seat. The entries after the last processor are zero. This
+    /// method does not block.
     pub fn close(self, kseat: KSeat, seats: Vec<Seat>) -> LastWords
         requires kernel { IsKernelSeatOf self kseat }
         requires seats { AreSeatsOf self seats.items }

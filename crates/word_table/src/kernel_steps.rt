@@ -54,7 +54,7 @@ impl WordTable {
         })
     }
 
-    /// Returns `true` if the kernel may note processor `p` in a frame, given the processor's end word `end`.
+    /// Returns `true` if the kernel may note processor `p` in frame `frame`, given the processor's end word `end`.
     pub(crate) fn may_note(&self, p: ProcId, frame: u32, end: u64) -> bool
         requires { p.0 < 8 }
         ensures { result ≡ may_note (flight_in self.now) p.0 frame end }
@@ -84,7 +84,7 @@ impl WordTable {
         kseat.step += 1;
     }
 
-    /// Releases the next frame, and wakes the processors that sleep on the release. This method does not block.
+    /// Releases the next frame, and wakes the processors that sleep on the release word. This method does not block.
     pub fn release(&self, kseat: &mut KSeat)
         requires seat { IsKernelSeatOf self.now kseat.old }
         requires next { kernel_steps kseat.old ≡ length (mission_in self.now).spec.procs + 20 }

@@ -26,8 +26,9 @@ use scram_types::{NoMemory, ProcId, Script};
 use std::alloc::Global;
 
 impl WordTable {
-    /// Creates the table of a mission before its first frame. Returns the table, the kernel's seat, and the seats of
-    /// the processors in order. Each actor is at its opening place. Returns an error only if memory runs out.
+    /// Creates the table of a mission, as it is before the first frame. Returns the table, the kernel's seat, and the
+    /// seats of the processors in order. Each actor is at its opening place. Returns an error only if memory runs
+    /// out.
     pub fn open(alloc: Global, mission: &Mission) -> Result<(WordTable, KSeat, Vec<Seat>), NoMemory>
         ensures mission { IfOk result (λ t. mission_in t.0 ≡ mission.now) }
         ensures kernel { IfOk result (λ t. IsKernelSeatOf t.0 t.1) }
@@ -76,8 +77,8 @@ impl WordTable {
         Ok((words, seat))
     }
 
-    // Splits a seat for each processor off the first seat, in order. The kernel is then the only actor of the first
-    // seat. Returns an error only if memory runs out.
+    // Splits a seat for each processor off the first seat `rest`, and appends these seats to `seats` in order. The
+    // kernel is then the only actor of `rest`. Returns an error only if memory runs out.
     fn deal(
         &self,
         rest: &mut atomic_table::Seat<(), View>,

@@ -46,7 +46,7 @@ impl WordTable {
         }
     }
 
-    /// Wakes the processors that sleep on the release. The caller has stored the release.
+    /// Wakes the processors that sleep on the release word. The caller has stored that word.
     pub(crate) fn wake_processors(&self) {
         if self.sleepers.processors.load(Ordering::SeqCst) != 0 {
             self.table.shared.wake_all(0);

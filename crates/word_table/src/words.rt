@@ -32,8 +32,9 @@ impl<'a> Words<'a> {
     ghost use Rattle.word_table.specs.Tables.{AreImagesOf, AreMarksOf, AreOpening, AreSeatsOf, IsAwaitedImage, IsKernelSeatOf, IsSeatOf, committed_image, committed_mark, drafted_words, flight_in, has_halted_by, kernel_frame, kernel_steps, kernel_tries, kernel_words_of, mission_in, next_step, proc_of, seat_place, started_place, tries_of};
     ghost use Rattle.word_table.specs.declared.seats.Seat as seat_types;
 
-    /// Creates the words of a mission before its first frame. Returns the words, the kernel's seat, and the seats of
-    /// the processors in order. Each actor is at its opening place. Returns an error only if memory runs out.
+    /// Creates the words of a mission, as they are before the first frame. Returns the words, the kernel's seat, and
+    /// the seats of the processors in order. Each actor is at its opening place. Returns an error only if memory runs
+    /// out.
     pub fn open(
         alloc: Global,
         mission: &'a Mission,
@@ -171,7 +172,7 @@ impl<'a> Words<'a> {
         self.table.publish(kseat, i, word);
     }
 
-    /// Releases the next frame, and wakes the processors that sleep on the release. This method does not block.
+    /// Releases the next frame, and wakes the processors that sleep on the release word. This method does not block.
     pub fn release(&self, kseat: &mut KSeat)
         requires seat { IsKernelSeatOf self.now.table kseat.old }
         requires next { kernel_steps kseat.old ≡ length (mission_in self.now.table).spec.procs + 20 }
@@ -198,8 +199,8 @@ impl<'a> Words<'a> {
     }
 
     /// Closes the table and takes back all its seats. Returns for each processor the mark and the image that the
-    /// processor has committed at its place. The entries after the last processor are zero. This method does not
-    /// block.
+    /// processor has committed up to the place of its seat. The entries after the last processor are zero. This
+    /// method does not block.
     pub fn close(self, kseat: KSeat, seats: Vec<Seat>) -> LastWords
         requires kernel { IsKernelSeatOf self.table kseat }
         requires seats { AreSeatsOf self.table seats.items }
