@@ -27,8 +27,8 @@ pub record DocumentRule : Type 0 where
   pub shows : Shows
 
 -- A rule of the program's table as plain data.
-abbrev pub rule_read : TableRule → DocumentRule
-rule_read r = record { number = r.number; text = r.text.now; limit = r.limit; shows = r.shows }
+abbrev pub plain_rule : TableRule → DocumentRule
+plain_rule r = record { number = r.number; text = r.text.now; limit = r.limit; shows = r.shows }
 
 -- A rule with this number and this text, without a limit. `shows` states which parts of an explanation are shown if
 -- the rule is broken.

@@ -4,7 +4,7 @@ ghost use Rattle.std.specs.Prelude.{◌≡◌, ◌++◌, IfOk, OnOk, codes, opti
 ghost use Rattle.serde_json.specs.View.{view};
 ghost use Rattle.scram_doc.specs.Documents.{document};
 ghost use Rattle.document_explanations.specs.Explanations.{explanation, found_line, found_part, rule_line, rule_lines, wanted_line, wanted_part};
-ghost use Rattle.document_explanations.specs.Rules.{rule_read};
+ghost use Rattle.document_explanations.specs.Rules.{plain_rule};
 
 use crate::found::{cut, found_text_at};
 use crate::lines::Lines;
@@ -55,7 +55,7 @@ fn add_rule_lines(
     broken: &BrokenDocument<'_>,
 ) -> Result<(), NoMemory>
     ensures { OnOk result (lines.new ≡ lines.old ++ rule_lines broken.now.kind (option_map (λ s. s.now) broken.now.spec) broken.now.path.now
-        (document broken.now.bytes.now) (rule_read rule.now)) }
+        (document broken.now.bytes.now) (plain_rule rule.now)) }
 {
     add_rule_line(lines, rule)?;
     add_wanted_line(lines, rule, broken)?;
@@ -63,7 +63,7 @@ fn add_rule_lines(
 }
 
 fn add_rule_line(lines: &mut Lines, rule: &DocumentRule) -> Result<(), NoMemory>
-    ensures { OnOk result (lines.new ≡ lines.old ++ rule_line (rule_read rule.now)) }
+    ensures { OnOk result (lines.new ≡ lines.old ++ rule_line (plain_rule rule.now)) }
 {
     lines.push("  rule ")?;
     lines.number(usize::from(rule.number))?;
@@ -78,7 +78,7 @@ fn add_wanted_line(
     broken: &BrokenDocument<'_>,
 ) -> Result<(), NoMemory>
     ensures { OnOk result (lines.new ≡ lines.old ++ wanted_line broken.now.kind (option_map (λ s. s.now) broken.now.spec)
-        (rule_read rule.now) broken.now.path.now) }
+        (plain_rule rule.now) broken.now.path.now) }
 {
     if !rule.shows.wanted() {
         return Ok(());
@@ -107,7 +107,7 @@ fn add_found_line(
     rule: &DocumentRule,
     broken: &BrokenDocument<'_>,
 ) -> Result<(), NoMemory>
-    ensures { OnOk result (lines.new ≡ lines.old ++ found_line broken.now.kind (rule_read rule.now) broken.now.path.now
+    ensures { OnOk result (lines.new ≡ lines.old ++ found_line broken.now.kind (plain_rule rule.now) broken.now.path.now
         (document broken.now.bytes.now)) }
 {
     if !rule.shows.found() {

@@ -1,7 +1,7 @@
 //! The table of the rules of specifications and scripts, each with the text that is shown if the rule is broken.
 
 ghost use Rattle.std.specs.Prelude.{◌≡◌, ◌++◌, OnOk, map, option_map};
-ghost use Rattle.document_explanations.specs.Rules.{broken_rule, common_rules, limit_text, own_rules, root_of, rule_in, rule_read, rule_words, shows_found, shows_wanted};
+ghost use Rattle.document_explanations.specs.Rules.{broken_rule, common_rules, limit_text, own_rules, root_of, rule_in, plain_rule, rule_words, shows_found, shows_wanted};
 
 use crate::lines::Lines;
 use crate::objects::Object;
@@ -187,13 +187,13 @@ const SCRIPT: &[DocumentRule] = &[
 ];
 
 fn common_rules() -> &'static [DocumentRule]
-    ensures { map rule_read result.now ≡ common_rules }
+    ensures { map plain_rule result.now ≡ common_rules }
 {
     COMMON
 }
 
 fn own_rules(kind: DocumentKind) -> &'static [DocumentRule]
-    ensures { map rule_read result.now ≡ own_rules kind }
+    ensures { map plain_rule result.now ≡ own_rules kind }
 {
     match kind {
         DocumentKind::Specification => SPECIFICATION,
@@ -202,7 +202,7 @@ fn own_rules(kind: DocumentKind) -> &'static [DocumentRule]
 }
 
 fn rule_in(rules: &[DocumentRule], number: u8) -> Option<DocumentRule>
-    ensures { option_map rule_read result ≡ rule_in (map rule_read rules.now) number }
+    ensures { option_map plain_rule result ≡ rule_in (map plain_rule rules.now) number }
 {
     for rule in rules {
         if rule.number == number {
@@ -214,7 +214,7 @@ fn rule_in(rules: &[DocumentRule], number: u8) -> Option<DocumentRule>
 
 /// Returns the rule with the number `number` that a document of this kind has, or `None` if there is none.
 pub fn broken_rule(kind: DocumentKind, number: u8) -> Option<DocumentRule>
-    ensures { option_map rule_read result ≡ broken_rule kind number }
+    ensures { option_map plain_rule result ≡ broken_rule kind number }
 {
     match rule_in(common_rules(), number) {
         Some(rule) => Some(rule),
@@ -228,7 +228,7 @@ pub fn broken_rule(kind: DocumentKind, number: u8) -> Option<DocumentRule>
 ///
 /// Returns an error if memory runs out.
 pub fn add_rule_text(lines: &mut Lines, rule: &DocumentRule) -> Result<(), NoMemory>
-    ensures { OnOk result (lines.new ≡ lines.old ++ rule_words (rule_read rule.now)) }
+    ensures { OnOk result (lines.new ≡ lines.old ++ rule_words (plain_rule rule.now)) }
 {
     lines.push(rule.text)?;
     match rule.limit {

@@ -24,7 +24,7 @@ use Rattle.fail_stop.proofs.FlyersAt.{flyers_with, unit_begun, unit_stopped, uni
 use Rattle.event_core.specs.declared.flyers.Flyers.{Flyers}
 use Rattle.event_core.specs.declared.places.Places.{Places as KeptPlaces}
 use Rattle.event_core.specs.Cores.{CoreParts, core_places, core_flight}
-use Rattle.event_core.specs.Flyers.{AreLastDrafts, FlyBy, FlyersFit, IsLastDraft}
+use Rattle.event_core.specs.Flyers.{AreLastDrafts, FlyersFitCore, FlyersFit, IsLastDraft}
 use Rattle.event_core.specs.Places.{HasLooked, kept_opening, machine_places}
 use Rattle.event_core.proofs.Opens.{places_open}
 
@@ -104,13 +104,13 @@ drafted_by spec own script p q f snap image same facts known number shown trace 
 
 -- Lemmas that the processors fly with a core at the opening and after each event.
 module _ {X : Type 0} {Y : X → Type 0} where
-  pub fly_first : (core : CoreParts) (flyers : Flyers X Y) → core.places ≡ kept_opening → FlyersFit core.spec core.script (λ p. At 0 0) flyers → FlyBy core flyers
+  pub fly_first : (core : CoreParts) (flyers : Flyers X Y) → core.places ≡ kept_opening → FlyersFit core.spec core.script (λ p. At 0 0) flyers → FlyersFitCore core flyers
   fly_first core flyers is fits =
       subst (λ (at : ℕ → Place). FlyersFit core.spec core.script at flyers)
       (sym (ap (λ (places : KeptPlaces). (machine_places places).proc) is ∙ ap (λ (at : Places). at.proc) places_open)) fits
 
   pub fly_on : (was core : CoreParts) (words words2 : Word → ℕ) (e : Event) (flyers : Flyers X Y) → core.spec ≡ was.spec → core.script ≡ was.script
-      → Happens (core_flight was) (core_places was) words e (core_places core) words2 → FlyersFit was.spec was.script (proc_after (core_flight was) (core_places was) e) flyers → FlyBy core flyers
+      → Happens (core_flight was) (core_places was) words e (core_places core) words2 → FlyersFit was.spec was.script (proc_after (core_flight was) (core_places was) e) flyers → FlyersFitCore core flyers
   fly_on was core words words2 e flyers same_spec same_script happens fits =
       let at : (core_places core).proc ≡ proc_after (core_flight was) (core_places was) e = λ i q. happens.proc q i in
       subst (λ (spec : Parts). FlyersFit spec core.script (core_places core).proc flyers) (sym same_spec)

@@ -25,11 +25,10 @@ pub record FlyersFit {X : Type 0} {Y : X → Type 0} (spec : Parts) (script : Sc
   pub all : AreFlyersAt (flight_of spec script) at flyers.all.items
   pub drafted : AreLastDrafts spec script flyers.drafted
 
--- The processors fly with the core. They are at the places of the core's machine, and their last drafts satisfy
--- `AreLastDrafts`.
-abbrev pub FlyBy : {X : Type 0} {Y : X → Type 0} → CoreParts → Flyers X Y → Type 0
-FlyBy core flyers = FlyersFit core.spec core.script (core_places core).proc flyers
+-- The processors are at the places of the core's machine, and their last drafts satisfy `AreLastDrafts`.
+abbrev pub FlyersFitCore : {X : Type 0} {Y : X → Type 0} → CoreParts → Flyers X Y → Type 0
+FlyersFitCore core flyers = FlyersFit core.spec core.script (core_places core).proc flyers
 
--- The processors fly with the core after it has made an event.
-abbrev pub FlyAfter : {X : Type 0} {Y : X → Type 0} → CoreParts → Event → Flyers X Y → Type 0
-FlyAfter core event flyers = FlyersFit core.spec core.script (proc_after (core_flight core) (core_places core) event) flyers
+-- The processors satisfy `FlyersFitCore` for the core after it has made an event.
+abbrev pub FlyersFitAfter : {X : Type 0} {Y : X → Type 0} → CoreParts → Event → Flyers X Y → Type 0
+FlyersFitAfter core event flyers = FlyersFit core.spec core.script (proc_after (core_flight core) (core_places core) event) flyers

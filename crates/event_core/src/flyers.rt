@@ -2,7 +2,7 @@
 
 ghost use Rattle.std.specs.Prelude.{◌≡◌, ◌<◌, IfOk, IfSome, Some, length, map, vec_len, ℕ};
 ghost use Rattle.event_core.specs.Cores.{IsNextIn, IsWordIn, core_places, core_flight};
-ghost use Rattle.event_core.specs.Flyers.{FlyAfter, FlyBy, FlyersFit, IsLastDraft};
+ghost use Rattle.event_core.specs.Flyers.{FlyersFitAfter, FlyersFitCore, FlyersFit, IsLastDraft};
 ghost use Rattle.event_core.specs.Places.{HasLooked};
 ghost use Rattle.bank_words.specs.declared.events.Event.TheVariants.{Halt as HaltEvent, Start as StartEvent};
 ghost use Rattle.fail_stop.specs.Events.{At, frame_of};
@@ -56,9 +56,9 @@ impl Flyers {
     pub fn word(&mut self, core: &Core, spec: &Spec, event: Event) -> u64
         requires spec { core.now.spec ≡ spec.now }
         requires next { IsNextIn core.now event }
-        requires fits { FlyBy core.now self.old }
+        requires fits { FlyersFitCore core.now self.old }
         ensures word { IsWordIn core.now event result }
-        ensures fits { FlyAfter core.now event self.new }
+        ensures fits { FlyersFitAfter core.now event self.new }
     {
         let _procs = spec.procs.items().len();
         match event {
@@ -84,8 +84,8 @@ impl Flyers {
         requires known { p.0 < length core.now.spec.procs }
         requires few { p.0 < 8 }
         requires next { IsNextIn core.now (StartEvent p) }
-        requires fits { FlyBy core.now self.old }
-        ensures fits { FlyAfter core.now (StartEvent p) self.new }
+        requires fits { FlyersFitCore core.now self.old }
+        ensures fits { FlyersFitAfter core.now (StartEvent p) self.new }
     {
         self.all[usize::from(p.0)].start();
     }
@@ -93,8 +93,8 @@ impl Flyers {
     fn halt(&mut self, core: &Core, p: ProcId)
         requires known { p.0 < length core.now.spec.procs }
         requires few { p.0 < 8 }
-        requires fits { FlyBy core.now self.old }
-        ensures fits { FlyAfter core.now (HaltEvent p) self.new }
+        requires fits { FlyersFitCore core.now self.old }
+        ensures fits { FlyersFitAfter core.now (HaltEvent p) self.new }
     {
         self.all[usize::from(p.0)].halt(core.frame_of(p));
     }
@@ -106,9 +106,9 @@ impl Flyers {
         requires few { p.0 < 8 }
         requires looked { HasLooked (core_flight core.now) ((core_places core.now).proc p.0) }
         requires i { i < 64 }
-        requires fits { FlyBy core.now self.old }
+        requires fits { FlyersFitCore core.now self.old }
         ensures word { result ≡ word_in (draft_words core.now.spec core.now.script p.0 (frame_of ((core_places core.now).proc p.0))) i }
-        ensures fits { FlyBy core.now self.new }
+        ensures fits { FlyersFitCore core.now self.new }
     {
         let image = self.image(core, spec, p);
         stored_word(&image, i)
@@ -121,9 +121,9 @@ impl Flyers {
         requires known { p.0 < length spec.now.procs }
         requires few { p.0 < 8 }
         requires looked { HasLooked (core_flight core.now) ((core_places core.now).proc p.0) }
-        requires fits { FlyBy core.now self.old }
+        requires fits { FlyersFitCore core.now self.old }
         ensures image { result ≡ draft core.now.spec core.now.script p.0 (frame_of ((core_places core.now).proc p.0)) }
-        ensures fits { FlyBy core.now self.new }
+        ensures fits { FlyersFitCore core.now self.new }
     {
         let frame = core.frame_of(p);
         match drafted_in(&self.drafted[usize::from(p.0)], frame) {
@@ -137,9 +137,9 @@ impl Flyers {
         requires known { p.0 < length spec.now.procs }
         requires few { p.0 < 8 }
         requires looked { HasLooked (core_flight core.now) ((core_places core.now).proc p.0) }
-        requires fits { FlyBy core.now self.old }
+        requires fits { FlyersFitCore core.now self.old }
         ensures image { result ≡ draft core.now.spec core.now.script p.0 (frame_of ((core_places core.now).proc p.0)) }
-        ensures fits { FlyBy core.now self.new }
+        ensures fits { FlyersFitCore core.now self.new }
     {
         let _procs = spec.procs.items().len();
         let snap = core.snapshot(p);

@@ -9,6 +9,7 @@ ghost use Rattle.fault_family.specs.NextFaults.{candidates, factor_changes, fram
 ghost use Rattle.fault_family.specs.Families.{differs_in, may_follow};
 ghost use Rattle.fault_family.specs.Faults.{may_come_after};
 ghost use Rattle.fault_family.specs.Scripts.{last_fault_frame, script_in_frames};
+ghost use Rattle.fault_family.specs.declared.scripts.TheConstants.{LAST_FAULT_FRAME};
 
 use crate::faults::{Fault, FaultKind, may_come_after};
 use crate::scripts::{greatest, has_halted_before, value_at};
@@ -144,7 +145,7 @@ pub fn candidate_count(spec: &Spec, kinds: &[FaultKind], before: &[Fault]) -> u3
 pub fn candidate(spec: &Spec, kinds: &[FaultKind], before: &[Fault], k: u32) -> Fault
     requires kinds { kinds.now ≡ kinds_of spec.now }
     requires few { length kinds.now ≤ 48 }
-    requires before { last_fault_frame before.now ≤ 4000 }
+    requires before { last_fault_frame before.now ≤ LAST_FAULT_FRAME }
     requires k { k < length (candidates spec.now before.now) }
     ensures fault { slice_get (candidates spec.now before.now) k ≡ Some result }
     ensures frame { result.frame ≤ last_fault_frame before.now + 1001 }
@@ -170,7 +171,7 @@ fn frame_count(spec: &Spec, before: &[Fault]) -> u32
 // Returns the frame with index `i` among the frames in which a fault may come after the faults `before`.
 fn frame_after(spec: &Spec, before: &[Fault], i: u32) -> u32
     requires i { i < length (frames_after spec.now before.now) }
-    requires before { last_fault_frame before.now ≤ 4000 }
+    requires before { last_fault_frame before.now ≤ LAST_FAULT_FRAME }
     ensures value { slice_get (frames_after spec.now before.now) i ≡ Some result }
     ensures most { result ≤ last_fault_frame before.now + 1001 }
 {

@@ -7,6 +7,7 @@ ghost use Rattle.fault_script.specs.Environments.{env_at};
 ghost use Rattle.fault_script.specs.Times.{factors_at, is_up};
 ghost use Rattle.fault_family.specs.Counting.{AreChangeFrameCounts};
 ghost use Rattle.fault_family.specs.Scripts.{as_script, is_within};
+ghost use Rattle.fault_family.specs.declared.scripts.TheConstants.{MAX_FAMILY_FRAMES};
 
 use crate::scripts::{FaultScript, is_up, value_at};
 use scram_types::{Env, FactorId, Spec};
@@ -16,7 +17,7 @@ use scram_types::{Env, FactorId, Spec};
 /// `window` consecutive frames contain at most `changes + 1` frames whose environment differs from the environment of
 /// the previous frame.
 pub fn is_within(spec: &Spec, script: &FaultScript<'_>) -> bool
-    requires { script.now.frames ≤ 5003 }
+    requires { script.now.frames ≤ MAX_FAMILY_FRAMES }
     ensures { result ≡ is_within spec.now (as_script script.now) }
 {
     let mut counts = Counts { upto: 0, past: 0 };
@@ -39,7 +40,7 @@ struct Counts {
 
 // Returns the counts for frame `frame`, given `counts`, the counts for the previous frame.
 fn counts_with(spec: &Spec, script: &FaultScript<'_>, counts: &Counts, frame: u32) -> Counts
-    requires frame { frame ≤ 5003 }
+    requires frame { frame ≤ MAX_FAMILY_FRAMES }
     requires counts { AreChangeFrameCounts spec.now (as_script script.now) (frame - 1) counts.now }
     ensures { AreChangeFrameCounts spec.now (as_script script.now) frame result }
 {
@@ -57,7 +58,7 @@ fn counts_with(spec: &Spec, script: &FaultScript<'_>, counts: &Counts, frame: u3
 // Returns the number of frames that change the environment, up to and including frame `frame`. `count` is this number
 // for the previous frame.
 fn count_with(spec: &Spec, script: &FaultScript<'_>, count: u32, frame: u32) -> u32
-    requires frame { frame ≤ 5003 }
+    requires frame { frame ≤ MAX_FAMILY_FRAMES }
     requires count { count ≡ changes_upto spec.now (as_script script.now) (frame - 1) }
     ensures { result ≡ changes_upto spec.now (as_script script.now) frame }
 {
@@ -70,7 +71,7 @@ fn count_with(spec: &Spec, script: &FaultScript<'_>, count: u32, frame: u32) -> 
 
 // Returns `true` if the script violates the failure assumption in frame `frame`.
 fn is_outside_at(spec: &Spec, script: &FaultScript<'_>, counts: &Counts, frame: u32) -> bool
-    requires few { script.now.frames ≤ 5003 }
+    requires few { script.now.frames ≤ MAX_FAMILY_FRAMES }
     requires frame { frame ≤ script.now.frames }
     requires counts { AreChangeFrameCounts spec.now (as_script script.now) frame counts.now }
     ensures { result ≡ is_some (outside_at spec.now (as_script script.now) frame) }
@@ -139,7 +140,7 @@ fn up_set_at(spec: &Spec, script: &FaultScript<'_>, frame: u32) -> u8
 
 fn brings_too_many_down(spec: &Spec, script: &FaultScript<'_>, frame: u32) -> bool
     requires frame { frame ≤ script.now.frames }
-    requires few { script.now.frames ≤ 5003 }
+    requires few { script.now.frames ≤ MAX_FAMILY_FRAMES }
     ensures { result ≡ brings_too_many_down spec.now (as_script script.now) frame }
 {
     frame != script.frames && has_too_many_down(spec, script, frame + 1)

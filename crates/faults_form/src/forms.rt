@@ -8,6 +8,7 @@ ghost use Rattle.form_base.specs.Answers.{Gives};
 ghost use Rattle.form_base.specs.Endings.{Ends, IsTaken, Prepares, PreparesWithoutFiles};
 ghost use Rattle.fault_family.specs.NextFaults.{kinds_of};
 ghost use Rattle.fault_family.specs.Scripts.{last_fault_frame};
+ghost use Rattle.fault_family.specs.declared.scripts.TheConstants.{LAST_FAULT_FRAME};
 ghost use Rattle.faults_form.specs.Answers.{FaultsAnswers, GivesFamily, faults_answer};
 ghost use Rattle.faults_form.specs.Counts.{number};
 ghost use Rattle.faults_form.specs.Families.{extended_text, family_text, within_text};
@@ -138,7 +139,7 @@ fn put_extended<K: Sink>(
 // Writes the line of the script with the given faults, unless the script violates the failure assumption.
 fn put_within<K: Sink>(out: &mut K, spec: &Spec, faults: &[Fault]) -> Result<(), SinkFault>
     requires few { length faults.now ≤ 3 }
-    requires frame { last_fault_frame faults.now ≤ 4000 }
+    requires frame { last_fault_frame faults.now ≤ LAST_FAULT_FRAME }
     ensures { Prints result (K.state out.old) (K.state out.new) (within_text spec.now faults.now) }
 {
     let script = FaultScript::new(spec, faults);

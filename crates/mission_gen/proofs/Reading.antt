@@ -1,4 +1,5 @@
--- Lemmas that the texts of the two specifications are read as specifications. The lemmas are proved by computation.
+-- Lemmas on `uav_text` and `generated_text`: each is read as a specification, of which it is the canonical text. The
+-- reading is proved by computation.
 use Rattle.std.proofs.Common.{◌≡◌, refl, ap, sym, ◌∙◌, ℕ, List, [], ◌∷◌, length}
 use Rattle.std.specs.Prelude.{Bool, true, false, ◌&&◌, drop, slice_index, nat_le, nat_lt, Option, Some, None, Result, Ok, Err, IfOk, map}
 use Rattle.std.specs.Fmt.{digits}

@@ -12,7 +12,7 @@ abbrev pub sheet_of : Parts → List Row → Sheet
 sheet_of spec rows = record { rows = length rows; factors = length spec.factors; procs = length spec.procs; apps = length spec.apps }
 
 -- A sheet has at most 6 factors, 8 processors and 8 applications, which are the maximum numbers of a specification.
-pub record IsSheet (sheet : Sheet) : Type 0 where
+pub record IsWithinLimits (sheet : Sheet) : Type 0 where
   pub factors : sheet.factors ≤ 6
   pub procs : sheet.procs ≤ 8
   pub apps : sheet.apps ≤ 8

@@ -4,7 +4,7 @@ ghost use Rattle.std.specs.Prelude.{◌≡◌, ◌<◌, ◌≤◌, ◌^◌, leng
 ghost use Rattle.scram_io.specs.Outside.{Prints};
 ghost use Rattle.flight_facts.specs.Spans.{IsLane};
 ghost use Rattle.picture_form.specs.Lanes.{lane_text, lanes_text, name_line, spans_text, strip_of, strip_text};
-ghost use Rattle.picture_form.specs.Sheets.{IsSheet, lanes_of};
+ghost use Rattle.picture_form.specs.Sheets.{IsWithinLimits, lanes_of};
 
 use crate::boxes::add_name;
 use crate::sheets::Sheet;
@@ -20,7 +20,7 @@ pub fn put_lanes<K: Sink>(
     sheet: Sheet,
     rows: &[Row],
 ) -> Result<(), SinkFault>
-    requires sheet { IsSheet sheet }
+    requires sheet { IsWithinLimits sheet }
     requires rows { length rows.now < 2 ^ 32 }
     ensures { Prints result (K.state out.old) (K.state out.new) (lanes_text spec.now sheet rows.now) }
 {
@@ -40,7 +40,7 @@ fn put_lane<K: Sink>(
     rows: &[Row],
     n: u8,
 ) -> Result<(), SinkFault>
-    requires sheet { IsSheet sheet }
+    requires sheet { IsWithinLimits sheet }
     requires lane { n < lanes_of sheet }
     requires rows { length rows.now < 2 ^ 32 }
     ensures { Prints result (K.state out.old) (K.state out.new) (lane_text spec.now sheet rows.now n) }
@@ -49,7 +49,7 @@ fn put_lane<K: Sink>(
 }
 
 fn strip_of(sheet: Sheet, n: u8) -> Strip
-    requires sheet { IsSheet sheet }
+    requires sheet { IsWithinLimits sheet }
     requires lane { n < lanes_of sheet }
     ensures value { result ≡ strip_of sheet n }
     ensures lane { IsLane result.lane }

@@ -8,7 +8,7 @@ ghost use Rattle.trace_files.specs.Looks.{ViewAnswers};
 ghost use Rattle.picture_form.specs.Curves.{curve_text, curve_line_text, point_text, points_text};
 ghost use Rattle.picture_form.specs.Picture.{altitude_text, body_text, curves_text, foot_text, front_text, grid_text, head_text, heading_text, lanes_and_foot, legend_line, legend_text, names_text, open_line, picture_text, quantity_name, quantity_text, quantity_unit, sheet_text, stable_spans, tick_line, tick_text, ticks_text, top_text};
 ghost use Rattle.picture_form.specs.Reconfigurations.{begin_text, reconfiguration_boxes};
-ghost use Rattle.picture_form.specs.Sheets.{IsSheet};
+ghost use Rattle.picture_form.specs.Sheets.{IsWithinLimits};
 ghost use Rattle.picture_form.specs.Styles.{part_text};
 
 use crate::boxes::add_number;
@@ -68,7 +68,7 @@ fn put_sheet<K: Sink>(
     rows: &[Row],
     reports: &[Report],
 ) -> Result<(), SinkFault>
-    requires sheet { IsSheet sheet }
+    requires sheet { IsWithinLimits sheet }
     requires rows { length rows.now < 2 ^ 32 }
     ensures { Prints result (K.state out.old) (K.state out.new) (sheet_text spec.now sheet rows.now reports.now) }
 {
@@ -79,7 +79,7 @@ fn put_sheet<K: Sink>(
 }
 
 fn put_head<K: Sink>(out: &mut K, sheet: Sheet) -> Result<(), SinkFault>
-    requires { IsSheet sheet }
+    requires { IsWithinLimits sheet }
     ensures { Prints result (K.state out.old) (K.state out.new) (head_text sheet) }
 {
     match out.put(make_open_line(sheet).as_bytes()) {
@@ -89,7 +89,7 @@ fn put_head<K: Sink>(out: &mut K, sheet: Sheet) -> Result<(), SinkFault>
 }
 
 fn make_open_line(sheet: Sheet) -> Line
-    requires { IsSheet sheet }
+    requires { IsWithinLimits sheet }
     ensures { result ≡ open_line sheet }
 {
     let mut line = Line::new();
@@ -112,7 +112,7 @@ fn put_body<K: Sink>(
     rows: &[Row],
     reports: &[Report],
 ) -> Result<(), SinkFault>
-    requires sheet { IsSheet sheet }
+    requires sheet { IsWithinLimits sheet }
     requires rows { length rows.now < 2 ^ 32 }
     ensures { Prints result (K.state out.old) (K.state out.new) (body_text spec.now sheet rows.now reports.now) }
 {
@@ -124,7 +124,7 @@ fn put_body<K: Sink>(
 
 // Writes the vertical lines behind the lanes: the ticks, and the starts of the reconfigurations.
 fn put_grid<K: Sink>(out: &mut K, sheet: Sheet, reports: &[Report]) -> Result<(), SinkFault>
-    requires { IsSheet sheet }
+    requires { IsWithinLimits sheet }
     ensures { Prints result (K.state out.old) (K.state out.new) (grid_text sheet reports.now) }
 {
     match put_ticks(out, sheet) {
@@ -134,7 +134,7 @@ fn put_grid<K: Sink>(out: &mut K, sheet: Sheet, reports: &[Report]) -> Result<()
 }
 
 fn put_ticks<K: Sink>(out: &mut K, sheet: Sheet) -> Result<(), SinkFault>
-    requires { IsSheet sheet }
+    requires { IsWithinLimits sheet }
     ensures { Prints result (K.state out.old) (K.state out.new) (ticks_text sheet) }
 {
     for j in 0..sheet.ticks() {
@@ -147,14 +147,14 @@ fn put_ticks<K: Sink>(out: &mut K, sheet: Sheet) -> Result<(), SinkFault>
 }
 
 fn make_tick(sheet: Sheet, j: u32) -> Line
-    requires { IsSheet sheet }
+    requires { IsWithinLimits sheet }
     ensures { result ≡ tick_text sheet j }
 {
     make_tick_line(sheet, u64::from(j) * u64::from(sheet.tick()))
 }
 
 fn make_tick_line(sheet: Sheet, k: u64) -> Line
-    requires sheet { IsSheet sheet }
+    requires sheet { IsWithinLimits sheet }
     requires row { k ≤ 2 ^ 40 }
     ensures { result ≡ tick_line sheet k }
 {
@@ -174,7 +174,7 @@ fn make_tick_line(sheet: Sheet, k: u64) -> Line
 }
 
 fn put_begins<K: Sink>(out: &mut K, sheet: Sheet, reports: &[Report]) -> Result<(), SinkFault>
-    requires { IsSheet sheet }
+    requires { IsWithinLimits sheet }
     ensures { Prints result (K.state out.old) (K.state out.new) (texts_below (begin_text sheet reports.now) (length reports.now)) }
 {
     for n in 0..reports.len() {
@@ -193,7 +193,7 @@ fn put_front<K: Sink>(
     rows: &[Row],
     reports: &[Report],
 ) -> Result<(), SinkFault>
-    requires sheet { IsSheet sheet }
+    requires sheet { IsWithinLimits sheet }
     requires rows { length rows.now < 2 ^ 32 }
     ensures { Prints result (K.state out.old) (K.state out.new) (front_text spec.now sheet rows.now reports.now) }
 {
@@ -267,7 +267,7 @@ fn put_lanes_and_foot<K: Sink>(
     sheet: Sheet,
     rows: &[Row],
 ) -> Result<(), SinkFault>
-    requires sheet { IsSheet sheet }
+    requires sheet { IsWithinLimits sheet }
     requires rows { length rows.now < 2 ^ 32 }
     ensures { Prints result (K.state out.old) (K.state out.new) (lanes_and_foot spec.now sheet rows.now) }
 {
@@ -279,7 +279,7 @@ fn put_lanes_and_foot<K: Sink>(
 
 // Writes the part of the picture below the lanes: the curves and the legend.
 fn put_foot<K: Sink>(out: &mut K, sheet: Sheet, rows: &[Row]) -> Result<(), SinkFault>
-    requires { IsSheet sheet }
+    requires { IsWithinLimits sheet }
     ensures { Prints result (K.state out.old) (K.state out.new) (foot_text sheet rows.now) }
 {
     match put_curves(out, sheet, rows) {
@@ -289,7 +289,7 @@ fn put_foot<K: Sink>(out: &mut K, sheet: Sheet, rows: &[Row]) -> Result<(), Sink
 }
 
 fn put_curves<K: Sink>(out: &mut K, sheet: Sheet, rows: &[Row]) -> Result<(), SinkFault>
-    requires { IsSheet sheet }
+    requires { IsWithinLimits sheet }
     ensures { Prints result (K.state out.old) (K.state out.new) (curves_text sheet rows.now) }
 {
     match put_altitude(out, sheet, rows) {
@@ -299,14 +299,14 @@ fn put_curves<K: Sink>(out: &mut K, sheet: Sheet, rows: &[Row]) -> Result<(), Si
 }
 
 fn put_altitude<K: Sink>(out: &mut K, sheet: Sheet, rows: &[Row]) -> Result<(), SinkFault>
-    requires { IsSheet sheet }
+    requires { IsWithinLimits sheet }
     ensures { Prints result (K.state out.old) (K.state out.new) (altitude_text sheet rows.now) }
 {
     put_quantity(out, sheet, rows, Quantity::Altitude, sheet.curves_y())
 }
 
 fn put_heading<K: Sink>(out: &mut K, sheet: Sheet, rows: &[Row]) -> Result<(), SinkFault>
-    requires { IsSheet sheet }
+    requires { IsWithinLimits sheet }
     ensures { Prints result (K.state out.old) (K.state out.new) (heading_text sheet rows.now) }
 {
     put_quantity(out, sheet, rows, Quantity::Heading, sheet.curves_y() + 64)
@@ -430,7 +430,7 @@ fn put_all_points<K: Sink>(out: &mut K, rows: &[Row], curve: Curve) -> Result<()
 
 // Writes the legend, followed by the end of the document.
 fn put_legend<K: Sink>(out: &mut K, sheet: Sheet) -> Result<(), SinkFault>
-    requires { IsSheet sheet }
+    requires { IsWithinLimits sheet }
     ensures { Prints result (K.state out.old) (K.state out.new) (legend_text sheet) }
 {
     match out.put(make_legend_line(sheet).as_bytes()) {
@@ -440,7 +440,7 @@ fn put_legend<K: Sink>(out: &mut K, sheet: Sheet) -> Result<(), SinkFault>
 }
 
 fn make_legend_line(sheet: Sheet) -> Line
-    requires { IsSheet sheet }
+    requires { IsWithinLimits sheet }
     ensures { result ≡ legend_line sheet }
 {
     let mut line = Line::new();

@@ -3,7 +3,7 @@
 ghost use Rattle.std.specs.Prelude.{◌≡◌, ◌<◌, ◌≤◌, ◌+◌, ◌++◌, length};
 ghost use Rattle.scram_types.specs.declared.limits.TheConstants.{MAX_LINE_BYTES};
 ghost use Rattle.picture_form.specs.Reconfigurations.{begin_line, begin_text, bound_rect, end_text, reconfiguration_boxes, report_boxes, report_title, route_text, rows_width, times_text};
-ghost use Rattle.picture_form.specs.Sheets.{IsSheet};
+ghost use Rattle.picture_form.specs.Sheets.{IsWithinLimits};
 
 use crate::boxes::{add_box, add_number};
 use crate::sheets::Sheet;
@@ -16,7 +16,7 @@ use trace_text::row_lines::add_conf_or_dash;
 /// Returns the vertical line at the start of reconfiguration `n`, or the empty line if there is no such
 /// reconfiguration or it does not begin in a row.
 pub fn make_begin(sheet: Sheet, reports: &[Report], n: usize) -> Line
-    requires { IsSheet sheet }
+    requires { IsWithinLimits sheet }
     ensures { result ≡ begin_text sheet reports.now n }
 {
     match reports.get(n) {
@@ -30,7 +30,7 @@ pub fn make_begin(sheet: Sheet, reports: &[Report], n: usize) -> Line
 }
 
 fn make_begin_line(sheet: Sheet, begin: u32) -> Line
-    requires { IsSheet sheet }
+    requires { IsWithinLimits sheet }
     ensures { result ≡ begin_line sheet begin }
 {
     let mut line = Line::new();

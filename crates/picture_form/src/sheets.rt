@@ -2,7 +2,7 @@
 
 ghost use Rattle.std.specs.Prelude.{◌≡◌, ◌<◌, ◌≤◌, ◌^◌, length};
 ghost use Rattle.flight_facts.specs.Spans.{IsLane};
-ghost use Rattle.picture_form.specs.Sheets.{IsSheet, bottom_of, curves_y, lane_of, lane_y, lanes_of, room_above, rows_of_tick, scale_of, sheet_height, sheet_of, sheet_width, ticks_of, width_of, x_of};
+ghost use Rattle.picture_form.specs.Sheets.{IsWithinLimits, bottom_of, curves_y, lane_of, lane_y, lanes_of, room_above, rows_of_tick, scale_of, sheet_height, sheet_of, sheet_width, ticks_of, width_of, x_of};
 
 use flight_facts::spans::Lane;
 use scram_types::{Row, Spec};
@@ -21,7 +21,7 @@ pub struct Sheet {
 pub fn sheet_of(spec: &Spec, rows: &[Row]) -> Sheet
     requires { length rows.now < 2 ^ 32 }
     ensures value { result ≡ sheet_of spec.now rows.now }
-    ensures sound { IsSheet result }
+    ensures sound { IsWithinLimits result }
 {
     Sheet {
         rows: rows.len() as u32,
@@ -105,7 +105,7 @@ impl Sheet {
 
     /// Returns the number of lanes of factors, processors and applications.
     pub fn lanes(self) -> u8
-        requires { IsSheet self }
+        requires { IsWithinLimits self }
         ensures value { result ≡ lanes_of self }
         ensures few { result ≤ 22 }
     {
@@ -114,7 +114,7 @@ impl Sheet {
 
     /// Returns lane `n`, where `n` is less than the number of lanes.
     pub fn lane(self, n: u8) -> Lane
-        requires sheet { IsSheet self }
+        requires sheet { IsWithinLimits self }
         requires lane { n < lanes_of self }
         ensures value { result ≡ lane_of self n }
         ensures lane { IsLane result }
@@ -129,7 +129,7 @@ impl Sheet {
     }
 
     fn room_above(self, n: u8) -> u64
-        requires { IsSheet self }
+        requires { IsWithinLimits self }
         ensures value { result ≡ room_above self n }
         ensures at_most { result ≤ 16 }
     {
@@ -144,7 +144,7 @@ impl Sheet {
 
     /// Returns the y-coordinate of the top of lane `n`.
     pub fn lane_y(self, n: u8) -> u64
-        requires { IsSheet self }
+        requires { IsWithinLimits self }
         ensures value { result ≡ lane_y self n }
         ensures at_most { result ≤ 6000 }
     {
@@ -153,7 +153,7 @@ impl Sheet {
 
     /// Returns the y-coordinate of the top of the first curve.
     pub fn curves_y(self) -> u64
-        requires { IsSheet self }
+        requires { IsWithinLimits self }
         ensures value { result ≡ curves_y self }
         ensures at_most { result ≤ 6000 }
     {
@@ -162,7 +162,7 @@ impl Sheet {
 
     /// Returns the y-coordinate of the bottom of the second curve.
     pub fn bottom(self) -> u64
-        requires { IsSheet self }
+        requires { IsWithinLimits self }
         ensures value { result ≡ bottom_of self }
         ensures at_most { result ≤ 7000 }
     {
@@ -179,7 +179,7 @@ impl Sheet {
 
     /// Returns the height of the picture.
     pub fn height(self) -> u64
-        requires { IsSheet self }
+        requires { IsWithinLimits self }
         ensures { result ≡ sheet_height self }
     {
         self.bottom() + 68

@@ -2,7 +2,7 @@
 
 ghost use Rattle.std.specs.Prelude.{◌≡◌, ◌++◌, ◌∷◌, [], List, Err, IfErr, IfOk, IfSome, None, Some, length, slice_get, take};
 ghost use Rattle.event_core.specs.Cores.{IsNextIn, IsWordIn, core_places, core_words, core_flight, IsOverIn};
-ghost use Rattle.event_core.specs.Flyers.{FlyAfter, FlyBy};
+ghost use Rattle.event_core.specs.Flyers.{FlyersFitAfter, FlyersFitCore};
 ghost use Rattle.event_core.specs.Replays.{IsReplay};
 ghost use Rattle.fault_script.specs.Fits.{Fits};
 ghost use Rattle.schedule_replay.specs.declared.replays.ReplayError.TheVariants.{NoMemory as WantsMemory};
@@ -78,7 +78,7 @@ fn fly<'a>(
 ) -> Result<Core<'a>, ReplayError>
     requires spec { core.spec ≡ spec.now }
     requires opening { core.history ≡ [] }
-    requires fits { FlyBy core flyers }
+    requires fits { FlyersFitCore core flyers }
     ensures spec { IfOk result (λ after. after.spec ≡ core.entry.spec) }
     ensures script { IfOk result (λ after. after.script ≡ core.entry.script) }
     ensures history { IfOk result (λ after. after.history ≡ events.now) }
@@ -98,10 +98,10 @@ fn fly<'a>(
 // Makes an event if it is the next of its actor.
 fn make(core: &mut Core, spec: &Spec, flyers: &mut Flyers, event: Event) -> Result<(), ReplayError>
     requires spec { core.old.spec ≡ spec.now }
-    requires fits { FlyBy core.old flyers.old }
+    requires fits { FlyersFitCore core.old flyers.old }
     ensures spec { core.new.spec ≡ core.old.spec }
     ensures script { core.new.script ≡ core.old.script }
-    ensures fits { IfOk result (λ _. FlyBy core.new flyers.new) }
+    ensures fits { IfOk result (λ _. FlyersFitCore core.new flyers.new) }
     ensures history { IfOk result (λ _. core.new.history ≡ core.old.history ++ event ∷ []) }
     ensures refused { (list : List Event) → take (length core.old.history) list ≡ core.old.history → slice_get list (length core.old.history) ≡ Some event
         → IfErr result (λ error. AnswersReplay core.old.spec core.old.script list (Err error)) }
@@ -129,9 +129,9 @@ fn events_made(core: &Core) -> u32
 // Returns the word that `Core::step` needs for an event, or 0 if the event is not the next of its actor.
 fn word_where_next(core: &Core, spec: &Spec, flyers: &mut Flyers, event: Event) -> u64
     requires spec { core.now.spec ≡ spec.now }
-    requires fits { FlyBy core.now flyers.old }
+    requires fits { FlyersFitCore core.now flyers.old }
     ensures word { IsNextIn core.now event → IsWordIn core.now event result }
-    ensures fits { IsNextIn core.now event → FlyAfter core.now event flyers.new }
+    ensures fits { IsNextIn core.now event → FlyersFitAfter core.now event flyers.new }
 {
     if core.next_of_actor(event) == Some(event) {
         flyers.word(core, spec, event)

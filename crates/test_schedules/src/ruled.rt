@@ -3,7 +3,7 @@
 
 ghost use Rattle.std.specs.Prelude.{◌≡◌, ◌<◌, ◌≤◌, ◌⊎◌, ◌++◌, [], ◌∷◌, IfOk, length};
 ghost use Rattle.event_core.specs.Cores.{HappensIn, IsNextIn, IsOverIn, IsWordIn, events_left_in};
-ghost use Rattle.event_core.specs.Flyers.{FlyBy};
+ghost use Rattle.event_core.specs.Flyers.{FlyersFitCore};
 ghost use Rattle.fault_script.specs.Fits.{Fits};
 ghost use Rattle.test_schedules.specs.Ruled.{IsFlownBy};
 
@@ -68,7 +68,7 @@ pub fn fly_some<'a>(
 fn fly_on<'a>(core: Core<'a>, spec: &Spec, flyers: &mut Flyers, rule: Rule) -> Core<'a>
     requires spec { core.spec ≡ spec.now }
     requires opened { core.history ≡ [] }
-    requires fits { FlyBy core flyers.old }
+    requires fits { FlyersFitCore core flyers.old }
     ensures spec { result.spec ≡ core.entry.spec }
     ensures script { result.script ≡ core.entry.script }
     ensures rule { IsFlownBy rule result }
@@ -94,7 +94,7 @@ fn fly_events<'a>(
 ) -> Core<'a>
     requires spec { core.spec ≡ spec.now }
     requires opened { core.history ≡ [] }
-    requires fits { FlyBy core flyers.old }
+    requires fits { FlyersFitCore core flyers.old }
     ensures spec { result.spec ≡ core.entry.spec }
     ensures script { result.script ≡ core.entry.script }
     ensures rule { IsFlownBy rule result }
@@ -117,13 +117,13 @@ fn fly_events<'a>(
 fn make(core: &mut Core, spec: &Spec, flyers: &mut Flyers, event: Event)
     requires spec { core.old.spec ≡ spec.now }
     requires next { IsNextIn core.old event }
-    requires fits { FlyBy core.old flyers.old }
+    requires fits { FlyersFitCore core.old flyers.old }
     ensures spec { core.new.spec ≡ core.old.spec }
     ensures script { core.new.script ≡ core.old.script }
     ensures happens { HappensIn core.old event core.new }
     ensures history { core.new.history ≡ core.old.history ++ event ∷ [] }
     ensures fewer { events_left_in core.new < events_left_in core.old }
-    ensures fits { FlyBy core.new flyers.new }
+    ensures fits { FlyersFitCore core.new flyers.new }
 {
     let word = flyers.word(core, spec, event);
     step(core, event, word);

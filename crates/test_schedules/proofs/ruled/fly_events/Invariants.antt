@@ -1,6 +1,6 @@
 use Rattle.std.proofs.Common.{◌≡◌, length}
 use Rattle.event_core.specs.Cores.{core_places, core_words, core_flight}
-use Rattle.event_core.specs.Flyers.{FlyBy}
+use Rattle.event_core.specs.Flyers.{FlyersFitCore}
 use Rattle.test_schedules.proofs.Ruling.{IsRuledTo}
 use Rattle.test_schedules.proofs.ruled.fly_events.Given as goal
 
@@ -10,5 +10,5 @@ invariant-loop-event g l = record {
   script : l.core.script ≡ l.fn.core.script;
   ruled : IsRuledTo (core_flight l.core) l.fn.rule l.chooser l.core.history (core_places l.core) (core_words l.core);
   count : length l.core.history ≡ l._event;
-  fits : FlyBy l.core l.flyers;
+  fits : FlyersFitCore l.core l.flyers;
 }
