@@ -1,6 +1,6 @@
--- Lemmas that derive the answer to a mission from its specification and its script.
-use Rattle.std.proofs.Common.{◌≡◌, ◌∙◌, ℕ, List, refl, sym, ap, arith, subst, inl, inr}
-use Rattle.std.specs.Prelude.{◌⊎◌, Option, Some, None, Result, Ok, Err}
+-- Lemmas that derive the answer to a replay from its mission and its events.
+use Rattle.std.proofs.Common.{◌≡◌, ◌∙◌, ℕ, List, sym, ap, arith, subst}
+use Rattle.std.specs.Prelude.{Result, Ok, Err}
 use Rattle.scram_types.specs.Scripts.{ScriptParts}
 use Rattle.scram_types.specs.Specification.{Parts}
 use Rattle.coverage_check.specs.Missions.{MissionParts, mission_of}
@@ -10,36 +10,15 @@ use Rattle.schedule_replay.specs.Replaying.{AnswersReplay}
 use Rattle.schedule_replay.specs.declared.replays.ReplayError.{ReplayError}
 use Rattle.schedule_replay.specs.declared.replays.ReplayError.TheVariants as replay_error
 use Rattle.form_base.specs.Answers.{Gives}
-use Rattle.form_base.specs.Endings.{IsMemoryRefusal, IsTaken, PreparesWithoutFiles, PrintsAnswer}
+use Rattle.form_base.specs.Endings.{IsTaken, PreparesWithoutFiles, PrintsAnswer}
 use Rattle.form_base.proofs.Endings.{given_prints, memory_prints, tells_other}
-use Rattle.form_base.specs.Loads.{IsOutOfMemory}
 use Rattle.form_base.specs.Refusals.{answer_of}
-use Rattle.form_base.proofs.Reading.{memory_refusal}
 use Rattle.flight_forms.specs.declared.replays.Replay.{Replay}
 use Rattle.flight_forms.specs.Answers.{IsReplayAnswer, replay_refusal}
-use Rattle.flight_forms.specs.Missions.{MakesMission, UnlessRefused, mission_refusal}
+use Rattle.mission_files.proofs.MissionReading.{refused_settles, unless_none}
+use Rattle.mission_files.specs.Missions.{UnlessRefused, mission_refusal}
 use Rattle.flight_forms.specs.Replays.{MakesReplay, GivesReplay}
 use Rattle.bank_words.specs.declared.events.Event.{Event}
-
--- If there is a refusal, the answer is the refusal. Otherwise, the answer is `A`.
-unless_none : (refusal : Option (ℕ × List ℕ)) (A : ℕ → List ℕ → Type 0) (status : ℕ) (text : List ℕ) → refusal ≡ None → A status text → UnlessRefused refusal A status text
-unless_none refusal A status text none is = rw none is
-
-unless_some : (refusal : Option (ℕ × List ℕ)) (A : ℕ → List ℕ → Type 0) (told : ℕ × List ℕ) → refusal ≡ Some told → UnlessRefused refusal A told.0 told.1
-unless_some refusal A told some = rw some refl
-
-refused_settles : (refusal : Option (ℕ × List ℕ)) (A : ℕ → List ℕ → Type 0) (told : ℕ × List ℕ) → (refusal ≡ Some told) ⊎ IsOutOfMemory told
-    → UnlessRefused refusal A told.0 told.1 ⊎ IsMemoryRefusal told.0 told.1
-refused_settles refusal A told (inl some) = inl (unless_some refusal A told some)
-refused_settles refusal A told (inr is) = inr (memory_refusal told is)
-
--- If the result satisfies `MakesMission`, the answer to the mission is prepared.
-pub mission_settles : (spec : Parts) (script : ScriptParts) (A : MissionParts → ℕ → List ℕ → Type 0) (result : Result MissionParts Refusal) → MakesMission spec script result
-    → PreparesWithoutFiles (UnlessRefused (mission_refusal spec script) (A (mission_of spec script))) A result
-mission_settles spec script A (Ok mission) makes = λ status text is.
-    unless_none (mission_refusal spec script) (A (mission_of spec script)) status text makes.1 (rw (makes.0) at is)
-mission_settles spec script A (Err refusal) makes =
-    (refused_settles (mission_refusal spec script) (A (mission_of spec script)) (answer_of refusal) makes.0, makes.1)
 
 replay_told : (spec : Parts) (script : ScriptParts) (list : List Event) (replay : Replay) (status : ℕ) (text : List ℕ) → replay.mission ≡ mission_of spec script → replay.list ≡ list
     → GivesReplay replay status text → IsReplayAnswer spec script list status text

@@ -7,7 +7,7 @@ use Rattle.fault_script.specs.Fits.{Fits}
 use Rattle.reconf_spec.specs.Documents.{spec_of}
 use Rattle.mission_gen.specs.Changes.{generated_script}
 use Rattle.mission_gen.specs.Specifications.{generated_text, mission_text}
-use Rattle.coverage_check.specs.Missions.{MissionParts, mission_of}
+use Rattle.coverage_check.specs.Missions.{mission_of}
 use Rattle.schedule_replay.specs.declared.replays.ReplayError.{ReplayError}
 use Rattle.schedule_replay.specs.declared.replays.ReplayError.TheVariants as replay_error
 use Rattle.schedule_replay.specs.Refusals.{illegal_line, short_line}
@@ -17,24 +17,12 @@ use Rattle.form_base.specs.Answers.{Answer, Gives, WithoutFiles}
 use Rattle.form_base.specs.Refusals.{memory_line}
 use Rattle.form_base.specs.Specifications.{AsksSpecification}
 use Rattle.flight_forms.specs.declared.runs.FlightText.TheVariants.{Trace, Summary}
-use Rattle.flight_forms.specs.Documents.{AsksSchedule, AsksScript}
-use Rattle.flight_forms.specs.Missions.{UnlessRefused, mission_refusal}
+use Rattle.mission_files.specs.Answers.{FlightAnswers, GivesFlight}
+use Rattle.mission_files.specs.Documents.{AsksScript}
+use Rattle.flight_forms.specs.Documents.{AsksSchedule}
+use Rattle.mission_files.specs.Missions.{UnlessRefused, mission_refusal}
 use Rattle.flight_forms.specs.Texts.{flight_text, watch_text}
 use Rattle.bank_words.specs.declared.events.Event.{Event}
-
--- The status is 0, and the text is the value of `text` for the mission.
-abbrev pub GivesFlight : (MissionParts → List ℕ) → MissionParts → ℕ → List ℕ → Type 0
-GivesFlight text mission = Gives (ANSWERED, text mission)
-
--- The answer after a specification and a script have been read: the value of `text` for their mission, or the refusal
--- if they do not form a mission.
-abbrev pub ScriptAnswers : (MissionParts → List ℕ) → Parts → ScriptParts → Answer
-ScriptAnswers text spec script = WithoutFiles (UnlessRefused (mission_refusal spec script) (GivesFlight text (mission_of spec script)))
-
--- The answer if `specification` and `script` are the names of the files of a mission: the value of `text` for the
--- mission, or a report of why the files do not contain a mission.
-abbrev pub FlightAnswers : (MissionParts → List ℕ) → List ℕ → List ℕ → Answer
-FlightAnswers text specification script = AsksSpecification specification (λ (spec : Parts). AsksScript spec script (ScriptAnswers text spec))
 
 -- The answer of `run`, given the names of the files of a specification and a script.
 abbrev pub RunAnswers : List ℕ → List ℕ → Answer

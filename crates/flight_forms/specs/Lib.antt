@@ -2,7 +2,6 @@ pub mod Answers
 pub mod Assurance
 pub mod Documents
 pub mod Lines
-pub mod Missions
 pub mod Replays
 pub mod Summaries
 pub mod Texts

@@ -1,32 +1,15 @@
--- The lines that are printed for a script or a flight.
+-- The lines that are printed for a flight.
 use Rattle.std.specs.Prelude.{ℕ, List, ◌++◌, codes, decimal}
 use Rattle.scram_types.specs.Lookups.{conf_name}
 use Rattle.scram_types.specs.Specification.{Parts}
 use Rattle.scram_types.specs.declared.rows.Report.{Report}
 use Rattle.scram_types.specs.declared.rows.Row.{Row}
-use Rattle.scram_doc.specs.declared.fault.DocFault.{DocFault}
-use Rattle.fault_script.specs.declared.assumption.Outside.{Outside}
-use Rattle.fault_script.specs.declared.assumption.OutsideKind.{OutsideKind}
-use Rattle.fault_script.specs.declared.assumption.OutsideKind.TheVariants.{Halts, Changes}
 use Rattle.trace_text.specs.Names.{conf_or_dash}
 use Rattle.trace_text.specs.Text.{up_text}
 use Rattle.telemetry_tap.specs.declared.summaries.Summary.{Summary}
 use Rattle.telemetry_tap.specs.Summaries.{running_conf}
-use Rattle.form_base.specs.Lines.{counts_text, rule_text}
+use Rattle.form_base.specs.Lines.{counts_text}
 use Rattle.flight_forms.specs.Summaries.{last_run, longest_duration}
-
--- The line for a script document that breaks a rule.
-abbrev pub script_line : DocFault → List ℕ
-script_line fault = codes "refused: script" ++ rule_text fault.rule fault.path ++ codes "\n"
-
--- The word for the way in which a script violates the failure assumption.
-abbrev pub outside_kind_text : OutsideKind → List ℕ
-outside_kind_text Halts = codes "halts"
-outside_kind_text Changes = codes "changes"
-
--- The line for a script that violates the failure assumption.
-abbrev pub outside_line : Outside → List ℕ
-outside_line outside = codes "refused: outside at frame " ++ decimal outside.frame ++ codes ": " ++ outside_kind_text outside.kind ++ codes "\n"
 
 -- The line that `fly` prints for the flight of the mission generated from `number`. It has the number of frames, the
 -- number of reconfigurations, the duration in frames of the longest finished reconfiguration, and the last

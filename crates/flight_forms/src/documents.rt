@@ -1,64 +1,20 @@
-//! Scripts and schedules in files.
+//! Schedules in files.
 
 ghost use Rattle.std.specs.Prelude.{◌≡◌};
-ghost use Rattle.scram_types.specs.declared.limits.TheConstants.{MAX_SCRIPT_BYTES};
 ghost use Rattle.schedule_replay.specs.Refusals.{fault_line};
 ghost use Rattle.schedule_replay.specs.declared.limits.TheConstants.{MAX_SCHEDULE_BYTES};
 ghost use Rattle.form_base.specs.Refusals.{answer_of};
-ghost use Rattle.form_base.specs.declared.status.TheConstants.{BROKEN_SCHEDULE, BROKEN_SCRIPT};
-ghost use Rattle.flight_forms.specs.Documents.{BreaksSchedule, BreaksScript, SaysSchedule, SaysScript, long_schedule, long_script};
-ghost use Rattle.flight_forms.specs.Lines.{script_line};
+ghost use Rattle.form_base.specs.declared.status.TheConstants.{BROKEN_SCHEDULE};
+ghost use Rattle.flight_forms.specs.Documents.{BreaksSchedule, SaysSchedule, long_schedule};
 
-use crate::lines::make_script_line;
 use bank_words::Event;
-use fault_script::{ScriptError, ScriptFault, read_script};
 use form_base::loads::Document;
 use form_base::refusals::{Refusal, Refused};
 use schedule_replay::limits::MAX_SCHEDULE_BYTES;
 use schedule_replay::refusals::make_fault_line;
 use schedule_replay::{ScheduleError, ScheduleFault, read_schedule};
-use scram_doc::Path;
-use scram_types::limits::MAX_SCRIPT_BYTES;
-use scram_types::{List, Script, Spec};
+use scram_types::{List, Spec};
 use std::alloc::Global;
-
-/// The kind of document that holds a script for a specification.
-#[derive(Clone, Copy)]
-pub struct ScriptDocument<'a> {
-    pub spec: &'a Spec,
-}
-
-fn refuse_script(fault: &ScriptFault) -> Refusal
-    ensures { answer_of result ≡ (BROKEN_SCRIPT, script_line fault.now) }
-{
-    Refusal::new(Refused::Script, make_script_line(fault))
-}
-
-impl Document<Script> for ScriptDocument<'_> {
-    ghost limit = { λ _. MAX_SCRIPT_BYTES };
-
-    ghost long = { λ _. long_script };
-
-    ghost Says = { λ document. SaysScript document.spec.now };
-
-    ghost Breaks = { λ document. BreaksScript document.spec.now };
-
-    fn limit(&self) -> usize {
-        MAX_SCRIPT_BYTES
-    }
-
-    fn read(&self, alloc: Global, bytes: &[u8]) -> Result<Script, Refusal> {
-        match read_script(alloc, bytes, self.spec) {
-            Ok(script) => Ok(script),
-            Err(ScriptError::Fault(fault)) => Err(refuse_script(&fault)),
-            Err(ScriptError::NoMemory) => Err(Refusal::out_of_memory()),
-        }
-    }
-
-    fn too_long(&self) -> Refusal {
-        refuse_script(&ScriptFault::new(fault_script::rule::TOO_LONG, &Path::root()))
-    }
-}
 
 /// The kind of document that holds a schedule for a specification.
 #[derive(Clone, Copy)]

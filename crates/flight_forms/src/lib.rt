@@ -7,7 +7,6 @@ mod documents;
 mod generated;
 pub mod laws;
 mod lines;
-mod missions;
 mod pairs;
 mod replays;
 mod runs;
@@ -15,8 +14,6 @@ mod summaries;
 mod watches;
 
 pub use generated::{fly_generated, print_generated};
-pub use lines::{make_outside_line, make_script_line};
-pub use missions::MissionFiles;
 pub use pairs::{PairFiles, pair_form};
 pub use replays::{ReplayFiles, replay_form};
 pub use runs::run;

@@ -9,7 +9,6 @@ ghost use Rattle.flight_forms.specs.Answers.{PairAnswers};
 ghost use Rattle.flight_forms.specs.Texts.{flight_text};
 ghost use Rattle.flight_forms.specs.declared.runs.FlightText.TheVariants.{Trace};
 
-use crate::missions::{MissionFiles, read_mission};
 use crate::runs::{FlightText, print_flight};
 use app_model::Boxes;
 use coverage_check::Mission;
@@ -17,6 +16,7 @@ use form_base::printing::print_refusal;
 use form_base::refusals::Refusal;
 use form_base::status::Status;
 use kernel_pair::{PairCore, UnitHalt, fly_on};
+use mission_files::{MissionFiles, read_mission};
 use scram_io::{Files, Sink};
 use scram_types::{Flown, NoMemory};
 use std::alloc::Global;

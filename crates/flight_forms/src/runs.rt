@@ -10,12 +10,12 @@ ghost use Rattle.flight_forms.specs.Answers.{RunAnswers};
 ghost use Rattle.flight_forms.specs.Texts.{flight_text, flown_text};
 
 use crate::lines::make_fly_line;
-use crate::missions::{MissionFiles, read_mission};
 use app_model::Boxes;
 use coverage_check::Mission;
 use form_base::printing::{print_refusal, status_after};
 use form_base::refusals::Refusal;
 use form_base::status::{ANSWERED, Status};
+use mission_files::{MissionFiles, read_mission};
 use scram_io::{Files, Sink, SinkFault};
 use scram_types::{Flown, NoMemory, Spec};
 use std::alloc::AllocGlobal;

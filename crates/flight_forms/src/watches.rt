@@ -11,12 +11,12 @@ ghost use Rattle.flight_forms.specs.Answers.{WatchAnswers};
 ghost use Rattle.flight_forms.specs.Texts.{watch_text};
 
 use crate::lines::make_watch_line;
-use crate::missions::{MissionFiles, read_mission};
 use app_model::Boxes;
 use coverage_check::Mission;
 use form_base::printing::{print_refusal, print_text};
 use form_base::refusals::Refusal;
 use form_base::status::{ANSWERED, Status};
+use mission_files::{MissionFiles, read_mission};
 use scram_io::{Files, Sink};
 use scram_types::NoMemory;
 use std::alloc::AllocGlobal;

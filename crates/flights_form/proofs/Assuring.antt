@@ -22,8 +22,8 @@ use Rattle.form_base.specs.declared.status.TheConstants.{ANSWERED}
 use Rattle.form_base.specs.Answers.{WithoutFiles}
 use Rattle.form_base.specs.Assurance.{IsAssuring}
 use Rattle.form_base.proofs.Assuring.{document_assures, not_zero, specification_assures}
-use Rattle.flight_forms.specs.Documents.{long_script}
-use Rattle.flight_forms.specs.Missions.{UnlessRefused}
+use Rattle.mission_files.specs.Documents.{long_script}
+use Rattle.mission_files.specs.Missions.{UnlessRefused}
 use Rattle.flights_form.specs.declared.facts.FlightFacts.{FlightFacts}
 use Rattle.flights_form.specs.declared.limits.TheConstants.{MAX_SCRIPTS_BYTES}
 use Rattle.flights_form.specs.declared.outcomes.Outcome.{Outcome}

@@ -13,9 +13,9 @@ use Rattle.coverage_check.specs.Acceptance.{first_refusal}
 use Rattle.coverage_check.specs.Missions.{mission_of}
 use Rattle.form_base.specs.Answers.{AnswersDocument}
 use Rattle.flight_forms.specs.declared.runs.FlightText.TheVariants.{Trace}
-use Rattle.flight_forms.specs.Answers.{ScriptAnswers, GivesFlight}
-use Rattle.flight_forms.specs.Documents.{BreaksScript, SaysScript, long_script}
-use Rattle.flight_forms.specs.Missions.{UnlessRefused, mission_refusal, script_refusal}
+use Rattle.mission_files.specs.Answers.{ScriptAnswers, GivesFlight}
+use Rattle.mission_files.specs.Documents.{BreaksScript, SaysScript, long_script}
+use Rattle.mission_files.specs.Missions.{UnlessRefused, mission_refusal, script_refusal}
 use Rattle.flight_forms.specs.Texts.{flight_text}
 use Rattle.flights_form.specs.declared.outcomes.Outcome.TheVariants.{Refused}
 use Rattle.flights_form.specs.Laws.{IsSummed, LinesAreRuns}

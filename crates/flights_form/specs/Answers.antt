@@ -7,7 +7,7 @@ use Rattle.form_base.specs.declared.status.TheConstants.{ANSWERED, NOT_ACCEPTED}
 use Rattle.form_base.specs.Answers.{Answer, WithoutFiles}
 use Rattle.form_base.specs.Lines.{shown_line}
 use Rattle.form_base.specs.Specifications.{AsksSpecification}
-use Rattle.flight_forms.specs.Missions.{UnlessRefused}
+use Rattle.mission_files.specs.Missions.{UnlessRefused}
 use Rattle.flights_form.specs.declared.outcomes.Outcome.{Outcome}
 use Rattle.flights_form.specs.declared.outcomes.Outcome.TheVariants.{Flown, Refused}
 use Rattle.flights_form.specs.Lines.{flown_line, refused_start, totals_line}

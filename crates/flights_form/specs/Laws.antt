@@ -10,8 +10,8 @@ use Rattle.trace_text.specs.Text.{text_of}
 use Rattle.form_base.specs.declared.status.TheConstants.{ANSWERED, BROKEN_SCRIPT, UNASSUMED_SCRIPT}
 use Rattle.form_base.specs.Answers.{AnswersDocument}
 use Rattle.flight_forms.specs.declared.runs.FlightText.TheVariants.{Trace}
-use Rattle.flight_forms.specs.Answers.{ScriptAnswers}
-use Rattle.flight_forms.specs.Documents.{BreaksScript, SaysScript, long_script}
+use Rattle.mission_files.specs.Answers.{ScriptAnswers}
+use Rattle.mission_files.specs.Documents.{BreaksScript, SaysScript, long_script}
 use Rattle.flight_forms.specs.Texts.{flight_text}
 use Rattle.flights_form.specs.declared.facts.FlightFacts.{FlightFacts}
 use Rattle.flights_form.specs.declared.outcomes.Outcome.{Outcome}

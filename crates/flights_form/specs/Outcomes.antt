@@ -8,7 +8,7 @@ use Rattle.fault_script.specs.Assumption.{first_outside}
 use Rattle.fault_script.specs.Reading.{script_of}
 use Rattle.frame_model.specs.Flights.{reports_of, rows_of}
 use Rattle.form_base.specs.Refusals.{memory_line}
-use Rattle.flight_forms.specs.Lines.{outside_line, script_line}
+use Rattle.mission_files.specs.Lines.{outside_line, script_line}
 use Rattle.flights_form.specs.declared.outcomes.Outcome.{Outcome}
 use Rattle.flights_form.specs.declared.outcomes.Outcome.TheVariants.{Flown, Refused}
 use Rattle.flights_form.specs.Facts.{facts_of}

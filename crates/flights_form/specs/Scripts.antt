@@ -2,7 +2,7 @@
 use Rattle.std.specs.Prelude.{◌≡◌, ℕ, List, [], ◌∷◌, if◌then◌else◌}
 use Rattle.trace_text.specs.Pieces.{is_filled, pieces_of}
 use Rattle.form_base.specs.Answers.{Answer, AnswersDocument, AnswersFile}
-use Rattle.flight_forms.specs.Documents.{long_script}
+use Rattle.mission_files.specs.Documents.{long_script}
 use Rattle.flights_form.specs.declared.limits.TheConstants.{MAX_SCRIPTS_BYTES}
 
 -- The pieces without the last piece if the last piece is empty, and all pieces otherwise.

@@ -11,8 +11,8 @@ ghost use Rattle.flights_form.specs.Outcomes.{IsOutcome, memory_outcome, outcome
 use crate::facts::{FlightFacts, facts_of};
 use app_model::racks::empty_racks;
 use fault_script::{ScriptError, read_script, within};
-use flight_forms::{make_outside_line, make_script_line};
 use frame_model::{reports, rows};
+use mission_files::{make_outside_line, make_script_line};
 use scram_types::{NoMemory, Script, Spec};
 use std::alloc::Global;
 use trace_text::lines::Line;

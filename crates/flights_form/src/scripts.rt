@@ -4,15 +4,15 @@ ghost use Rattle.std.specs.Prelude.{◌≡◌, ◌<◌, ◌≤◌, ◌∷◌, []
 ghost use Rattle.scram_io.specs.Outside.{StaysSteady};
 ghost use Rattle.form_base.specs.Loads.{Loads, UnreadIsFault};
 ghost use Rattle.form_base.specs.Refusals.{answer_of};
-ghost use Rattle.flight_forms.specs.Documents.{long_script};
+ghost use Rattle.mission_files.specs.Documents.{long_script};
 ghost use Rattle.trace_text.specs.Pieces.{pieces_of};
 ghost use Rattle.flights_form.specs.Scripts.{BreaksNothing, SaysScripts, lines_of};
 ghost use Rattle.flights_form.specs.declared.limits.TheConstants.{MAX_SCRIPTS_BYTES};
 
 use crate::limits::MAX_SCRIPTS_BYTES;
 use fault_script::{ScriptFault, rule};
-use flight_forms::make_script_line;
 use form_base::refusals::{Refusal, Refused};
+use mission_files::make_script_line;
 use scram_doc::Path;
 use scram_io::{Files, ReadFault};
 use scram_types::List;

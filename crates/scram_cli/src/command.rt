@@ -22,13 +22,13 @@ use faults_form::{FaultsQuestion, faults};
 use fill_form::fill;
 use flight_forms::laws::flights_are_assured;
 use flight_forms::{
-    MissionFiles, PairFiles, ReplayFiles, fly_generated, pair_form, print_generated, replay_form,
-    run, watch,
+    PairFiles, ReplayFiles, fly_generated, pair_form, print_generated, replay_form, run, watch,
 };
 use flights_form::{ScriptsFiles, flights};
 use form_base::printing::{print_refusal, print_text};
 use form_base::refusals::{Refusal, Refused};
 use form_base::status::{ANSWERED, Status, UNWRITTEN_OUTPUT};
+use mission_files::MissionFiles;
 use picture_form::picture_form;
 use scram_io::{Files, Sink, SinkFault};
 use spec_forms::{bounds, check};

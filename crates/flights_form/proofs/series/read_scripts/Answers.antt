@@ -1,7 +1,7 @@
 use Rattle.std.proofs.Common.{ℕ, List, []}
 use Rattle.form_base.specs.Answers.{WithoutFiles}
 use Rattle.form_base.proofs.Reading.{document_reads, refused_reads, settled}
-use Rattle.flight_forms.specs.Documents.{long_script}
+use Rattle.mission_files.specs.Documents.{long_script}
 use Rattle.flights_form.specs.declared.limits.TheConstants.{MAX_SCRIPTS_BYTES}
 use Rattle.flights_form.specs.Answers.{ScriptsAnswers}
 use Rattle.flights_form.specs.Printing.{GivesSeries}

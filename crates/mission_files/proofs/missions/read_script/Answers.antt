@@ -1,11 +1,11 @@
 use Rattle.std.proofs.Common.{[]}
 use Rattle.form_base.proofs.Reading.{settled}
 use Rattle.coverage_check.specs.Missions.{mission_of}
-use Rattle.flight_forms.specs.Answers.{ScriptAnswers, GivesFlight}
-use Rattle.flight_forms.specs.Missions.{UnlessRefused, mission_refusal}
-use Rattle.flight_forms.proofs.FileReading.{script_reads, script_unread}
-use Rattle.flight_forms.proofs.MissionReading.{mission_settles}
-use Rattle.flight_forms.proofs.missions.read_script.Goals as goal
+use Rattle.mission_files.specs.Answers.{ScriptAnswers, GivesFlight}
+use Rattle.mission_files.specs.Missions.{UnlessRefused, mission_refusal}
+use Rattle.mission_files.proofs.FileReading.{script_reads, script_unread}
+use Rattle.mission_files.proofs.MissionReading.{mission_settles}
+use Rattle.mission_files.proofs.missions.read_script.Goals as goal
 
 pub returns-in-Ok : goal.returns-in-Ok
 returns-in-Ok g c = λ text.

@@ -13,7 +13,7 @@ use Rattle.form_base.specs.Answers.{Gives}
 use Rattle.form_base.specs.Lines.{shown_line}
 use Rattle.form_base.specs.Loads.{IsOutOfMemory}
 use Rattle.form_base.specs.Refusals.{answer_of}
-use Rattle.flight_forms.specs.Lines.{outside_line}
+use Rattle.mission_files.specs.Lines.{outside_line}
 
 -- The refusal of a script. The argument is the way in which the script violates the failure assumption, or `None` if
 -- the script keeps to the assumption. In the second case, the result is `None`.

@@ -4,9 +4,9 @@ ghost use Rattle.std.specs.Prelude.{ℕ, List, ◌∷◌, []};
 ghost use Rattle.coverage_check.specs.Missions.{MissionParts};
 ghost use Rattle.fault_script.specs.Fits.{Fits};
 ghost use Rattle.form_base.specs.Endings.{Prepares};
-ghost use Rattle.flight_forms.specs.Answers.{FlightAnswers, ScriptAnswers, GivesFlight};
-ghost use Rattle.flight_forms.specs.Documents.{AsksScript};
-ghost use Rattle.flight_forms.specs.Missions.{JoinsMission, MakesMission};
+ghost use Rattle.mission_files.specs.Answers.{FlightAnswers, ScriptAnswers, GivesFlight};
+ghost use Rattle.mission_files.specs.Documents.{AsksScript};
+ghost use Rattle.mission_files.specs.Missions.{JoinsMission, MakesMission};
 
 use crate::documents::ScriptDocument;
 use crate::lines::make_outside_line;

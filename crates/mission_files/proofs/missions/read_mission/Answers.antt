@@ -1,9 +1,9 @@
 use Rattle.std.proofs.Common.{[], ◌∷◌}
 use Rattle.scram_types.specs.Specification.{Parts}
 use Rattle.form_base.proofs.SpecReading.{specification_reads, specification_unread}
-use Rattle.flight_forms.specs.Answers.{ScriptAnswers, GivesFlight}
-use Rattle.flight_forms.specs.Documents.{AsksScript}
-use Rattle.flight_forms.proofs.missions.read_mission.Goals as goal
+use Rattle.mission_files.specs.Answers.{ScriptAnswers, GivesFlight}
+use Rattle.mission_files.specs.Documents.{AsksScript}
+use Rattle.mission_files.proofs.missions.read_mission.Goals as goal
 
 pub returns-in-Ok : goal.returns-in-Ok
 returns-in-Ok g c = λ text.

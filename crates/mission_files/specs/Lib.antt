@@ -1,0 +1,4 @@
+pub mod Answers
+pub mod Documents
+pub mod Lines
+pub mod Missions
