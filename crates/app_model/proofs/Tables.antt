@@ -39,7 +39,7 @@ zeros r = record { below = omega arith; above = omega arith }
 pub wider : (r s : Range) (x : ℤ) → Narrower r s → IsInRange r x → IsInRange s x
 wider r s x n p = record { least = omega (arith, ints, p.least, n.below); greatest = omega (arith, ints, p.greatest, n.above) }
 
--- The range of each word after an init phase lies in its range in the same mode.
+-- The range of each word other than the status (word 0) after an init phase lies in its range in the same mode.
 abbrev pub InitNarrows : ℕ → Type 0
 InitNarrows kind = (mode i : ℕ) → 0 < i → i < 8 → Narrower (initialised_range kind mode i) (mode_range kind mode i)
 

@@ -142,7 +142,7 @@ navigator = record {
       [];
 }
 
--- The kind that sends a message for each of the kinds 0 to 3 whose status is 1.
+-- The kind that sends a message for each of the kinds 0 to 3 whose lowest-numbered application has status 1.
 abbrev pub data_link : Kind
 data_link = record {
   name = codes "datalink";

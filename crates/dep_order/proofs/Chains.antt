@@ -128,8 +128,8 @@ module _ (chart : Chart) (rank : ℕ → ℕ) (ranked : IsRanked chart rank) whe
     | inr t ↦ (t.app, t.inside, t.on, top_zero 8 t)
   ]
 
-  -- If times are at most 16 frames, the times along a chain before an application of rank `r` sum to at most `16 * (7
-  -- - r)` frames.
+  -- If times are at most 16 frames, the times along a chain before an application of rank `r` sum to at most
+  -- `16 * (7 - r)` frames.
   pub longest_ranked : ((b : ℕ) → b < chart.apps → chart.time b ≤ 16) → (links a : ℕ) → a < chart.apps → longest chart links a ≤ 112 - 16 * rank a
   longest_ranked few zero a known = omega arith
   longest_ranked few (suc links) a known = greatest_within (time_added chart (longest chart links) a) chart.apps (112 - 16 * rank a) (λ b less.

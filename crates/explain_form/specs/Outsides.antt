@@ -38,7 +38,7 @@ unfoldable pub change_frames_text : Parts → ScriptParts → ℕ → List ℕ
 change_frames_text spec script last = codes "  frames" ++ texts_below (change_frame_text spec script last) (suc last)
 
 -- The line of the change frames of the window that ends with frame `last`. It ends with the maximum number of change
--- frames that the assumption allows.
+-- frames that the assumption allows in a window, and the window's length.
 abbrev pub too_many_changes_text : Parts → ScriptParts → ℕ → List ℕ
 too_many_changes_text spec script last = change_frames_text spec script last ++ assumed_line spec
 

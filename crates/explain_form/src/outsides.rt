@@ -54,7 +54,7 @@ fn make_down_line(spec: &Spec, script: &Script, frame: u32) -> Line
 }
 
 // Appends the line of the change frames of the window that ends with frame `last`. The line ends with the maximum
-// number of change frames that the assumption allows.
+// number of change frames that the assumption allows in a window, and the window's length.
 fn add_changes(
     text: &mut Vec<u8>,
     spec: &Spec,

@@ -25,14 +25,14 @@ differs_in script frame (Restart proc) = list_any (is_halt_before proc.0 frame) 
 abbrev pub may_follow : Parts → List Fault → Fault → Bool
 may_follow spec before fault = list_all (may_come_after fault) before && differs_in (script_of_faults spec before) fault.frame fault.kind
 
--- The lists that continue the given faults by `more` further faults, in order. Each further fault may follow the
--- preceding faults, and the script of each list keeps the failure assumption.
+-- The lists that continue the given faults by `more` further faults, in order. Each further fault is a candidate that
+-- may follow the preceding faults, and the script of each list keeps the failure assumption.
 abbrev pub extended : Parts → ℕ → List Fault → List (List Fault)
 extended spec zero before = if is_within spec (script_of_faults spec before) then before ∷ [] else []
 extended spec (suc more) before =
     flat_map (λ (fault : Fault). if may_follow spec before fault then extended spec more (before ++ fault ∷ []) else []) (candidates spec before)
 
--- The family of the lists of `count` faults, in order. Each fault may follow the preceding faults, and the script of
--- each list keeps the failure assumption.
+-- The family of the lists of `count` faults, in order. Each fault is a candidate that may follow the preceding
+-- faults, and the script of each list keeps the failure assumption.
 abbrev pub family : Parts → ℕ → List (List Fault)
 family spec count = extended spec count []

@@ -5,8 +5,9 @@ ghost use Rattle.fault_family.specs.Rests.{RestsMayBeLonger};
 ghost use Rattle.fault_family.specs.Shifts.{LaterScriptsFlyTheSame, LaterScriptsShowTheSame};
 ghost use Rattle.fault_family.specs.Standing.{ListedStepsStand};
 
-/// States that the family contains exactly the lists of faults that satisfy two conditions. Each fault may be the
-/// next after the preceding faults, and the script of the list keeps the failure assumption.
+/// States that the family for a number of faults contains exactly the lists of this number of faults that satisfy two
+/// conditions. Each fault may be the next after the preceding faults, and the script of the list keeps the failure
+/// assumption.
 pub fn families_have_members()
     ensures { FamiliesHaveMembers }
 {}
@@ -17,14 +18,14 @@ pub fn families_are_ordered()
     ensures { FamiliesAreOrdered }
 {}
 
-/// States that the script of each member fits the specification.
+/// States that the script of each member with at most three faults fits the specification.
 pub fn members_fit()
     ensures { MembersFit }
 {}
 
-/// States that the rows and reconfigurations of a flight depend only on whether each halt comes before its
-/// processor's mark or after it. Therefore the halts before all stores and after the mark, which are in the family,
-/// represent all other halts.
+/// States that the rows and reconfigurations of a flight depend on the step of each halt only by whether the halt
+/// comes before its processor's mark or after it. Therefore the halts before all stores and after the mark, which are
+/// in the family, represent all other halts.
 pub fn listed_steps_stand()
     ensures { ListedStepsStand }
 {}

@@ -12,9 +12,9 @@ use crate::faults::{Fault, FaultKind};
 use coverage_check::greatest_bound;
 use scram_types::{Change, FactorId, HaltAt, ProcId, RestartAt, Spec};
 
-/// The last frame in which a script of the family can have a fault.
+/// The last frame in which a fault of a [`FaultScript`] may come.
 pub const LAST_FAULT_FRAME: u32 = 4_000;
-/// The maximum number of frames of a script of the family: [`LAST_FAULT_FRAME`], the maximum bound and three.
+/// The maximum number of frames of a [`FaultScript`]: the sum of [`LAST_FAULT_FRAME`], the maximum bound and three.
 pub const MAX_FAMILY_FRAMES: u32 = 5_003;
 
 /// The script of a list of faults.
@@ -30,8 +30,7 @@ impl<'a> FaultScript<'a> {
     ghost use Rattle.fault_family.specs.declared.scripts.TheConstants.{LAST_FAULT_FRAME, MAX_FAMILY_FRAMES};
 
     /// Returns the script of a list of faults. Its number of frames is the frame of the last fault plus the greatest
-    /// bound plus three. The last fault must come in frame [`LAST_FAULT_FRAME`] or
-    /// earlier.
+    /// bound plus three. The last fault must come in frame [`LAST_FAULT_FRAME`] or earlier.
     pub fn new(spec: &Spec, faults: &'a [Fault]) -> FaultScript<'a>
         requires { last_fault_frame faults.now ≤ LAST_FAULT_FRAME }
         ensures frames { result.frames ≡ frames_of_faults spec.now faults.now }

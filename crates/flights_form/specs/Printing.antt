@@ -21,7 +21,7 @@ abbrev pub PrintsOutcome : Parts → Totals → Outcome → Result Totals SinkFa
 PrintsOutcome spec totals outcome (Ok next) old new = (next ≡ with_outcome totals outcome) × Printed old new (outcome_line spec totals.lines outcome)
 PrintsOutcome spec totals outcome (Err fault) old new = CutOff old new (outcome_line spec totals.lines outcome)
 
--- A line was flown, and the line for its outcome was printed, or cut off if the sink failed.
+-- A line was flown or refused, and the line for its outcome was printed, or cut off if the sink failed.
 pub record PrintsLine (spec : Parts) (line : List ℕ) (totals : Totals) (result : Result Totals SinkFault) (old new : SinkState) : Type 0 where
   pub outcome : Outcome
   pub comes : IsOutcome spec line outcome

@@ -14,8 +14,8 @@ use Rattle.form_base.specs.declared.status.TheConstants.{BROKEN_SPECIFICATION}
 use Rattle.form_base.specs.Answers.{Answer, AnswersDocument, AnswersFile}
 use Rattle.form_base.specs.Lines.{specification_line}
 
--- The bytes encode the specification `spec`. The specification satisfies its invariant, and none of its lists has a
--- name twice.
+-- The bytes encode the specification `spec`. The specification satisfies its invariant, and also has the properties
+-- that it must have to be written as a document.
 pub record SaysSpecification (spec : Parts) (bytes : List ℕ) : Type 0 where
   pub is : spec_of bytes ≡ Ok spec
   pub sound : IsSpec spec

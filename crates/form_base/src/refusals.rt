@@ -53,12 +53,13 @@ impl Refused {
     }
 }
 
-/// The line of a refusal. Memory is allocated only for a line with the name of a file.
+/// The line of a refusal, with or without allocated memory.
 #[derive(Drop)]
 pub enum RefusalLine {
     /// A line that is made without allocation.
     Short(Line),
-    /// A line with the name of a file. The name may have any length, so the line is allocated.
+    /// An allocated text, which may have any length. It is a line with one of the command's words, or a line and the
+    /// explanation of a broken rule.
     Naming(String),
 }
 

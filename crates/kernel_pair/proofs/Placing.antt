@@ -18,8 +18,9 @@ use Rattle.kernel_pair.specs.Kept.{HasMet, IsProcessor, IsStanding, IsUnit, Pair
 use Rattle.kernel_pair.proofs.Frames.{restart_past_is, restart_past_some}
 use Rattle.kernel_pair.proofs.Moving.{both, two}
 
--- If the frame that a processor makes next is not below frame `k`, and at most `k + 1` frames are past for the
--- processor, then the place of `p` satisfies `IsPlaced` for a single kernel in frame `k`.
+-- If the frame that processor `p` makes next satisfies `NotBelow` for frame `k` and step `j` of a unit, and at most
+-- `k + 1` frames are past for `p`, then the place of `p` satisfies `IsPlaced` for a single kernel in frame `k` after
+-- `j` steps.
 pub placed_by : (m : Flight) (k j p : ℕ) (place : Place) → IsStanding m p place → ((f : ℕ) → frame_to_make (m.restart p) place ≡ Some f → NotBelow k j p f) → frames_past place ≤ suc k → IsPlaced m k j p place
 placed_by m k j p (At f n) w a b = record { up = w.up; low = (a f refl).0; high = b; fresh = λ g. w.fresh; within = rw w.fresh (omega arith); noted = (a f refl).1; done = λ g. w.done }
 placed_by m k j p (Halted h) d a b = record {

@@ -1,5 +1,5 @@
-//! The kernel on two units, one of which may halt. For any order of events, each unit's log is the log of the
-//! one-thread trace, and each processor reads the kernel image of its frame.
+//! The kernel on two units, one of which may halt. For any order of events, the rows in each unit's log are the first
+//! rows of the one-thread trace, and each processor reads the kernel image of its frame.
 #![tactic(auto)]
 
 mod cores;

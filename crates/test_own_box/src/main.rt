@@ -1,5 +1,5 @@
 //! A program as a builder might write it. It flies a mission as a `WordFlight`, with its own flight control in each
-//! rack, and prints the trace. The spare racks have no boxes, so a processor with a spare rack computes the laws
+//! rack, and prints the trace. The spare racks have no boxes, so a processor that has restarted computes the laws
 //! without boxes.
 #![tactic(auto)]
 

@@ -11,7 +11,8 @@ use test_kit::print_image;
 use word_table::{Seat, Words};
 
 /// Starts the next frame of the seat's processor, reads the image of the first processor, and prints the areas in the
-/// image. If the processor does not wait for a frame, or if the frame is not released, prints only this fact.
+/// image. If the processor has halted or has flown all frames, prints only that it does not wait. If the frame is not
+/// released, prints only this fact.
 #[tactic(auto, using(crate::proofs::Looking::waits_at, word_deck::proofs::Steps::looks))]
 pub fn look(rt: &HostRuntime, words: &Words, seat: &mut Seat) -> io::Result<()>
     requires seat { IsSeatOf words.now.table seat.old }

@@ -65,8 +65,8 @@ same_list (x ∷ xs) (y ∷ ys) h =
     let tail = same_list xs ys (λ k. h (suc k)) in
     cc
 
--- The reports equal the first `place` reconfigurations if the agreement is `Alike`. SP1 is broken in the given frame
--- if the agreement is `Apart`.
+-- The first `place` reports equal the first `place` reconfigurations if the agreement is `Alike`. SP1 is broken in
+-- the given frame if the agreement is `Apart`.
 abbrev pub Agrees : List Report → List Report → ℕ → Agreement → Type 0
 Agrees told all place (Alike n) = (n ≡ place) × ((k : ℕ) → k < place → slice_get told k ≡ slice_get all k)
 Agrees told all place (Apart frame) = BreaksSp1 told all frame

@@ -48,7 +48,8 @@ last_same (a ∷ xs) (b ∷ ys) x y e =
     let tail : xs ++ x ∷ [] ≡ ys ++ y ∷ [] = cc in
     let rest = last_same xs ys x y tail in (ap (λ z. z ∷ xs) head ∙ ap (λ zs. b ∷ zs) rest.0, rest.1)
 
--- Lemmas on the numbers of crews after a crew is appended, has its turn, or is removed from the end.
+-- Lemmas on the numbers of crews after a crew is appended or is removed from the end. If there is a number, there is
+-- a crew.
 
 module _ {X : Type 0} {Y : X → Type 0} where
   pub numbers_more : (own all : List (Crew X Y)) (crew : Crew X Y) (p : ℕ) → all ≡ own ++ crew ∷ [] → proc_of crew.seat ≡ p → numbers_in all ≡ numbers_in own ++ p ∷ []

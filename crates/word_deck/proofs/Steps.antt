@@ -76,7 +76,7 @@ halt_in_width spec script p f halt step width flies there is same =
     let low : halt.step ≤ words spec + 1 = flies.step p f halt.step (ap (option_map (λ (h : HaltAt). h.step)) there) in
     omega (arith, low, is, same)
 
--- Lemmas on the next step of a seat that has moved, given the place before the move.
+-- Lemmas on a seat that has moved: its next step, its halt, its new place, and its draft.
 
 pub looks_on : (m : Flight) (p q n f : ℕ) (place : Place) → place ≡ At f (1 + q) → n ≡ m.procs → q < n → step_at m p place ≡ Some (Look (proc_id p) (proc_id q))
 looks_on m p q n f place here same low = looks m p f q place here (rw (sym same) low)

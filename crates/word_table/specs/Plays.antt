@@ -88,7 +88,7 @@ abbrev pub IsAfterStart : Flight → ℕ → ℕ → View → Sat → Type 0
 IsAfterStart m i n v after = MovesIfWaiting (AwaitsRelease m i v.actors) (may_start m v.actors n) (begun m) v after
 
 -- `after` is what a seat with view `v` becomes by a load at place `i` that found `n`. If the first actor is the
--- kernel, waits for this word and may note the processor, the kernel has made a step. If the kernel waits for this
+-- kernel, waits for this word and may note the processor, each actor has made a step. If the kernel waits for this
 -- word and may not note, the view counts another try. Otherwise the view does not change.
 abbrev pub IsAfterNote : Flight → ℕ → ℕ → View → Sat → Type 0
 IsAfterNote m i n v after = MovesIfWaiting (AwaitsEnd m i v.actors) (can_note m v.actors n) one_more v after
