@@ -325,9 +325,9 @@ fn start<'s, E, M: Send + Drop + 's, F: FnOnce(M) + Send + Drop + 's>(
 
 // Removes the last processor from `members` and returns it, or returns `None` if `members` is empty.
 fn take_member(members: &mut Vec<CachePadded<Member>>) -> Option<Member>
-    ensures fits { (mission : MissionParts) → AreMembersOf mission members.old.items → IfSome result (MemberFits mission) }
-    ensures rest { (mission : MissionParts) → AreMembersOf mission members.old.items
-        → AreMembersOf mission members.new.items }
+    ensures fits { (mission : MissionParts) → All (λ member. MemberFits mission member.value) members.old.items → IfSome result (MemberFits mission) }
+    ensures rest { (mission : MissionParts) → All (λ member. MemberFits mission member.value) members.old.items
+        → All (λ member. MemberFits mission member.value) members.new.items }
     ensures fewer { IfSome result (λ member. vec_len members.new + 1 ≡ vec_len members.old) }
 {
     match members.pop() {

@@ -9,7 +9,6 @@ use Rattle.fail_stop.specs.Flights.{Flight}
 use Rattle.test_schedules.specs.declared.choices.Chooser.{Chooser}
 use Rattle.test_schedules.specs.declared.choices.Rule.{Rule}
 use Rattle.test_schedules.specs.declared.choices.Rule.TheVariants.{InTurns, LeastFirst, GreatestFirst, KernelFirst, Seeded}
-use Rattle.event_core.specs.Cores.{CoreParts, core_flight, core_places, core_words}
 
 -- Whether the rule asks the processors in descending order.
 abbrev pub is_backwards : Rule → Bool
@@ -95,11 +94,3 @@ begin_of procs chooser = begin_by chooser.rule procs chooser.last (pcg32 chooser
 -- event.
 abbrev pub chosen : Flight → Places → (Word → ℕ) → Chooser → Option (ℕ × Event)
 chosen m at words chooser = first_from (next_in_order m at words (is_backwards chooser.rule)) m.procs (begin_of m.procs chooser)
-
--- The next event of the actor at place `place` of the order in a core.
-abbrev pub next_in : CoreParts → Bool → ℕ → Option Event
-next_in core backwards place = next_in_order (core_flight core) (core_places core) (core_words core) backwards place
-
--- The place of the actor that a chooser chooses in a core, with the next event of that actor.
-abbrev pub chosen_next : CoreParts → Chooser → Option (ℕ × Event)
-chosen_next core chooser = chosen (core_flight core) (core_places core) (core_words core) chooser

@@ -1,8 +1,8 @@
 //! The choice of the actor that makes the next event.
 
 ghost use Rattle.std.specs.Prelude.{◌≡◌, ℕ, ◌+◌, ◌-◌, ◌≤◌, ◌<◌, IfSome, None, if◌then◌else◌, length, option_map};
-ghost use Rattle.event_core.specs.Cores.{IsNextIn, IsOverIn};
-ghost use Rattle.test_schedules.specs.Choices.{begin_of, chooser_after, chosen_next, first_chooser, first_from, first_in, generator_after, is_backwards, next_in, place_in_turn, seed_of};
+ghost use Rattle.event_core.specs.Cores.{IsNextIn, IsOverIn, core_flight, core_places, core_words};
+ghost use Rattle.test_schedules.specs.Choices.{begin_of, chooser_after, chosen, first_chooser, first_from, first_in, generator_after, is_backwards, next_in_order, place_in_turn, seed_of};
 
 use bank_words::Event;
 use event_core::Core;
@@ -70,8 +70,9 @@ impl Chooser {
     pub(crate) fn choose(&mut self, core: &Core, procs: usize) -> Option<Event>
         requires procs { procs ≡ length core.now.spec.procs }
         requires few { procs ≤ 8 }
-        ensures event { result ≡ option_map (λ found. found.1) (chosen_next core.now self.old) }
-        ensures after { IfSome (chosen_next core.now self.old) (λ found. self.new ≡ chooser_after self.old found.0) }
+        ensures event { result ≡ option_map (λ found. found.1) (chosen (core_flight core.now) (core_places core.now) (core_words core.now) self.old) }
+        ensures after { IfSome (chosen (core_flight core.now) (core_places core.now) (core_words core.now) self.old)
+            (λ found. self.new ≡ chooser_after self.old found.0) }
         ensures next { IfSome result (IsNextIn core.now) }
         ensures over { result ≡ None → IsOverIn core.now }
     {
@@ -131,7 +132,7 @@ fn next_in_order(core: &Core, procs: usize, backwards: bool, place: usize) -> Op
     requires procs { procs ≡ length core.now.spec.procs }
     requires few { procs ≤ 8 }
     requires place { place ≤ procs }
-    ensures same { result ≡ next_in core.now backwards place }
+    ensures same { result ≡ next_in_order (core_flight core.now) (core_places core.now) (core_words core.now) backwards place }
     ensures next { IfSome result (IsNextIn core.now) }
 {
     if place == procs {
@@ -149,7 +150,7 @@ fn first_from(core: &Core, procs: usize, backwards: bool, begin: usize) -> Optio
     requires procs { procs ≡ length core.now.spec.procs }
     requires few { procs ≤ 8 }
     requires begin { begin ≤ procs }
-    ensures same { result ≡ first_from (next_in core.now backwards) procs begin }
+    ensures same { result ≡ first_from (next_in_order (core_flight core.now) (core_places core.now) (core_words core.now) backwards) procs begin }
     ensures next { IfSome result (λ found. IsNextIn core.now found.1) }
     ensures over { result ≡ None → IsOverIn core.now }
 {
@@ -172,10 +173,10 @@ fn first_in(
     requires procs { procs ≡ length core.now.spec.procs }
     requires few { procs ≤ 8 }
     requires end { end ≤ procs + 1 }
-    ensures same { result ≡ first_in (next_in core.now backwards) begin (end - begin) }
+    ensures same { result ≡ first_in (next_in_order (core_flight core.now) (core_places core.now) (core_words core.now) backwards) begin (end - begin) }
     ensures next { IfSome result (λ found. IsNextIn core.now found.1) }
     ensures none { result ≡ None → (place : ℕ) → begin ≤ place → place < end
-        → next_in core.now backwards place ≡ None }
+        → next_in_order (core_flight core.now) (core_places core.now) (core_words core.now) backwards place ≡ None }
 {
     for place in begin..end {
         match next_in_order(core, procs, backwards, place) {
