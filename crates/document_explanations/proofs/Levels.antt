@@ -39,7 +39,7 @@ pub step_above : (text level rest : List ℕ) (w : Wanted) → pieces_of 46 text
 step_above text level rest w pieces =
     ap (λ (levels : List (List ℕ)). wanted_along (all_but_last levels) w) pieces ∙ above_more level (pieces_of 46 rest) w (some_piece 46 rest)
 
--- A path that does not begin with a dot has no levels.
+-- If a path does not begin with a dot, `after_dot` is the empty text.
 pub no_dot_first : (path : List ℕ) → ((rest : List ℕ) → path ≢ 46 ∷ rest) → after_dot path ≡ []
 no_dot_first [] other = refl
 no_dot_first (b ∷ path) other = rw (ne_eqb b 46 (λ same. other path (ap (λ (c : ℕ). c ∷ path) same)))

@@ -5,9 +5,8 @@ ghost use Rattle.fault_family.specs.Rests.{RestsMayBeLonger};
 ghost use Rattle.fault_family.specs.Shifts.{LaterScriptsFlyTheSame, LaterScriptsShowTheSame};
 ghost use Rattle.fault_family.specs.Standing.{ListedStepsStand};
 
-/// States that the family for a number of faults contains exactly the lists of this number of faults that satisfy two
-/// conditions. Each fault may be the next after the preceding faults, and the script of the list keeps the failure
-/// assumption.
+/// States that the family for a number of faults contains exactly the lists of this number of faults in which each
+/// fault may follow the preceding faults and whose script keeps the failure assumption.
 pub fn families_have_members()
     ensures { FamiliesHaveMembers }
 {}
@@ -23,9 +22,8 @@ pub fn members_fit()
     ensures { MembersFit }
 {}
 
-/// States that the rows and reconfigurations of a flight depend on the step of each halt only by whether the halt
-/// comes before its processor's mark or after it. Therefore the halts before all stores and after the mark, which are
-/// in the family, represent all other halts.
+/// States that the rows and reports of a flight depend on a halt's step only by whether it comes before the mark.
+/// Therefore the halts before all stores and after the mark, which are in the family, represent all other halts.
 pub fn listed_steps_stand()
     ensures { ListedStepsStand }
 {}

@@ -1,4 +1,5 @@
--- An item of a list is found by its name, and a new item is not found.
+-- Lemmas on lookups by name in a list whose names differ: item `n` is found by its name, and its name is not found
+-- among the items before it.
 use Rattle.std.proofs.Common.{◌≡◌, ◌+◌, ◌<◌, ℕ, zero, suc, Bool, true, false, List, [], ◌∷◌, ◌++◌, length, take, arith, refl, sym, ap, subst}
 use Rattle.std.specs.Prelude.{Some, None, slice_get}
 use Rattle.std.specs.Bool.{Decides}

@@ -27,7 +27,7 @@ abbrev pub summary_of : Parts → ℕ → List Row → Summary
 summary_of spec before rows =
     record { frames = length rows; running = last_running spec NONE_RUNNING rows; up = last_up before rows; begun = length (reports spec rows) }
 
--- The summary after `m` frames is the summary of the first `m` rows.
+-- The summary of a mission after `m` frames equals the summary computed from the first `m` rows of its trace.
 abbrev pub SummariesTellRows : Type 0
 SummariesTellRows = (mission : MissionParts) (m : ℕ) → m ≤ mission.script.frames
     → summary_after mission m ≡ summary_of mission.spec (summary_up mission 0) (first_rows mission m)

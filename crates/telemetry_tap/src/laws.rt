@@ -4,7 +4,8 @@ ghost use Rattle.telemetry_tap.specs.Laws.{SummariesComeBack, SummariesGoOn, Sum
 
 use frame_model::laws::beginnings_are_read;
 
-/// States that the summary after `m` frames is the summary of the first `m` rows.
+/// States that the summary of a mission after `m` frames equals the summary computed from the first `m` rows of its
+/// trace.
 pub fn summaries_tell_rows()
     ensures { SummariesTellRows }
 {

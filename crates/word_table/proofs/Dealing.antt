@@ -41,7 +41,8 @@ opt_other None (Some b) n = refl
 opt_other (Some a) None n = refl
 opt_other (Some a) (Some b) n = let d : a ≢ b = λ e. n (ap (λ (x : ℕ). Some x) e) in grind (arith, nat_tests)
 
--- Lemmas on the homes after actor `o` has moved to view `n`.
+-- The home of each actor, which is the view that contains it, after actor `o` has moved to view `n`. The homes of the
+-- other actors are unchanged.
 moved_home : (Option ℕ → ℕ) → Option ℕ → ℕ → Option ℕ → ℕ
 moved_home home o n q = if opt_eq q o then n else home q
 
