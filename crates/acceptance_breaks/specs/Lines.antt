@@ -15,7 +15,7 @@ use Rattle.scram_types.specs.Bits.{has_bit}
 use Rattle.scram_types.specs.Lookups.{app_name, conf_name, is_on, kind_of_app, opening_env, place_of, proc_name}
 use Rattle.scram_types.specs.Searches.{any_below, least_from}
 use Rattle.scram_types.specs.Specification.{Parts, modes_on}
-use Rattle.app_model.specs.Names.{mode_text, name_in, variable_names}
+use Rattle.kind_table.specs.Names.{mode_text, name_in, variable_names}
 use Rattle.choice_table.specs.Choices.{choose}
 use Rattle.choice_table.specs.Demands.{is_empty_or_holds, is_placed}
 use Rattle.choice_table.specs.Numbering.{states}

@@ -5,10 +5,10 @@ ghost use Rattle.scram_types.specs.declared.limits.TheConstants.{MAX_LINE_BYTES}
 ghost use Rattle.acceptance_breaks.specs.Lines.{intervals_text, limits_text, missed_line, missed_line_of, place_mode_text, subject_text, unheld_line, unheld_line_of, variable_text, way_text};
 
 use crate::limits::{Limits, invariant_limits, precondition_limits};
-use app_model::variable_name;
 use condition_breaks::ranges::range_on;
 use condition_breaks::{Unheld, Way};
 use flight_facts::extremes::add_extremes;
+use kind_table::variable_name;
 use scram_types::{AppId, Invariant, Place, Precondition, Spec};
 use trace_text::lines::Line;
 use trace_text::row_lines::name_of_mode;
@@ -107,7 +107,7 @@ fn add_intervals(line: &mut Line, limits: &Limits)
 
 // Returns the name of a variable of an application. The name has at most 16 bytes, and is empty if the application's
 // kind does not use the variable.
-#[tactic(auto, using(app_model::proofs::ShortNames::variable_short))]
+#[tactic(auto, using(kind_table::proofs::ShortNames::variable_short))]
 fn variable_text(spec: &Spec, app: AppId, variable: u8) -> &'static str
     ensures name { result.now ≡ variable_text spec.now app variable }
     ensures short { length result.now ≤ 16 }

@@ -8,7 +8,7 @@ use Rattle.app_model.specs.declared.seen.Seen.{Seen}
 use Rattle.scram_types.specs.Numbers.{word}
 use Rattle.scram_types.specs.Ranges.{limit}
 use Rattle.scram_types.proofs.Clamping.{IsInRange, in_clamp}
-use Rattle.app_model.specs.Kinds.{kind_variable}
+use Rattle.kind_table.specs.Kinds.{kind_variable}
 use Rattle.app_model.specs.Ranges.{initialised_range, mode_range, is_moving}
 use Rattle.app_model.specs.Reads.{own_word, altitude, heading}
 use Rattle.app_model.specs.Orders.{halted_word, halted, initialised_word, initialised, initialising, kept_area}
@@ -16,7 +16,8 @@ use Rattle.app_model.specs.Bounds.{ends, during, after_halt, after_init}
 use Rattle.app_model.specs.Areas.{Between, AreaLies, LawLiesDuring, LawLiesAfterHalt, LawLiesAfterInit, StartLiesAfterInit}
 use Rattle.app_model.specs.Law.{ran}
 use Rattle.app_model.specs.Starts.{start_of}
-use Rattle.app_model.proofs.Within.{Within, each, each_kind, in_choice, in_either, in_zero, in_number, in_faded, in_faded_last, in_own}
+use Rattle.kind_table.proofs.EachKind.{each_kind}
+use Rattle.app_model.proofs.Within.{Within, each, in_choice, in_either, in_zero, in_number, in_faded, in_faded_last, in_own}
 use Rattle.app_model.proofs.Tables.{wider, init_narrows, during_is, after_init_is, status_stays}
 use Rattle.app_model.proofs.Runs.{ran_within, ran_status}
 

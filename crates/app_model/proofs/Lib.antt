@@ -3,7 +3,5 @@ pub mod Within
 pub mod Tables
 pub mod Runs
 pub mod AreaLaws
-pub mod Spelling
-pub mod ShortNames
 pub mod Lengths
 pub mod Replacing

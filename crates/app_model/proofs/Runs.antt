@@ -5,7 +5,7 @@ use Rattle.app_model.specs.declared.seen.Seen.{Seen}
 use Rattle.scram_types.specs.Numbers.{word}
 use Rattle.scram_types.specs.Ranges.{limit}
 use Rattle.scram_types.proofs.Clamping.{IsInRange, in_circle, in_clamp}
-use Rattle.app_model.specs.Kinds.{kind_variable}
+use Rattle.kind_table.specs.Kinds.{kind_variable}
 use Rattle.app_model.specs.Ranges.{sane_range, widest_mode, mode_range}
 use Rattle.app_model.specs.Reads.{own_word, lead_word, goal_altitude, goal_heading}
 use Rattle.app_model.specs.Headings.{short_turn}
@@ -16,7 +16,8 @@ use Rattle.app_model.specs.Navigator.{on_course, navigator_ran, climb_left_after
 use Rattle.app_model.specs.DataLink.{fresh_of, fresh, rate_after, waiting, going, queued_after, sent_after, left_over, dropped_after, data_link_ran}
 use Rattle.app_model.specs.Tasks.{task_ran}
 use Rattle.app_model.specs.Law.{ran}
-use Rattle.app_model.proofs.Within.{Within, each, each_kind, in_choice, in_either, in_zero, in_one, in_number, in_sum, in_twice, in_ticks}
+use Rattle.kind_table.proofs.EachKind.{each_kind}
+use Rattle.app_model.proofs.Within.{Within, each, in_choice, in_either, in_zero, in_one, in_number, in_sum, in_twice, in_ticks}
 
 autopilot_within : (seen : Seen) → Within (mode_range 0 seen.mode.0) (autopilot_ran seen)
 unfolding autopilot_ran word mode_range pitch_after roll_after target_alt target_heading goal_altitude goal_heading integral_after own_word kind_variable

@@ -27,15 +27,6 @@ each P a b c d e f g (suc (suc (suc (suc (suc (suc zero)))))) l h = f
 each P a b c d e f g (suc (suc (suc (suc (suc (suc (suc zero))))))) l h = g
 each P a b c d e f g (suc (suc (suc (suc (suc (suc (suc (suc i)))))))) l h = absurd (omega arith)
 
-pub each_kind : (P : ℕ → Type 0) → P 0 → P 1 → P 2 → P 3 → P 4 → P 5 → (kind : ℕ) → kind < 6 → P kind
-each_kind P a b c d e f zero h = a
-each_kind P a b c d e f (suc zero) h = b
-each_kind P a b c d e f (suc (suc zero)) h = c
-each_kind P a b c d e f (suc (suc (suc zero))) h = d
-each_kind P a b c d e f (suc (suc (suc (suc zero)))) h = e
-each_kind P a b c d e f (suc (suc (suc (suc (suc zero))))) h = f
-each_kind P a b c d e f (suc (suc (suc (suc (suc (suc kind)))))) h = absurd (omega arith)
-
 pub in_choice : (b : Bool) (r s : Range) (x y : ℤ) → IsInRange r x → IsInRange s y → IsInRange (if b then r else s) (if b then x else y)
 in_choice true r s x y p q = p
 in_choice false r s x y p q = q

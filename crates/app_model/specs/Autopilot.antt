@@ -1,7 +1,7 @@
 -- The autopilot's area after a frame in which it ran.
 use Rattle.std.specs.Prelude.{ℤ, pos, ◌-ℤ◌, ◌+ℤ◌, ◌==◌, List, [], ◌∷◌, if◌then◌else◌}
 use Rattle.app_model.specs.declared.seen.Seen.{Seen}
-use Rattle.app_model.specs.declared.kinds.autopilot.TheConstants.{INTEGRAL, KIND, NAVIGATE, PITCH, TARGET_ALT, TARGET_HEADING}
+use Rattle.kind_table.specs.declared.kinds.autopilot.TheConstants.{INTEGRAL, KIND, NAVIGATE, PITCH, TARGET_ALT, TARGET_HEADING}
 use Rattle.scram_types.specs.Numbers.{part}
 use Rattle.scram_types.specs.Ranges.{clamp_in, limit}
 use Rattle.app_model.specs.Ranges.{mode_range}

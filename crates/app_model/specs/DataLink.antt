@@ -3,12 +3,12 @@ use Rattle.std.specs.Prelude.{ℕ, ℤ, pos, ◌-ℤ◌, ◌+ℤ◌, ◌==◌, L
 use Rattle.std.specs.Int.{int_min}
 use Rattle.std.specs.Ordering.{int_eq}
 use Rattle.app_model.specs.declared.seen.Seen.{Seen}
-use Rattle.app_model.specs.declared.kinds.autopilot.TheConstants as autopilot
-use Rattle.app_model.specs.declared.kinds.data_link.TheConstants.{DROPPED, FAST, KIND, QUEUED, SENT}
-use Rattle.app_model.specs.declared.kinds.every_kind.TheConstants.{STATUS}
-use Rattle.app_model.specs.declared.kinds.flight_control.TheConstants as flight_control
-use Rattle.app_model.specs.declared.kinds.navigator.TheConstants as navigator
-use Rattle.app_model.specs.declared.kinds.power_monitor.TheConstants as power_monitor
+use Rattle.kind_table.specs.declared.kinds.autopilot.TheConstants as autopilot
+use Rattle.kind_table.specs.declared.kinds.data_link.TheConstants.{DROPPED, FAST, KIND, QUEUED, SENT}
+use Rattle.kind_table.specs.declared.kinds.every_kind.TheConstants.{STATUS}
+use Rattle.kind_table.specs.declared.kinds.flight_control.TheConstants as flight_control
+use Rattle.kind_table.specs.declared.kinds.navigator.TheConstants as navigator
+use Rattle.kind_table.specs.declared.kinds.power_monitor.TheConstants as power_monitor
 use Rattle.app_model.specs.Reads.{own_word, lead_word, ticks_after}
 
 -- The number of new messages of kind `kind`: 1 if the status of its lowest-numbered application is 1, and 0

@@ -2,9 +2,9 @@
 use Rattle.std.specs.Prelude.{ℕ, ℤ, pos, ◌-ℤ◌, ◌+ℤ◌, ◌*ℤ◌, ◌==◌, List, [], ◌∷◌, if◌then◌else◌}
 use Rattle.std.specs.Ordering.{int_eq}
 use Rattle.app_model.specs.declared.seen.Seen.{Seen}
-use Rattle.app_model.specs.declared.kinds.autopilot.TheConstants as autopilot
-use Rattle.app_model.specs.declared.kinds.every_kind.TheConstants.{STATUS}
-use Rattle.app_model.specs.declared.kinds.flight_control.TheConstants.{AILERON, AUGMENTED, ELEVATOR, KIND}
+use Rattle.kind_table.specs.declared.kinds.autopilot.TheConstants as autopilot
+use Rattle.kind_table.specs.declared.kinds.every_kind.TheConstants.{STATUS}
+use Rattle.kind_table.specs.declared.kinds.flight_control.TheConstants.{AILERON, AUGMENTED, ELEVATOR, KIND}
 use Rattle.scram_types.specs.Ranges.{clamp_in, limit}
 use Rattle.app_model.specs.Reads.{own_word, lead_word, ticks_after}
 

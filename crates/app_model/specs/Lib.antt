@@ -1,4 +1,3 @@
-pub mod Kinds
 pub mod Ranges
 pub mod Reads
 pub mod Orders
@@ -13,5 +12,4 @@ pub mod Law
 pub mod Starts
 pub mod Bounds
 pub mod Areas
-pub mod Names
 pub mod Racks

@@ -1,7 +1,7 @@
 -- The navigator's area after a frame in which it ran.
 use Rattle.std.specs.Prelude.{ℕ, ℤ, pos, ◌-ℤ◌, ◌==◌, ◌&&◌, Bool, int_le, List, [], ◌∷◌, if◌then◌else◌}
 use Rattle.app_model.specs.declared.seen.Seen.{Seen}
-use Rattle.app_model.specs.declared.kinds.navigator.TheConstants.{KIND, ROUTE}
+use Rattle.kind_table.specs.declared.kinds.navigator.TheConstants.{KIND, ROUTE}
 use Rattle.scram_types.specs.Numbers.{minus}
 use Rattle.scram_types.specs.Ranges.{clamp_in, limit}
 use Rattle.app_model.specs.Reads.{altitude, heading, goal_altitude, goal_heading, ticks_after}

@@ -1,7 +1,7 @@
 -- The areas after all orders except `Run`. The rules are the same for all kinds.
 use Rattle.std.specs.Prelude.{ℕ, ℤ, pos, ◌-ℤ◌, ◌==◌, ◌&&◌, Bool, List, [], ◌∷◌, if◌then◌else◌}
 use Rattle.app_model.specs.declared.seen.Seen.{Seen}
-use Rattle.app_model.specs.declared.kinds.autopilot.TheConstants.{KIND, TARGET_ALT, TARGET_HEADING}
+use Rattle.kind_table.specs.declared.kinds.autopilot.TheConstants.{KIND, TARGET_ALT, TARGET_HEADING}
 use Rattle.scram_types.specs.Numbers.{part}
 use Rattle.scram_types.specs.Ranges.{clamp_in}
 use Rattle.app_model.specs.Ranges.{initialised_range, is_moving}

@@ -1,7 +1,7 @@
 -- The power monitor's area after a frame in which it ran.
 use Rattle.std.specs.Prelude.{ℕ, ℤ, pos, ◌-ℤ◌, ◌+ℤ◌, ◌==◌, int_lt, List, [], ◌∷◌, slice_index, if◌then◌else◌}
 use Rattle.app_model.specs.declared.seen.Seen.{Seen}
-use Rattle.app_model.specs.declared.kinds.power_monitor.TheConstants.{CHARGE, KIND, NORMAL, SAVER}
+use Rattle.kind_table.specs.declared.kinds.power_monitor.TheConstants.{CHARGE, KIND, NORMAL, SAVER}
 use Rattle.scram_types.specs.Ranges.{clamp_in, limit}
 use Rattle.app_model.specs.Reads.{own_word, ticks_after}
 

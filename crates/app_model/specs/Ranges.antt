@@ -1,7 +1,7 @@
 -- The ranges of the variables, by kind, mode and word, taken from the table of kinds.
 use Rattle.std.specs.Prelude.{ℕ, Bool}
 use Rattle.scram_types.specs.declared.ranges.Range.{Range}
-use Rattle.app_model.specs.Kinds.{kind_or_last, kind_variable, range_in}
+use Rattle.kind_table.specs.Kinds.{kind_or_last, kind_variable, range_in}
 
 -- The range of word `i` while an application of kind `kind` is in mode `mode`.
 unfoldable pub mode_range : ℕ → ℕ → ℕ → Range

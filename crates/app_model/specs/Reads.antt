@@ -2,7 +2,7 @@
 use Rattle.std.specs.Prelude.{ℕ, ℤ, pos, ◌+ℤ◌, [], slice_index_or}
 use Rattle.std.specs.Int.{int_min}
 use Rattle.app_model.specs.declared.seen.Seen.{Seen}
-use Rattle.app_model.specs.declared.kinds.every_kind.TheConstants.{TICKS}
+use Rattle.kind_table.specs.declared.kinds.every_kind.TheConstants.{TICKS}
 use Rattle.scram_types.specs.Numbers.{word}
 use Rattle.scram_types.specs.Ranges.{clamp_in, limit}
 use Rattle.app_model.specs.Ranges.{sane_range, mode_range}

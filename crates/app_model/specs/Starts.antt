@@ -1,7 +1,7 @@
 -- The areas that applications begin with.
 use Rattle.std.specs.Prelude.{ℕ, ℤ, List}
 use Rattle.scram_types.specs.Eights.{eight}
-use Rattle.app_model.specs.Kinds.{kind_variable}
+use Rattle.kind_table.specs.Kinds.{kind_variable}
 
 -- The value with which word `i` of an area of kind `kind` begins.
 abbrev pub start_at : ℕ → ℕ → ℤ

@@ -1,7 +1,7 @@
 -- The task's area after a frame in which it ran.
 use Rattle.std.specs.Prelude.{ℤ, pos, List, [], ◌∷◌}
 use Rattle.app_model.specs.declared.seen.Seen.{Seen}
-use Rattle.app_model.specs.declared.kinds.task.TheConstants.{KIND}
+use Rattle.kind_table.specs.declared.kinds.task.TheConstants.{KIND}
 use Rattle.app_model.specs.Reads.{ticks_after}
 
 -- The task's area after a frame in which it ran. Only the status and the count of frames are used.

@@ -3,12 +3,12 @@
 ghost use Rattle.std.specs.Prelude.{◌≡◌};
 ghost use Rattle.app_model.specs.Law.{law, ran};
 
-use crate::kinds::{autopilot, data_link, flight_control, navigator, power_monitor};
 use crate::orders::area_after;
 use crate::seen::Seen;
 use crate::{
     autopilot_law, data_link_law, flight_control_law, navigator_law, power_monitor_law, task_law,
 };
+use kind_table::kinds::{autopilot, data_link, flight_control, navigator, power_monitor};
 use scram_types::{Area, KindId, Order};
 
 fn run_of(kind: KindId, seen: &Seen) -> Area

@@ -15,7 +15,7 @@ fn ends_of(range: Range) -> (i64, i64)
 
 /// Returns the minimum and the maximum of a variable while an application of kind `kind` has status `status` in mode
 /// `mode`. The status is 1 for run, 2 for halt, 3 for prepare and 4 for init. The units are those of
-/// [`crate::kinds`].
+/// [`kind_table::kinds`].
 pub fn during(kind: KindId, status: u8, mode: Mode, variable: u8) -> (i64, i64)
     ensures { result ≡ during kind.0 status mode.0 variable }
 {

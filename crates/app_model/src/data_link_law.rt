@@ -5,11 +5,11 @@ ghost use Rattle.std.specs.Prelude.{◌≡◌, ◌≤ℤ◌, ◌<◌, ◌-ℤ◌
 ghost use Rattle.scram_types.specs.Numbers.{FitsSums, minus};
 ghost use Rattle.app_model.specs.DataLink.{fresh_of, fresh, rate_after, waiting, going, queued_after, sent_after, left_over, dropped_after, data_link_ran};
 
-use crate::kinds::data_link::{DROPPED, FAST, KIND, QUEUED, SENT};
-use crate::kinds::every_kind::STATUS;
-use crate::kinds::{autopilot, flight_control, navigator, power_monitor};
 use crate::reads::{next_ticks, read_lead, read_own};
 use crate::seen::Seen;
+use kind_table::kinds::data_link::{DROPPED, FAST, KIND, QUEUED, SENT};
+use kind_table::kinds::every_kind::STATUS;
+use kind_table::kinds::{autopilot, flight_control, navigator, power_monitor};
 use scram_types::Area;
 
 fn message_of(kind: u8, seen: &Seen) -> i64

@@ -5,11 +5,11 @@ ghost use Rattle.std.specs.Prelude.{◌≡◌, ◌<◌};
 ghost use Rattle.scram_types.specs.Numbers.{FitsSums};
 ghost use Rattle.app_model.specs.FlightControl.{command, closer, elevator_after, aileron_after, flight_control_ran};
 
-use crate::kinds::autopilot;
-use crate::kinds::every_kind::STATUS;
-use crate::kinds::flight_control::{AILERON, AUGMENTED, ELEVATOR, KIND};
 use crate::reads::{next_ticks, read_lead, read_own};
 use crate::seen::Seen;
+use kind_table::kinds::autopilot;
+use kind_table::kinds::every_kind::STATUS;
+use kind_table::kinds::flight_control::{AILERON, AUGMENTED, ELEVATOR, KIND};
 use scram_types::Area;
 use scram_types::numbers::{gap, sum};
 use scram_types::ranges::{clamped_in, make_range};

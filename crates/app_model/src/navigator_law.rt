@@ -6,11 +6,11 @@ ghost use Rattle.scram_types.specs.Numbers.{FitsSums};
 ghost use Rattle.app_model.specs.Navigator.{near, on_course, navigator_ran, climb_left_after, bearing_error_after};
 
 use crate::headings::short_turn;
-use crate::kinds::navigator::{KIND, ROUTE};
 use crate::reads::{
     next_ticks, read_altitude, read_goal_altitude, read_goal_heading, read_heading,
 };
 use crate::seen::Seen;
+use kind_table::kinds::navigator::{KIND, ROUTE};
 use scram_types::Area;
 use scram_types::numbers::gap;
 use scram_types::ranges::{clamped_in, make_range};

@@ -5,9 +5,9 @@ ghost use Rattle.std.specs.Prelude.{◌≡◌, ◌≤ℤ◌, ◌+ℤ◌, ◌-ℤ
 ghost use Rattle.scram_types.specs.Numbers.{FitsSums};
 ghost use Rattle.app_model.specs.PowerMonitor.{supply_after, demand_after, charge_after, shed_after, power_monitor_ran, alternator_gives};
 
-use crate::kinds::power_monitor::{CHARGE, KIND, NORMAL, SAVER};
 use crate::reads::{next_ticks, read_own};
 use crate::seen::Seen;
+use kind_table::kinds::power_monitor::{CHARGE, KIND, NORMAL, SAVER};
 use scram_types::Area;
 use scram_types::ranges::{clamped_in, make_range};
 

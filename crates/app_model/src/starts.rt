@@ -3,7 +3,7 @@
 ghost use Rattle.std.specs.Prelude.{◌≡◌};
 ghost use Rattle.app_model.specs.Starts.{start_at, start_of};
 
-use crate::table::kind_variable;
+use kind_table::table::kind_variable;
 use scram_types::{Area, KindId};
 
 fn start_word(kind: u8, variable: usize) -> i64

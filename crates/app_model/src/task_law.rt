@@ -4,9 +4,9 @@
 ghost use Rattle.std.specs.Prelude.{◌≡◌};
 ghost use Rattle.app_model.specs.Tasks.{task_ran};
 
-use crate::kinds::task::KIND;
 use crate::reads::next_ticks;
 use crate::seen::Seen;
+use kind_table::kinds::task::KIND;
 use scram_types::Area;
 
 /// Returns the task's area after a frame in which it runs. Only its status and its count of frames are used.

@@ -1,8 +1,8 @@
 //! The autopilot as a box that remembers its last call.
 
-use app_model::kinds::autopilot::KIND;
 use app_model::memory::{KindLaw, Remembering};
 use app_model::{Seen, law_area};
+use kind_table::kinds::autopilot::KIND;
 use scram_types::{Area, KindId, Order};
 
 /// The law of kind 0, the autopilot.

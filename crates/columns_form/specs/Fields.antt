@@ -14,7 +14,7 @@ use Rattle.scram_types.specs.declared.orders.KMode.TheVariants.{Stable, Moving}
 use Rattle.scram_types.specs.declared.specification.AppSpec.{AppSpec}
 use Rattle.scram_types.specs.declared.specification.Factor.{Factor}
 use Rattle.scram_types.specs.declared.specification.Proc.{Proc}
-use Rattle.app_model.specs.Names.{mode_text, name_in, variable_names}
+use Rattle.kind_table.specs.Names.{mode_text, name_in, variable_names}
 use Rattle.flight_facts.specs.Acts.{act_of, act_word, mode_of_act, proc_of_act, word_text}
 use Rattle.form_base.specs.Texts.{texts_below}
 

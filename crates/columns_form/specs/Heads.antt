@@ -5,7 +5,7 @@ use Rattle.scram_types.specs.Specification.{Parts}
 use Rattle.scram_types.specs.declared.specification.AppSpec.{AppSpec}
 use Rattle.scram_types.specs.declared.specification.Factor.{Factor}
 use Rattle.scram_types.specs.declared.specification.Proc.{Proc}
-use Rattle.app_model.specs.Names.{name_in, variable_names}
+use Rattle.kind_table.specs.Names.{name_in, variable_names}
 use Rattle.form_base.specs.Texts.{texts_below}
 
 -- The names of the columns of the factors.

@@ -2,12 +2,12 @@
 
 ghost use Rattle.std.specs.Prelude.{◌≡◌, ◌<◌, ◌≤◌, ◌+◌, ◌*◌, ◌++◌, IfSome, length, option_map};
 ghost use Rattle.scram_types.specs.declared.limits.TheConstants.{MAX_LINE_BYTES};
-ghost use Rattle.app_model.specs.Names.{name_in, variable_names};
+ghost use Rattle.kind_table.specs.Names.{name_in, variable_names};
 ghost use Rattle.form_base.specs.Texts.{texts_below};
 ghost use Rattle.columns_form.specs.Fields.{act_fields, app_fields, conf_field, mode_fields, proc_field, row_fields, up_fields, value_fields, word_field, world_fields};
 
-use app_model::variable_name;
 use flight_facts::acts::{act_word, mode_of_act, proc_of_act};
+use kind_table::variable_name;
 use scram_types::{Act, AppSpec, Area, ConfId, KMode, KindId, ProcId, Row, Spec, World};
 use trace_text::lines::Line;
 use trace_text::row_lines::name_of_mode;
@@ -160,7 +160,7 @@ fn add_word_field(line: &mut Line, kind: KindId, area: &Area, i: u8)
 
 /// Returns the name of word `i` of a kind's area, which has at most 16 bytes. Returns `None` if there is no such kind
 /// or the kind does not use this word.
-#[tactic(auto, using(app_model::proofs::ShortNames::variable_short))]
+#[tactic(auto, using(kind_table::proofs::ShortNames::variable_short))]
 pub fn name_of_variable(kind: KindId, i: u8) -> Option<&'static str>
     ensures name { option_map (λ s. s.now) result ≡ name_in (variable_names kind.0) i }
     ensures short { IfSome result (λ name. length name.now ≤ 16) }

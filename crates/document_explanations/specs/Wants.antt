@@ -5,7 +5,7 @@ use Rattle.std.specs.Option.{option_map_or}
 use Rattle.scram_types.specs.Specification.{Parts}
 use Rattle.scram_types.specs.declared.specification.Factor.{Factor}
 use Rattle.scram_types.specs.declared.specification.Proc.{Proc}
-use Rattle.app_model.specs.Kinds.{Kind, Variable, kinds}
+use Rattle.kind_table.specs.Kinds.{Kind, Variable, kinds}
 use Rattle.fault_script.specs.Times.{words}
 use Rattle.fault_script.specs.Versions.{halts_limit}
 use Rattle.fault_script.specs.declared.version.Version.TheVariants.{First, Second}

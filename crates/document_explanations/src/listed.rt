@@ -1,12 +1,12 @@
 //! The texts of lists of items: members, kinds, factors and processors.
 
 ghost use Rattle.std.specs.Prelude.{◌≡◌, ◌++◌, OnOk, map, option_map};
-ghost use Rattle.app_model.specs.Kinds.{kind_read, kinds, variable_read};
+ghost use Rattle.kind_table.specs.Kinds.{kind_read, kinds, variable_read};
 ghost use Rattle.document_explanations.specs.Wants.{further_listed, listed, name_spaced, names_spaced, spaced, variables_spaced, versions_text};
 
 use crate::lines::Lines;
 use crate::objects::{Member, Versions};
-use app_model::table::{
+use kind_table::table::{
     AUTOPILOT, DATA_LINK, FLIGHT_CONTROL, Kind, NAVIGATOR, POWER_MONITOR, TASK, Variable,
 };
 use scram_types::{Factor, Name, NoMemory, Proc};
@@ -99,7 +99,7 @@ pub fn kinds() -> &'static [Kind]
 pub struct KindText;
 
 impl Shown<Kind> for KindText {
-    ghost use Rattle.app_model.specs.Kinds.{kind_read};
+    ghost use Rattle.kind_table.specs.Kinds.{kind_read};
     ghost use Rattle.document_explanations.specs.Wants.{kind_words};
 
     ghost shown = { λ k. kind_words (kind_read k) };
@@ -113,7 +113,7 @@ impl Shown<Kind> for KindText {
 pub struct ModesText;
 
 impl Shown<Kind> for ModesText {
-    ghost use Rattle.app_model.specs.Kinds.{kind_read};
+    ghost use Rattle.kind_table.specs.Kinds.{kind_read};
     ghost use Rattle.document_explanations.specs.Wants.{kind_and_modes};
 
     ghost shown = { λ k. kind_and_modes (kind_read k) };
@@ -151,7 +151,7 @@ fn add_spaced(lines: &mut Lines, name: Option<&'static str>) -> Result<(), NoMem
 pub struct VariablesText;
 
 impl Shown<Kind> for VariablesText {
-    ghost use Rattle.app_model.specs.Kinds.{kind_read};
+    ghost use Rattle.kind_table.specs.Kinds.{kind_read};
     ghost use Rattle.document_explanations.specs.Wants.{variables_text};
 
     ghost shown = { λ k. variables_text (kind_read k) };

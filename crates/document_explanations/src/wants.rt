@@ -8,7 +8,7 @@ use crate::listed::{
     FactorText, KindText, MemberText, ModesText, ProcText, VariablesText, add_listed, kinds,
 };
 use crate::objects::{Length, Member, Number, Text, Wanted, members_of};
-use app_model::table::Kind;
+use kind_table::table::Kind;
 use scram_types::limits::MAX_PROCESSORS;
 use scram_types::{Factor, NoMemory, Proc, Spec};
 

@@ -20,13 +20,13 @@ use Rattle.bank_words.specs.Numbers.{decode, encode}
 use Rattle.app_model.specs.declared.seen.Seen.{Seen}
 use Rattle.app_model.specs.Areas.{Between, status_of}
 use Rattle.app_model.specs.Bounds.{after_init, during, sane}
-use Rattle.app_model.specs.Kinds.{kind_variable}
+use Rattle.kind_table.specs.Kinds.{kind_variable}
 use Rattle.app_model.specs.Law.{law}
 use Rattle.app_model.specs.Ranges.{mode_range, sane_range, widest_mode}
 use Rattle.app_model.specs.Starts.{start_of}
 use Rattle.app_model.proofs.AreaLaws.{law_lies_during, start_lies_after_init}
 use Rattle.app_model.proofs.Tables.{tables_narrow}
-use Rattle.app_model.proofs.Within.{each_kind}
+use Rattle.kind_table.proofs.EachKind.{each_kind}
 use Rattle.fault_script.specs.Environments.{env_at}
 use Rattle.fault_script.specs.Times.{commits}
 use Rattle.frame_model.specs.declared.tasks.Task.{Task}

@@ -1,8 +1,8 @@
 //! The flight control as a box that remembers its last call.
 
-use app_model::kinds::flight_control::KIND;
 use app_model::memory::{KindLaw, Remembering};
 use app_model::{Seen, law_area};
+use kind_table::kinds::flight_control::KIND;
 use scram_types::{Area, KindId, Order};
 
 /// The law of kind 1, the flight control.

@@ -16,8 +16,8 @@ use crate::sights::seen_by_all;
 use crate::systems::Sys;
 use airframe::step;
 use app_model::Rack;
-use app_model::kinds::flight_control;
 use fault_script::Input;
+use kind_table::kinds::flight_control;
 use scram_types::{Area, Env, KMode, Row, Spec, World};
 
 /// Flies one frame and returns its row. Afterwards, `sys` is the state after the frame. A processor that restarts in

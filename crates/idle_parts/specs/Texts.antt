@@ -7,7 +7,7 @@ use Rattle.scram_types.specs.declared.specification.AppSpec.{AppSpec}
 use Rattle.scram_types.specs.declared.specification.Bound.{Bound}
 use Rattle.scram_types.specs.declared.specification.Demand.{Demand}
 use Rattle.scram_types.specs.declared.specification.ModeSpec.{ModeSpec}
-use Rattle.app_model.specs.Names.{mode_text}
+use Rattle.kind_table.specs.Names.{mode_text}
 use Rattle.form_base.specs.Texts.{texts_below}
 use Rattle.idle_parts.specs.declared.lines.PartKind.{PartKind}
 use Rattle.idle_parts.specs.declared.lines.PartKind.TheVariants as kind

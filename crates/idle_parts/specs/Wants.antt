@@ -7,7 +7,7 @@ use Rattle.scram_types.specs.Specification.{Parts}
 use Rattle.scram_types.specs.declared.specification.Choice.{Choice}
 use Rattle.scram_types.specs.declared.specification.Demand.{Demand}
 use Rattle.scram_types.specs.declared.specification.Want.{Want}
-use Rattle.app_model.specs.declared.kinds.power_monitor.TheConstants.{KIND as POWER_MONITOR}
+use Rattle.kind_table.specs.declared.kinds.power_monitor.TheConstants.{KIND as POWER_MONITOR}
 use Rattle.choice_table.specs.Demands.{applies_in}
 use Rattle.idle_parts.specs.declared.wants.TheConstants.{POWER_FACTORS}
 use Rattle.idle_parts.specs.Places.{is_app_placed}

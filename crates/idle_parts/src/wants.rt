@@ -10,8 +10,8 @@ ghost use Rattle.idle_parts.specs.DemandedEnvs.{demanded_env, demanded_value};
 ghost use Rattle.idle_parts.specs.Wants.{is_demand_idle, is_factor_idle, is_factor_wanted, is_placed_monitor, is_supply_read, any_wants_factor};
 
 use crate::places::is_app_placed;
-use app_model::kinds::power_monitor;
 use choice_table::{applies_in, in_scope};
+use kind_table::kinds::power_monitor;
 use scram_types::bits::has_bit;
 use scram_types::{AppId, Choice, Demand, Env, FactorId, Spec, Want};
 

@@ -2,9 +2,9 @@
 
 ghost use Rattle.more_apps.specs.Counts.{KeepsCount};
 
-use app_model::kinds::data_link::KIND;
 use app_model::memory::{KindLaw, Remembering};
 use app_model::{Seen, law_area};
+use kind_table::kinds::data_link::KIND;
 use scram_types::{Area, KindId, Order};
 
 /// States that every message is counted. If a run leaves both counts below their maximum, the sum of the messages

@@ -1,8 +1,8 @@
 //! The navigator as a box that remembers its last call.
 
-use app_model::kinds::navigator::KIND;
 use app_model::memory::{KindLaw, Remembering};
 use app_model::{Seen, law_area};
+use kind_table::kinds::navigator::KIND;
 use scram_types::{Area, KindId, Order};
 
 /// The law of kind 3, the navigator.

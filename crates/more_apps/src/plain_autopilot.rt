@@ -1,7 +1,7 @@
 //! An autopilot without memory.
 
-use app_model::kinds::autopilot::KIND;
 use app_model::{App, Seen, law_area};
+use kind_table::kinds::autopilot::KIND;
 use scram_types::{Area, KindId, Order};
 
 /// An autopilot that does not remember its last call. It answers by the law of kind 0.

@@ -20,7 +20,7 @@ use Rattle.scram_types.specs.declared.specification.Factor.{Factor}
 use Rattle.scram_types.specs.declared.specification.Proc.{Proc}
 use Rattle.scram_types.proofs.Items.{some_item}
 use Rattle.scram_types.proofs.Options.{same_some}
-use Rattle.app_model.specs.Names.{mode_text, number_in}
+use Rattle.kind_table.specs.Names.{mode_text, number_in}
 use Rattle.trace_text.specs.Flights.{IsActShown}
 use Rattle.trace_text.specs.Lookups.{listed_mode}
 use Rattle.trace_text.proofs.NamesBack.{listed_back, mode_spelled, mode_valid, proc_back}

@@ -9,7 +9,7 @@ use Rattle.scram_types.specs.declared.ids.ConfId.{ConfId}
 use Rattle.scram_types.specs.declared.orders.Act.{Act}
 use Rattle.scram_types.specs.declared.orders.Act.TheVariants as act
 use Rattle.scram_types.specs.declared.specification.Factor.{Factor}
-use Rattle.app_model.specs.Names.{mode_text}
+use Rattle.kind_table.specs.Names.{mode_text}
 use Rattle.flight_facts.specs.Acts.{act_of, act_word, word_text}
 use Rattle.flight_facts.specs.Spans.{span_at, stable_conf}
 use Rattle.flight_facts.specs.declared.spans.Lane.{Lane}

@@ -1,8 +1,8 @@
 //! The power monitor as a box that remembers its last call.
 
-use app_model::kinds::power_monitor::KIND;
 use app_model::memory::{KindLaw, Remembering};
 use app_model::{Seen, law_area};
+use kind_table::kinds::power_monitor::KIND;
 use scram_types::{Area, KindId, Order};
 
 /// The law of kind 2, the power monitor.

@@ -11,8 +11,8 @@ use Rattle.scram_types.specs.declared.specification.ModeSpec.{ModeSpec}
 use Rattle.scram_types.specs.declared.specification.Proc.{Proc}
 use Rattle.scram_types.specs.Names.{is_name}
 use Rattle.scram_types.specs.Specification.{AreSpelled, Each, HasLength, IsAppSpec, IsModeSpec, IsProc, NamesDiffer, mode_in, modes_of_kind}
-use Rattle.app_model.specs.Names.{kind_names, mode_names, number_in, name_in}
-use Rattle.app_model.proofs.Spelling.{all_names_agree}
+use Rattle.kind_table.specs.Names.{kind_names, mode_names, number_in, name_in}
+use Rattle.kind_table.proofs.Spelling.{all_names_agree}
 use Rattle.dep_order.specs.Ranks.{IsRanking, rank_after}
 use Rattle.spec_apps.specs.Applications.{read_app, read_mode, read_modes, check_text}
 use Rattle.spec_members.specs.Names.{name_of_app, name_of_proc}

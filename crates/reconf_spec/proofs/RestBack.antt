@@ -25,8 +25,8 @@ use Rattle.scram_types.specs.declared.specification.Want.{Want}
 use Rattle.scram_types.specs.Names.{is_name}
 use Rattle.scram_types.specs.Numbers.{minus}
 use Rattle.scram_types.specs.Specification.{Each, IsBound, IsChoice, IsFactor, IsGoal, IsInIfNamed, IsInterval, IsInvariant, IsPrecondition, IsSpec, IsWant, NamesDiffer, Parts, bound_in}
-use Rattle.app_model.specs.Names.{variable_names, number_in}
-use Rattle.app_model.proofs.Spelling.{all_names_agree}
+use Rattle.kind_table.specs.Names.{variable_names, number_in}
+use Rattle.kind_table.proofs.Spelling.{all_names_agree}
 use Rattle.spec_members.specs.declared.rule.TheConstants.{UNKNOWN_PROCESSOR}
 use Rattle.spec_members.specs.Names.{name_of_app, name_of_conf, name_of_factor, name_of_proc}
 use Rattle.spec_table.specs.Bounds.{read_bound, read_bounds}

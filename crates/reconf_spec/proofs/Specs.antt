@@ -12,7 +12,7 @@ use Rattle.scram_types.specs.declared.specification.Demand.{Demand}
 use Rattle.scram_types.specs.declared.specification.Invariant.{Invariant}
 use Rattle.scram_types.specs.declared.specification.Precondition.{Precondition}
 use Rattle.scram_types.specs.Specification.{Parts, IsSpec, IsProc, IsConf, IsFactor, IsChoice, IsBound, IsDemand, IsGoal, IsInvariant, IsOn, IsPrecondition, IsIn, mode_in}
-use Rattle.app_model.proofs.Spelling.{variable_number_below}
+use Rattle.kind_table.proofs.Spelling.{variable_number_below}
 use Rattle.spec_members.specs.Names.{name_of_proc, name_of_conf, name_of_demand, name_of_factor}
 use Rattle.scram_doc.specs.Numbering.{itself}
 use Rattle.scram_doc.specs.Lists.{AllAfter}

@@ -27,14 +27,14 @@ use Rattle.scram_types.proofs.Searches.{all_each, get_listed, length_listed}
 use Rattle.app_model.specs.declared.seen.Seen.{Seen}
 use Rattle.app_model.specs.Areas.{AreaLies, Between, status_of}
 use Rattle.app_model.specs.Bounds.{after_init, during, sane}
-use Rattle.app_model.specs.Kinds.{kind_variable}
+use Rattle.kind_table.specs.Kinds.{kind_variable}
 use Rattle.app_model.specs.Law.{law}
 use Rattle.app_model.specs.Ranges.{mode_range, sane_range, widest_mode}
 use Rattle.app_model.specs.Starts.{start_of}
 use Rattle.app_model.proofs.AreaLaws.{law_lies_during, start_lies_after_init}
 use Rattle.app_model.proofs.Lengths.{law_eight}
 use Rattle.app_model.proofs.Tables.{tables_narrow}
-use Rattle.app_model.proofs.Within.{each_kind}
+use Rattle.kind_table.proofs.EachKind.{each_kind}
 use Rattle.airframe.specs.Motion.{IsFlyable}
 use Rattle.airframe.proofs.Flyable.{flyable}
 use Rattle.fault_script.specs.Environments.{env_at}

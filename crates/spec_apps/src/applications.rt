@@ -2,7 +2,7 @@
 
 ghost use Rattle.std.specs.Prelude.{◌≡◌, ◌≤◌, ◌<◌, None, length, is_some, IfOk};
 ghost use Rattle.serde_json.specs.View.{view};
-ghost use Rattle.app_model.specs.Names.{mode_names, number_in};
+ghost use Rattle.kind_table.specs.Names.{mode_names, number_in};
 ghost use Rattle.scram_types.specs.Specification.{mode_in};
 ghost use Rattle.scram_doc.specs.Chain.{ok_map};
 ghost use Rattle.spec_members.specs.Modes.{read_kind_mode};
@@ -10,7 +10,7 @@ ghost use Rattle.spec_apps.specs.Applications.{read_new_mode, read_phase, read_m
 ghost use Rattle.spec_members.specs.Facts.{IsListed};
 ghost use Rattle.spec_apps.specs.Facts.{IsNewMode, IsNewApp};
 
-use app_model::{kind_named, mode_named};
+use kind_table::{kind_named, mode_named};
 use scram_doc::{
     DocError, DocFault, Elements, Lengths, NamedElements, Numbered, Path, list, no_more_than,
     object, read_list, required, text, whole_in,

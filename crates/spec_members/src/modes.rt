@@ -2,13 +2,13 @@
 
 ghost use Rattle.std.specs.Prelude.{◌≡◌, IfOk};
 ghost use Rattle.serde_json.specs.View.{view};
-ghost use Rattle.app_model.specs.Names.{mode_names, number_in};
+ghost use Rattle.kind_table.specs.Names.{mode_names, number_in};
 ghost use Rattle.scram_doc.specs.Chain.{ok_map};
 ghost use Rattle.spec_members.specs.Facts.{IsListed};
 ghost use Rattle.spec_members.specs.Modes.{read_kind_mode};
 
 use crate::rule;
-use app_model::mode_named;
+use kind_table::mode_named;
 use scram_doc::{DocFault, Path, text};
 use scram_types::{KindId, Mode};
 use serde_json::Value;

@@ -14,7 +14,7 @@ ghost use Rattle.spec_members.specs.Found.{AreMembers};
 use crate::choices::{read_conf_id, read_source};
 use crate::configurations::find_app;
 use crate::vocabulary::Vocabulary;
-use app_model::variable_named;
+use kind_table::variable_named;
 use scram_doc::{
     DocError, DocFault, Elements, Lengths, Numbered, Path, int_in, no_more_than, object, read_list,
     required, text,

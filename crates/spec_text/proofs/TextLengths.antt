@@ -11,11 +11,11 @@ use Rattle.scram_types.specs.declared.specification.AppSpec.{AppSpec}
 use Rattle.scram_types.specs.Names.{is_name, is_name_byte}
 use Rattle.scram_types.specs.Numbers.{minus}
 use Rattle.scram_types.specs.Specification.{Each}
-use Rattle.app_model.specs.Names.{kind_names, mode_names, name_in, variable_names}
+use Rattle.kind_table.specs.Names.{kind_names, mode_names, name_in, variable_names}
 use Rattle.spec_text.specs.Texts.{name_of_app_mode, name_of_kind, name_of_mode, name_of_item, name_or_nothing, name_of_kind_variable, name_of_variable}
 use Rattle.scram_doc.specs.Canonical.{count_data, integer_data}
 use Rattle.scram_doc.proofs.TextLengths.{weight}
-use Rattle.app_model.proofs.ShortNames.{AreShort, mode_names_short, variable_names_short}
+use Rattle.kind_table.proofs.ShortNames.{AreShort, mode_names_short, variable_names_short}
 
 -- The maximum length of a text in JSON: six bytes for each byte, between two quotes.
 abbrev pub widest : List ℕ → ℕ

@@ -24,7 +24,7 @@ use Rattle.scram_types.specs.declared.ids.Mode.{Mode}
 use Rattle.scram_types.specs.declared.specification.Policy.{Policy}
 use Rattle.scram_types.specs.declared.specification.Policy.TheVariants.{Retarget, Settle}
 use Rattle.scram_types.specs.Specification.{Parts}
-use Rattle.app_model.specs.Names.{kind_names, mode_names, variable_names, name_in}
+use Rattle.kind_table.specs.Names.{kind_names, mode_names, variable_names, name_in}
 use Rattle.scram_doc.specs.Canonical.{count_data, integer_data, list_data}
 use Rattle.spec_members.specs.Names.{name_of_proc, name_of_app, name_of_conf, name_of_factor}
 use Rattle.scram_doc.specs.Numbering.{itself}

@@ -3,7 +3,7 @@
 ghost use Rattle.std.specs.Prelude.{◌≡◌};
 ghost use Rattle.spec_text.specs.Texts.{name_of_app_mode, name_of_value, name_of_variable, policy_name, source_name};
 
-use app_model::{mode_name, variable_name};
+use kind_table::{mode_name, variable_name};
 use scram_types::{AppId, AppSpec, ConfId, Mode, Policy, Spec, Want};
 
 /// Returns the name of a source configuration, or `*` if `from` is `None`.

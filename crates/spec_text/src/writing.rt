@@ -8,7 +8,7 @@ ghost use Rattle.serde_json.specs.View.{members_view, view};
 ghost use Rattle.spec_text.specs.Texts.{app_data, assumption_data, bound_data, choice_data, conf_data, demand_data, factor_data, goal_data, invariant_data, mode_data, name_of_app_mode, names_data, need_data, on_app_data, on_data, place_data, places_data, precondition_data, proc_data, set_data, spec_data, spec_text, want_data, with_asked, with_condition, with_demands, with_limits, with_named, with_table, with_version};
 
 use crate::values::{name_of_app_mode, name_of_value, name_of_variable, policy_name, source_name};
-use app_model::{kind_name, mode_name};
+use kind_table::{kind_name, mode_name};
 use scram_doc::{Naming, Writes, put_list, write_list};
 use scram_types::bits::is_in;
 use scram_types::{

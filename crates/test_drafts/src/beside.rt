@@ -3,12 +3,12 @@
 ghost use Rattle.std.specs.Prelude.{◌<◌};
 
 use app_model::Rack;
-use app_model::kinds::autopilot::KIND;
 use app_model::racks::empty_racks;
 use bank_words::KernelImage;
 use fail_stop::{Live, Snapshot};
 use frame_model::sights::slot_in;
 use frame_model::{Input, Sys, decide, frame};
+use kind_table::kinds::autopilot::KIND;
 use mission_gen::uav;
 use scram_types::{Area, Env, Image, ProcId, Row, Spec};
 use std::io::{self, ErrorKind};

@@ -1,9 +1,9 @@
 //! Tests of the boxes of the five kinds with values that are worked out by hand.
 
 use airframe::step;
-use app_model::kinds::{autopilot, data_link, navigator, power_monitor, task};
 use app_model::racks::{empty_racks, rack_frame, racks_frame};
 use app_model::{App, Rack, Seen, rack_fits, start_area};
+use kind_table::kinds::{autopilot, data_link, navigator, power_monitor, task};
 use more_apps::PlainAutopilot;
 use racks::{Autopilot, Datalink, FlightControl, Navigator, PowerMonitor, rack, racks};
 use scram_types::{Area, Goal, KindId, Mode, Order, ProcId, World};
@@ -60,7 +60,7 @@ fn airframe_steps_as_was_worked_out(rt: HostRuntime) {
 
 #[test]
 fn autopilot_answers_as_was_worked_out(rt: HostRuntime) {
-    use app_model::kinds::autopilot::{HOLD, KIND, NAVIGATE};
+    use kind_table::kinds::autopilot::{HOLD, KIND, NAVIGATE};
     let mut app = Autopilot::new();
     let start = start_area(KindId(KIND));
     let held = [1, 0, 0, 5_000, 900, 3_950, 0, 0];
@@ -140,7 +140,7 @@ fn seen_with_autopilot(mode: u8, elevator: i64, status: i64, pitch: i64) -> Seen
 
 #[test]
 fn flight_control_answers_as_was_worked_out(rt: HostRuntime) {
-    use app_model::kinds::flight_control::{AUGMENTED, DIRECT};
+    use kind_table::kinds::flight_control::{AUGMENTED, DIRECT};
     let mut app = FlightControl::new();
     for (order, seen, want) in [
         (
@@ -199,7 +199,7 @@ fn seen_with_charge(mode: u8, charge: i64, first: u8, second: u8) -> Seen {
 
 #[test]
 fn power_monitor_answers_as_was_worked_out(rt: HostRuntime) {
-    use app_model::kinds::power_monitor::{ESSENTIAL, NORMAL, SAVER};
+    use kind_table::kinds::power_monitor::{ESSENTIAL, NORMAL, SAVER};
     let mut app = PowerMonitor::new();
     for (order, seen, want) in [
         (
@@ -266,7 +266,7 @@ fn seen_with_statuses(mode: u8, own: Area, statuses: [i64; 4]) -> Seen {
 
 #[test]
 fn data_link_answers_as_was_worked_out(rt: HostRuntime) {
-    use app_model::kinds::data_link::{FAST, SLOW};
+    use kind_table::kinds::data_link::{FAST, SLOW};
     let start = start_area(KindId(data_link::KIND));
     let mut app = Datalink::new();
     for (mode, own, statuses, want) in [

@@ -5,12 +5,12 @@ ghost use Rattle.std.specs.Prelude.{◌≡◌, ◌<◌};
 ghost use Rattle.scram_types.specs.Numbers.{FitsSums};
 ghost use Rattle.app_model.specs.FlightControl.{aileron_after, closer, command, elevator_after, flight_control_ran};
 
-use app_model::kinds::autopilot;
-use app_model::kinds::every_kind::STATUS;
-use app_model::kinds::flight_control::{AILERON, AUGMENTED, ELEVATOR, KIND};
 use app_model::orders::area_after;
 use app_model::reads::{next_ticks, read_lead, read_own};
 use app_model::{App, Seen};
+use kind_table::kinds::autopilot;
+use kind_table::kinds::every_kind::STATUS;
+use kind_table::kinds::flight_control::{AILERON, AUGMENTED, ELEVATOR, KIND};
 use scram_types::ranges::{clamped_in, make_range};
 use scram_types::{Area, KindId, Order};
 

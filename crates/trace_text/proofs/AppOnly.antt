@@ -16,7 +16,7 @@ use Rattle.trace_text.specs.declared.app_reading.Phase.TheVariants.{Halting, Pre
 use Rattle.trace_text.specs.AppReading.{app_in, app_read, bare_act, bare_line, done, is_bare_form, is_placed_form, phase_act, phase_line, phase_named, placed_line, ran_line}
 use Rattle.trace_text.specs.Lookups.{app_number, listed_mode}
 use Rattle.scram_types.specs.Lookups.{proc_named, proc_name}
-use Rattle.app_model.specs.Names.{mode_text}
+use Rattle.kind_table.specs.Names.{mode_text}
 use Rattle.trace_text.specs.Pieces.{pieces_of, sides, sides_of, words_in, words_of, is_word, word_at}
 use Rattle.trace_text.specs.Rules.{or_rule}
 use Rattle.trace_text.specs.Spelling.{signed_from, signed_of, spelled_number}

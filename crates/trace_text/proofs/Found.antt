@@ -13,7 +13,7 @@ use Rattle.scram_types.specs.declared.specification.ModeSpec.{ModeSpec}
 use Rattle.scram_types.specs.declared.specification.Proc.{Proc}
 use Rattle.trace_text.specs.Lookups.{conf_or_none, app_number, mode_from, listed_mode}
 use Rattle.scram_types.specs.Lookups.{number_from, value_named, proc_named, conf_named, proc_id, conf_id, value_name, proc_name, conf_name}
-use Rattle.app_model.specs.Names.{mode_text}
+use Rattle.kind_table.specs.Names.{mode_text}
 use Rattle.trace_text.specs.Names.{conf_or_dash}
 use Rattle.scram_types.proofs.Equality.{same_text}
 use Rattle.trace_text.proofs.Inversion.{map_some}

@@ -16,7 +16,7 @@ use Rattle.scram_types.specs.declared.orders.Act.{Act}
 use Rattle.scram_types.specs.declared.orders.Act.TheVariants as act
 use Rattle.scram_types.specs.declared.specification.AppSpec.{AppSpec}
 use Rattle.scram_types.proofs.FoundByName.{proc_found_back}
-use Rattle.app_model.specs.Names.{mode_text}
+use Rattle.kind_table.specs.Names.{mode_text}
 use Rattle.trace_text.specs.declared.app_reading.Phase.{Phase}
 use Rattle.trace_text.specs.declared.app_reading.Phase.TheVariants.{Halting, Preparing, Initialising}
 use Rattle.trace_text.specs.declared.progress.Expected.TheVariants.{Apps}

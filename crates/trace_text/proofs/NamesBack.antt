@@ -19,9 +19,9 @@ use Rattle.scram_types.proofs.Equality.{same_text}
 use Rattle.scram_types.proofs.FoundByName.{found_named}
 use Rattle.scram_types.proofs.Items.{some_item}
 use Rattle.scram_types.proofs.Options.{same_some}
-use Rattle.app_model.specs.Names.{IsModeNumber, mode_names, mode_text, name_in, number_in}
-use Rattle.app_model.proofs.Spelling.{all_names_agree}
-use Rattle.app_model.proofs.Within.{each_kind}
+use Rattle.kind_table.specs.Names.{IsModeNumber, mode_names, mode_text, name_in, number_in}
+use Rattle.kind_table.proofs.Spelling.{all_names_agree}
+use Rattle.kind_table.proofs.EachKind.{each_kind}
 use Rattle.trace_text.specs.Lookups.{app_number, conf_or_none, listed_mode, mode_from}
 use Rattle.trace_text.specs.Names.{conf_or_dash}
 use Rattle.trace_text.proofs.WordBytes.{all_over, name_over}

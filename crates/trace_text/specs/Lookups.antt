@@ -6,7 +6,7 @@ use Rattle.scram_types.specs.declared.ids.Mode.{Mode}
 use Rattle.scram_types.specs.declared.specification.AppSpec.{AppSpec}
 use Rattle.scram_types.specs.declared.specification.ModeSpec.{ModeSpec}
 use Rattle.scram_types.specs.Specification.{Parts}
-use Rattle.app_model.specs.Names.{mode_text}
+use Rattle.kind_table.specs.Names.{mode_text}
 
 -- The configuration of this name, `Some None` for `-`, or `None` if the name is unknown.
 abbrev pub conf_or_none : Parts → List ℕ → Option (Option ConfId)

@@ -12,7 +12,7 @@ use Rattle.scram_types.specs.declared.orders.Act.{Act}
 use Rattle.scram_types.specs.declared.orders.Act.TheVariants.{Ran, Halting, Held, Preparing, Initialising, Off, Lost}
 use Rattle.scram_types.specs.declared.orders.KMode.{KMode}
 use Rattle.scram_types.specs.declared.orders.KMode.TheVariants.{Stable, Moving}
-use Rattle.app_model.specs.Names.{mode_text}
+use Rattle.kind_table.specs.Names.{mode_text}
 use Rattle.trace_text.specs.Names.{conf_or_dash, joined, values_named, names_up}
 use Rattle.scram_types.specs.Lookups.{proc_name, conf_name}
 

@@ -1,13 +1,13 @@
 //! The lines of a row: the first line, and a line for each application.
 
 ghost use Rattle.std.specs.Prelude.{◌≡◌, ◌+◌, ◌*◌, ◌≤◌, ◌++◌, [], length, codes, if◌then◌else◌};
-ghost use Rattle.app_model.specs.Names.{mode_text};
+ghost use Rattle.kind_table.specs.Names.{mode_text};
 ghost use Rattle.trace_text.specs.Names.{conf_or_dash, values_named, further_joined};
 ghost use Rattle.trace_text.specs.Text.{kernel_mode_text, values_text, up_text, world_text, row_line, phase_text, act_text, area_text, app_line};
 ghost use Rattle.scram_types.specs.declared.limits.TheConstants.{MAX_LINE_BYTES};
 
 use crate::lines::Line;
-use app_model::mode_name;
+use kind_table::mode_name;
 use scram_types::{
     Act, AppSpec, Area, ConfId, Factor, KMode, KindId, Mode, Name, ProcId, Row, Spec, World,
 };
@@ -46,7 +46,7 @@ pub fn make_app_line(spec: &Spec, app: &AppSpec, act: &Act, area: &Area) -> Line
     line
 }
 
-#[tactic(auto, using(app_model::proofs::ShortNames::mode_short))]
+#[tactic(auto, using(kind_table::proofs::ShortNames::mode_short))]
 pub fn name_of_mode(kind: KindId, mode: Mode) -> &'static str
     ensures name { result.now ≡ mode_text kind.0 mode.0 }
     ensures short { length result.now ≤ 16 }

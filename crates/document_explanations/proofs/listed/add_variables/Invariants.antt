@@ -1,5 +1,5 @@
 use Rattle.std.proofs.Common.{◌≡◌, ◌++◌, drop, map}
-use Rattle.app_model.specs.Kinds.{variable_read}
+use Rattle.kind_table.specs.Kinds.{variable_read}
 use Rattle.document_explanations.specs.Wants.{variables_spaced}
 use Rattle.document_explanations.proofs.listed.add_variables.Given as goal
 

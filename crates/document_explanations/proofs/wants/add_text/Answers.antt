@@ -1,4 +1,4 @@
-use Rattle.app_model.specs.Kinds.{kind_read}
+use Rattle.kind_table.specs.Kinds.{kind_read}
 use Rattle.document_explanations.specs.Wants.{kind_words, kind_and_modes, variables_text}
 use Rattle.document_explanations.proofs.Listing.{listed_read}
 use Rattle.document_explanations.proofs.wants.add_text.Goals as goal

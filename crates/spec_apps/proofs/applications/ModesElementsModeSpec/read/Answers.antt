@@ -1,5 +1,5 @@
 use Rattle.std.proofs.Common.{◌<◌, arith}
-use Rattle.app_model.proofs.Spelling.{all_names_agree}
+use Rattle.kind_table.proofs.Spelling.{all_names_agree}
 use Rattle.spec_apps.proofs.applications.ModesElementsModeSpec.read.Goals as goal
 
 -- A mode whose name is found is one of the kind's modes.

@@ -1,6 +1,6 @@
 use Rattle.std.proofs.Common.{◌≡◌, drop, map, option_map}
-use Rattle.app_model.specs.Names.{number_in, number_in_from}
-use Rattle.app_model.proofs.names.number_in.Given as goal
+use Rattle.kind_table.specs.Names.{number_in, number_in_from}
+use Rattle.kind_table.proofs.names.number_in.Given as goal
 
 abbrev pub invariant-loop-name : goal.invariant-loop-name
 invariant-loop-name l = (l.number ≡ l.name-index)

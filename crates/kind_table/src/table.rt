@@ -2,7 +2,7 @@
 #![tactic(auto, unfolding(crate::specs::Kinds::kind_variable))]
 
 ghost use Rattle.std.specs.Prelude.{◌≡◌, ◌≤◌, IfSome, length, option_map};
-ghost use Rattle.app_model.specs.Kinds.{find_kind, kind_or_last, kind_read, kind_variable, range_in, variable_read};
+ghost use Rattle.kind_table.specs.Kinds.{find_kind, kind_or_last, kind_read, kind_variable, range_in, variable_read};
 
 use crate::kinds::every_kind::MOST_TICKS;
 use crate::kinds::{autopilot, data_link, flight_control, navigator, power_monitor, task};

@@ -2,14 +2,14 @@
 use Rattle.std.specs.Prelude.{ℕ, ℤ, pos, Bool, true, false, List, [], ◌∷◌, Option, Some, None, codes, map, option_map, slice_get, slice_index_or, ◌==◌, if◌then◌else◌}
 use Rattle.scram_types.specs.declared.ranges.Range.{Range}
 use Rattle.scram_types.specs.Ranges.{limit}
-use Rattle.app_model.specs.declared.table.Kind.{Kind as TableKind}
-use Rattle.app_model.specs.declared.table.Variable.{Variable as TableVariable}
-use Rattle.app_model.specs.declared.kinds.autopilot.TheConstants.{NAVIGATE}
-use Rattle.app_model.specs.declared.kinds.flight_control.TheConstants.{DIRECT}
-use Rattle.app_model.specs.declared.kinds.power_monitor.TheConstants.{NORMAL}
-use Rattle.app_model.specs.declared.kinds.navigator.TheConstants.{ROUTE}
-use Rattle.app_model.specs.declared.kinds.data_link.TheConstants.{FAST}
-use Rattle.app_model.specs.declared.kinds.task.TheConstants.{FULL}
+use Rattle.kind_table.specs.declared.table.Kind.{Kind as TableKind}
+use Rattle.kind_table.specs.declared.table.Variable.{Variable as TableVariable}
+use Rattle.kind_table.specs.declared.kinds.autopilot.TheConstants.{NAVIGATE}
+use Rattle.kind_table.specs.declared.kinds.flight_control.TheConstants.{DIRECT}
+use Rattle.kind_table.specs.declared.kinds.power_monitor.TheConstants.{NORMAL}
+use Rattle.kind_table.specs.declared.kinds.navigator.TheConstants.{ROUTE}
+use Rattle.kind_table.specs.declared.kinds.data_link.TheConstants.{FAST}
+use Rattle.kind_table.specs.declared.kinds.task.TheConstants.{FULL}
 
 -- A word of a kind's area. `name` is `None` if the kind does not use the word. `ranges` are the word's ranges by
 -- mode, and `initialised` are its ranges after an init phase. `moves` is `true` if a halt brings the word to 0.

@@ -4,7 +4,7 @@ use Rattle.std.specs.Prelude.{◌≡◌, ℕ, ◌<◌, ◌≤◌, ◌+◌, Bool,
 use Rattle.std.specs.Option.{option_map_or}
 use Rattle.std.specs.Str.{bytes_eq}
 use Rattle.scram_types.specs.Specification.{modes_of_kind}
-use Rattle.app_model.specs.Kinds.{Kind, Variable, find_kind, kinds}
+use Rattle.kind_table.specs.Kinds.{Kind, Variable, find_kind, kinds}
 
 -- The table of the names of kinds.
 abbrev pub kind_names : List (Option (List ℕ))

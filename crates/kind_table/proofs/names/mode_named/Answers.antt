@@ -1,7 +1,7 @@
 use Rattle.std.proofs.Common.{◌≡◌, Some}
-use Rattle.app_model.specs.Names.{mode_names, number_in}
-use Rattle.app_model.proofs.Spelling.{each_is_named}
-use Rattle.app_model.proofs.names.mode_named.Goals as goal
+use Rattle.kind_table.specs.Names.{mode_names, number_in}
+use Rattle.kind_table.proofs.Spelling.{each_is_named}
+use Rattle.kind_table.proofs.names.mode_named.Goals as goal
 
 pub returns-in-Some-clause-of_kind : goal.returns-in-Some-clause-of_kind
 returns-in-Some-clause-of_kind c = λ built.

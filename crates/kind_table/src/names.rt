@@ -2,8 +2,8 @@
 
 ghost use Rattle.std.specs.Prelude.{◌≡◌, ◌≤◌, ◌<◌, IfSome, length, map, option_map};
 ghost use Rattle.scram_types.specs.Specification.{modes_of_kind};
-ghost use Rattle.app_model.specs.Kinds.{variable_read};
-ghost use Rattle.app_model.specs.Names.{kind_names, mode_names, variable_names, is_spelled, IsModeNumber, AllNamesAgree, number_in, name_in};
+ghost use Rattle.kind_table.specs.Kinds.{variable_read};
+ghost use Rattle.kind_table.specs.Names.{kind_names, mode_names, variable_names, is_spelled, IsModeNumber, AllNamesAgree, number_in, name_in};
 
 use crate::table::{
     AUTOPILOT, DATA_LINK, FLIGHT_CONTROL, NAVIGATOR, POWER_MONITOR, TASK, Variable, find_kind,

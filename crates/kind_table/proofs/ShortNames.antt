@@ -2,7 +2,7 @@
 use Rattle.std.proofs.Common.{◌≤◌, ℕ, zero, suc, List, [], ◌∷◌, Option, Some, None, length, arith}
 use Rattle.std.specs.Prelude.{⊤}
 use Rattle.std.specs.Option.{option_map_or}
-use Rattle.app_model.specs.Names.{mode_names, mode_text, name_in, variable_names}
+use Rattle.kind_table.specs.Names.{mode_names, mode_text, name_in, variable_names}
 
 abbrev pub AreShort : List (Option (List ℕ)) → Type 0
 AreShort [] = ⊤

@@ -4,11 +4,11 @@ use Rattle.std.specs.Prelude.{codes}
 use Rattle.std.specs.Str.{bytes_eq}
 use Rattle.std.proofs.Math.Bool.{or-true}
 use Rattle.std.proofs.lemmas.Slice.Eq.{bytes_eq-Decides}
-use Rattle.app_model.specs.Names.{kind_names, mode_names, variable_names, is_spelled, IsModeNumber, NamesAgree, KindIsNamed, AllNamesAgree, number_in, number_in_from, name_in}
+use Rattle.kind_table.specs.Names.{kind_names, mode_names, variable_names, is_spelled, IsModeNumber, NamesAgree, KindIsNamed, AllNamesAgree, number_in, number_in_from, name_in}
 use Rattle.scram_types.specs.Specification.{modes_of_kind}
 use Rattle.scram_types.proofs.Booleans.{and_right}
 use Rattle.scram_types.proofs.Equality.{same_text}
-use Rattle.app_model.proofs.Within.{each_kind}
+use Rattle.kind_table.proofs.EachKind.{each_kind}
 
 -- Whether the text is a name of the table.
 abbrev stands : List (Option (List ℕ)) → List ℕ → Bool

@@ -1,0 +1,3 @@
+pub mod EachKind
+pub mod Spelling
+pub mod ShortNames

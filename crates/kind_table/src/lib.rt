@@ -1,0 +1,9 @@
+//! The table of the kinds of application: their numbers, their modes, the words of their areas with the ranges of the
+//! words, and the names of all of these.
+#![tactic(auto)]
+
+pub mod kinds;
+pub mod names;
+pub mod table;
+
+pub use names::{kind_name, kind_named, mode_name, mode_named, variable_name, variable_named};
