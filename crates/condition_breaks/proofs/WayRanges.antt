@@ -13,6 +13,7 @@ use Rattle.scram_types.specs.declared.specification.Place.{Place}
 use Rattle.scram_types.specs.Lookups.{conf_id, kind_of_app, place_of}
 use Rattle.scram_types.specs.Searches.{any_below, first_below}
 use Rattle.scram_types.specs.Specification.{Each, Parts}
+use Rattle.std.proofs.Math.Bool.{or-false}
 use Rattle.scram_types.proofs.Booleans.{and_left, and_right, and_true, or_cases, or_left, or_right, same_test, true_false}
 use Rattle.scram_types.proofs.Integers.{int_is, int_of}
 use Rattle.scram_types.proofs.Naturals.{differ_test, same_or_not}
@@ -41,10 +42,6 @@ shown_before : {A B : Type 0} (f : A → B) (b : Bool) (x : A) (o : Option A) (c
     → option_map f (if b then Some x else o) ≡ shown_if (b || c) y
 shown_before f true x o c y here later = ap Some here
 shown_before f false x o c y here later = later
-
-or_none : (b : Bool) → (b || false) ≡ b
-or_none true = refl
-or_none false = refl
 
 not_not : (b : Bool) → not b ≡ true → b ≡ false
 not_not true e = sym e
@@ -156,7 +153,7 @@ module _ (spec : Parts) (inv : Invariant) where
       any_of_both (gathered_below ways n) (ways n) ∙ ap (λ t. t || list_any (is_unheld spec inv) (ways n)) (any_gathered ways n)
 
   any_one : (b : Bool) (taken : Way) → list_any (is_unheld spec inv) (one_if b taken) ≡ (b && is_unheld spec inv taken)
-  any_one true taken = or_none (is_unheld spec inv taken)
+  any_one true taken = or-false (is_unheld spec inv taken)
   any_one false taken = refl
 
   -- Lemmas on the ways from source `i`.

@@ -3,6 +3,7 @@ use Rattle.std.proofs.Common.{◌≡◌, ◌∙◌, ℕ, suc, ◌+◌, ◌<◌, 
 use mathlib.Core.Logic.{inl, inr}
 use Rattle.std.specs.Prelude.{◌==◌, nat_le, find, Option, Some, None, if◌then◌else◌}
 use Rattle.std.specs.List.{list_any}
+use Rattle.std.proofs.Math.Bool.{or-false}
 use Rattle.std.proofs.lemmas.Bool.Decides.{nat_tests}
 use Rattle.scram_types.specs.declared.scripts.HaltAt.{HaltAt}
 use Rattle.scram_types.specs.Scripts.{ScriptParts}
@@ -51,15 +52,11 @@ none_after w p f x (y ∷ ys) far next =
     let past = later f p x.frame x.proc.0 y.frame y.proc.0 far (next 0 x y refl refl) in
     rw (apart f p y.frame y.proc.0 past) (none_after w p f y ys (reached f p y.frame y.proc.0 past) (tail x (y ∷ ys) next))
 
-pub or_false : (b : Bool) → (b || false) ≡ b
-or_false true = refl
-or_false false = refl
-
 by_first : (w p f : ℕ) (x : HaltAt) (xs : List HaltAt) → EachNext HaltBefore (x ∷ xs) → (b : Bool) → is_halt_in p f x ≡ b
     → list_any (λ (halt : HaltAt). is_halt_in p f halt && nat_le halt.step w) xs ≡ is_early w (find (is_halt_in p f) xs)
     → ((b && nat_le x.step w) || list_any (λ (halt : HaltAt). is_halt_in p f halt && nat_le halt.step w) xs) ≡ is_early w (if b then Some x else find (is_halt_in p f) xs)
 by_first w p f x xs next true is rest =
-    rw (none_after w p f x xs (here (x.proc.0 == p) (x.frame == f) p f x.frame x.proc.0 refl refl is) next) (or_false (nat_le x.step w))
+    rw (none_after w p f x xs (here (x.proc.0 == p) (x.frame == f) p f x.frame x.proc.0 refl refl is) next) (or-false (nat_le x.step w))
 by_first w p f x xs next false is rest = rest
 
 early_is : (w p f : ℕ) (halts : List HaltAt) → EachNext HaltBefore halts

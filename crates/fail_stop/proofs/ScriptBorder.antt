@@ -7,6 +7,7 @@ use Rattle.scram_types.specs.declared.scripts.HaltAt.{HaltAt}
 use Rattle.scram_types.specs.declared.scripts.RestartAt.{RestartAt}
 use Rattle.scram_types.specs.Scripts.{ScriptParts}
 use Rattle.scram_types.specs.Specification.{Parts}
+use Rattle.std.proofs.Math.Bool.{or-false}
 use Rattle.scram_types.proofs.Booleans.{and_left, not_true}
 use Rattle.scram_types.proofs.Items.{any_found}
 use Rattle.scram_types.proofs.Naturals.{equal}
@@ -21,7 +22,7 @@ use Rattle.fail_stop.specs.Schedules.{IsUpBy, is_up_after, latest}
 use Rattle.fail_stop.specs.ScriptFlights.{flight_of, halt_step, image_words, image_words_after}
 use Rattle.fail_stop.proofs.EachState.{flies}
 use Rattle.fail_stop.proofs.FrameSteps.{img_yes, img_no, last_yes, last_no, side_yes, side_no}
-use Rattle.fail_stop.proofs.HaltSteps.{commits_by, is_early, or_false}
+use Rattle.fail_stop.proofs.HaltSteps.{commits_by, is_early}
 
 -- Lemmas on the element that a search in a list finds.
 
@@ -66,7 +67,7 @@ none_later p h g x xs of_p once = not_true (list_any (is_restart_between p h g) 
 back_list_at : (p h g : ℕ) (x : RestartAt) (xs : List RestartAt) → EachLater Differ (x ∷ xs) → (b : Bool) → (x.proc.0 == p) ≡ b
     → back_by (option_map (λ (r : RestartAt). r.frame) (find (is_restart_of p) xs)) h g ≡ list_any (is_restart_between p h g) xs
     → back_by (option_map (λ (r : RestartAt). r.frame) (if b then Some x else find (is_restart_of p) xs)) h g ≡ ((b && nat_lt h x.frame && nat_le x.frame g) || list_any (is_restart_between p h g) xs)
-back_list_at p h g x xs once true is rest = rw (none_later p h g x xs is once) (sym (or_false (nat_lt h x.frame && nat_le x.frame g)))
+back_list_at p h g x xs once true is rest = rw (none_later p h g x xs is once) (sym (or-false (nat_lt h x.frame && nat_le x.frame g)))
 back_list_at p h g x xs once false is rest = rest
 
 back_list : (p h g : ℕ) (xs : List RestartAt) → EachLater Differ xs

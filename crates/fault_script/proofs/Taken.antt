@@ -1,7 +1,7 @@
 -- Facts that follow if a step of reading returns a value.
-use Rattle.std.proofs.Common.{◌≡◌, ◌≤◌, ◌<◌, ◌+◌, ℕ, zero, suc, Bool, true, false, ◌&&◌, ◌||◌, List, [], ◌∷◌, length, arith, refl, ap, sym, ◌∙◌, nat_lt, inl, inr}
+use Rattle.std.proofs.Common.{◌≡◌, ◌≤◌, ◌<◌, ◌+◌, ℕ, zero, suc, Bool, true, false, ◌&&◌, List, [], ◌∷◌, length, arith, refl, ap, sym, ◌∙◌, nat_lt, inl, inr}
 use Rattle.std.specs.Prelude.{Option, Some, None, Result, Ok, Err, nat_le, option_and_then, bytes_eq, cond, slice_get, ⊤}
-use Rattle.std.proofs.lemmas.Bool.{and_parts, or_cases}
+use Rattle.std.proofs.lemmas.Bool.{and_parts, or_cases, or_parts}
 use Rattle.std.specs.List.{list_any}
 use Rattle.std.proofs.lemmas.Bool.Decides.{nat_tests}
 use Rattle.std.proofs.lemmas.Option.{option_and_then_some, cond_some, same_Some}
@@ -69,15 +69,11 @@ pub if_ok : {A : Type 0} (test : Bool) (x : Result A DocFault) (rule : ℕ) (at 
 if_ok true x rule at a e = e
 if_ok false x rule at a e = absurd cc
 
-or_none : (a b : Bool) → (a || b) ≡ false → (a ≡ false) × (b ≡ false)
-or_none true b e = absurd cc
-or_none false b e = (refl, e)
-
 -- If no item of a list passes a test, the item at each index fails it.
 pub none_passes : {A : Type 0} (p : A → Bool) (xs : List A) (i : ℕ) (y : A) → list_any p xs ≡ false → slice_get xs i ≡ Some y → p y ≡ false
 none_passes p [] i y none e = absurd cc
-none_passes p (x ∷ xs) zero y none e = let parts = or_none (p x) (list_any p xs) none in ap p (sym (same_Some x y e)) ∙ parts.0
-none_passes p (x ∷ xs) (suc i) y none e = let parts = or_none (p x) (list_any p xs) none in none_passes p xs i y parts.1 e
+none_passes p (x ∷ xs) zero y none e = let parts = or_parts (p x) (list_any p xs) none in ap p (sym (same_Some x y e)) ∙ parts.0
+none_passes p (x ∷ xs) (suc i) y none e = let parts = or_parts (p x) (list_any p xs) none in none_passes p xs i y parts.1 e
 
 -- If some item of a list passes a test, there is an index of such an item.
 pub some_passes : {A P : Type 0} (p : A → Bool) (xs : List A) → list_any p xs ≡ true → ((i : ℕ) (y : A) → slice_get xs i ≡ Some y → p y ≡ true → P) → P

@@ -1,15 +1,15 @@
 -- Each part of a picture consists of whole lines.
-use Rattle.std.proofs.Common.{◌≡◌, ℕ, zero, suc, ◌+◌, ◌-◌, ◌*◌, ◌<◌, ◌≤◌, ◌^◌, min, Bool, true, false, cond, List, [], ◌∷◌, ◌++◌, Option, Some, None, IfSome, drop, length, decimal, refl, ap, append_assoc, arith, div-le_self, mul-le-mul, ◌∙◌}
-use Rattle.std.specs.Prelude.{◌==◌, ◌&&◌, codes, nat_lt, slice_get, if◌then◌else◌}
+use Rattle.std.proofs.Common.{◌≡◌, ℕ, zero, suc, ◌+◌, ◌-◌, ◌*◌, ◌<◌, ◌≤◌, ◌^◌, min, Bool, true, false, cond, List, [], ◌∷◌, ◌++◌, Option, Some, None, drop, length, decimal, refl, ap, append_assoc, arith, div-le_self, mul-le-mul, ◌∙◌}
+use Rattle.std.specs.Prelude.{codes, nat_lt, slice_get, if◌then◌else◌}
 use Rattle.std.specs.Option.{option_map_or}
-use Rattle.scram_types.specs.Specification.{Each, IsBound, IsSpec, Parts, bound_in, greater_of, greatest_bound_from}
+use Rattle.scram_types.specs.Specification.{Each, IsSpec, Parts}
 use Rattle.scram_types.specs.Lookups.{conf_name}
 use Rattle.scram_types.specs.declared.rows.Report.{Report}
 use Rattle.scram_types.specs.declared.rows.Row.{Row}
 use Rattle.scram_types.specs.declared.ids.ConfId.{ConfId}
-use Rattle.scram_types.specs.declared.specification.Bound.{Bound}
 use Rattle.trace_text.specs.Names.{conf_or_dash}
 use Rattle.trace_text.specs.Text.{bound_text}
+use Rattle.trace_text.proofs.ReportsBack.{IsSmallBound, bound_small, greatest_small}
 use Rattle.trace_text.proofs.WordBytes.{all_over}
 use Rattle.flight_facts.specs.Margins.{bound_of, bound_to}
 use Rattle.flight_facts.specs.Spans.{alike_rows, is_new, stable_conf}
@@ -164,38 +164,11 @@ lane_walk spec sheet rows strip sound inside low known few =
 
 -- Lemmas that the boxes of reconfigurations consist of whole lines.
 
--- If a bound is given, it is at most 1000 frames.
-abbrev IsGiven : Option ℕ → Type 0
-IsGiven given = IfSome given (λ (frames : ℕ). frames ≤ 1000)
+bound_to_small : (spec : Parts) (from : ConfId) (to : Option ConfId) → IsSpec spec → IsSmallBound (bound_to spec from to)
+bound_to_small spec from None sound = greatest_small spec spec.bounds from.0 None sound.bounds tt
+bound_to_small spec from (Some to) sound = bound_small spec spec.bounds from.0 to.0 sound.bounds
 
-given_by : (t : Bool) (frames : ℕ) (more : Option ℕ) → frames ≤ 1000 → IsGiven more → IsGiven (cond t (Some frames) more)
-given_by true frames more one rest = one
-given_by false frames more one rest = rest
-
-given_in : (spec : Parts) (bounds : List Bound) (from to : ℕ) → Each (IsBound spec.confs) bounds → IsGiven (bound_in bounds from to)
-given_in spec [] from to sound = tt
-given_in spec (bound ∷ bounds) from to sound =
-    given_by (bound.from.0 == from && bound.to.0 == to) bound.frames (bound_in bounds from to) (sound 0 bound refl).most (given_in spec bounds from to (λ i x there. sound (suc i) x there))
-
-greater_by : (t : Bool) (frames most : ℕ) → frames ≤ 1000 → most ≤ 1000 → cond t frames most ≤ 1000
-greater_by true frames most one h = one
-greater_by false frames most one h = h
-
-greater_given : (greatest : Option ℕ) (frames : ℕ) → IsGiven greatest → frames ≤ 1000 → greater_of greatest frames ≤ 1000
-greater_given None frames h one = one
-greater_given (Some most) frames h one = greater_by (nat_lt most frames) frames most one h
-
-greatest_given : (spec : Parts) (bounds : List Bound) (from : ℕ) (greatest : Option ℕ) → Each (IsBound spec.confs) bounds → IsGiven greatest → IsGiven (greatest_bound_from greatest bounds from)
-greatest_given spec [] from greatest sound h = h
-greatest_given spec (bound ∷ bounds) from greatest sound h =
-    greatest_given spec bounds from (cond (bound.from.0 == from) (Some (greater_of greatest bound.frames)) greatest) (λ i x there. sound (suc i) x there)
-    (given_by (bound.from.0 == from) (greater_of greatest bound.frames) greatest (greater_given greatest bound.frames h (sound 0 bound refl).most) h)
-
-given_to : (spec : Parts) (from : ConfId) (to : Option ConfId) → IsSpec spec → IsGiven (bound_to spec from to)
-given_to spec from None sound = greatest_given spec spec.bounds from.0 None sound.bounds tt
-given_to spec from (Some to) sound = given_in spec spec.bounds from.0 to.0 sound.bounds
-
-bound_plain : (given : Option ℕ) → IsGiven given → all_over 32 (bound_text given) ≡ true
+bound_plain : (given : Option ℕ) → IsSmallBound given → all_over 32 (bound_text given) ≡ true
 bound_plain None h = refl
 bound_plain (Some frames) h = decimal_plain frames (omega (arith, h))
 
@@ -230,7 +203,7 @@ times_plain spec report sound known =
     (decimal_plain report.begin (omega (arith, begin)))
     (both_over 32 (end_text report report.to) (codes " took " ++ (decimal (report.end - report.begin) ++ (codes " of " ++ bound_text (bound_of spec report)))) (end_plain report report.to known)
     (both_over 32 (decimal (report.end - report.begin)) (codes " of " ++ bound_text (bound_of spec report)) (decimal_plain (report.end - report.begin) (omega (arith, end)))
-    (bound_plain (bound_of spec report) (given_to spec report.from report.to sound))))
+    (bound_plain (bound_of spec report) (bound_to_small spec report.from report.to sound))))
 
 title_plain : (spec : Parts) (report : Report) → IsSpec spec → IsReportDrawn report → all_over 32 (report_title spec report) ≡ true
 unfolding report_title

@@ -1,6 +1,6 @@
 -- A document that breaks a rule after its applications have been ranked has no cycle of needs.
 use Rattle.std.proofs.Common.{◌≡◌, [], refl, List}
-use Rattle.std.specs.Prelude.{Result, Ok, Err, ⊤}
+use Rattle.std.specs.Prelude.{Result, Ok, Err}
 use Rattle.serde_json.specs.Data.{Data}
 use Rattle.scram_types.specs.declared.specification.AppSpec.{AppSpec}
 use Rattle.scram_doc.specs.declared.fault.DocFault.{DocFault}

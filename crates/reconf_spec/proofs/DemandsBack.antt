@@ -1,5 +1,5 @@
 -- Demands are read back as they were written.
-use Rattle.std.proofs.Common.{◌≡◌, ◌≤◌, ◌<◌, ◌+◌, ◌==◌, ℕ, zero, suc, Bool, true, false, List, [], ◌∷◌, ◌++◌, length, map, set, replicate, take, arith, refl, ◌∙◌, ap, sym, subst, append_assoc, append-nil}
+use Rattle.std.proofs.Common.{◌≡◌, ◌≤◌, ◌<◌, ◌+◌, ◌==◌, ℕ, zero, suc, true, false, List, [], ◌∷◌, ◌++◌, length, map, set, replicate, take, arith, refl, ◌∙◌, ap, sym, subst, append_assoc, append-nil}
 use mathlib.Core.Logic.{inl, inr}
 use Rattle.std.specs.Prelude.{Option, Some, None, IsSome, Ok, codes, slice_get, is_some}
 use Rattle.std.proofs.Math.Seq.{set-append_seam}
@@ -20,7 +20,7 @@ use Rattle.scram_types.specs.Bits.{has_bit}
 use Rattle.scram_types.specs.Lookups.{number_from}
 use Rattle.scram_types.specs.ModeLists.{is_among}
 use Rattle.scram_types.specs.Names.{is_name}
-use Rattle.scram_types.specs.Specification.{AreSpelled, Each, IsDemand, IsModeSpec, IsOn, IsSpec, Parts, mode_in, modes_on}
+use Rattle.scram_types.specs.Specification.{Each, IsDemand, IsOn, IsSpec, Parts, mode_in}
 use Rattle.scram_types.proofs.BitSets.{bits_lt, has_bits, no_bit_past}
 use Rattle.scram_types.proofs.Booleans.{not_true, true_false}
 use Rattle.scram_types.proofs.Items.{any_found, next_part}
@@ -30,7 +30,7 @@ use Rattle.spec_members.specs.Names.{name_of_app, name_of_conf, name_of_demand, 
 use Rattle.spec_table.specs.Choices.{read_want}
 use Rattle.spec_table.specs.Configurations.{given}
 use Rattle.spec_table.specs.Demands.{on_set, read_demand, read_demands, read_modes_on, read_on_app, read_on_mode, read_on_modes}
-use Rattle.spec_text.specs.Texts.{demand_data, name_of_app_mode, name_of_mode, on_app_data, on_data, want_data}
+use Rattle.spec_text.specs.Texts.{demand_data, name_of_app_mode, on_app_data, on_data, want_data}
 use Rattle.reconf_spec.specs.Writable.{lists_want}
 use Rattle.reconf_spec.proofs.AppsBack.{mode_spelled}
 use Rattle.reconf_spec.proofs.ConfsBack.{listed_of_kind}

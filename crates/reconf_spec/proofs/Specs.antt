@@ -1,7 +1,7 @@
 -- Parts of a document that satisfy `AreNames` and `FitsRest` form a specification.
-use Rattle.std.proofs.Common.{◌≡◌, ◌∙◌, ◌≤◌, ◌==◌, ℕ, true, false, List, length, arith, ap, sym, subst, take}
+use Rattle.std.proofs.Common.{◌≡◌, ◌∙◌, ◌≤◌, ◌==◌, ℕ, false, List, length, arith, ap, sym, subst, take}
 use mathlib.Core.Logic.{inl, inr}
-use Rattle.std.specs.Prelude.{IsSome, Option, Some, None, is_some, slice_get}
+use Rattle.std.specs.Prelude.{IsSome, Option, Some, is_some, slice_get}
 use Rattle.std.proofs.lemmas.Int.{ints}
 use Rattle.scram_types.specs.declared.specification.Proc.{Proc}
 use Rattle.scram_types.specs.declared.specification.AppSpec.{AppSpec}

@@ -1,6 +1,6 @@
 //! How specifications are read.
 
-ghost use Rattle.std.specs.Prelude.{[], IfErr, IfOk, OnOk};
+ghost use Rattle.std.specs.Prelude.{IfErr, IfOk, OnOk};
 ghost use Rattle.serde_json.specs.View.{view};
 ghost use Rattle.scram_types.specs.Specification.{HasLength};
 ghost use Rattle.scram_doc.specs.Faults.{Answers};

@@ -14,7 +14,7 @@ use Rattle.scram_types.specs.declared.ids.Mode.{Mode}
 use Rattle.scram_types.specs.declared.specification.Demand.{Demand}
 use Rattle.scram_types.specs.Bits.{has_bit}
 use Rattle.scram_types.specs.ModeLists.{is_among}
-use Rattle.scram_types.specs.Specification.{IsOn, IsPlace, IsWant, IsBound, IsIn, IsInIfNamed, mode_in, bound_in}
+use Rattle.scram_types.specs.Specification.{IsPlace, IsWant, IsBound, IsIn, IsInIfNamed, mode_in, bound_in}
 use Rattle.scram_types.specs.Numbers.{minus}
 use Rattle.kind_table.specs.Names.{variable_names, number_in}
 use Rattle.spec_table.specs.declared.demands.Requirements.{Requirements}

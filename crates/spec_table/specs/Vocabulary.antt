@@ -1,6 +1,6 @@
 -- The processors, applications, configurations and factors of a document. The other parts of the document refer to
 -- them by name.
-use Rattle.std.specs.Prelude.{List, []}
+use Rattle.std.specs.Prelude.{List}
 use Rattle.scram_types.specs.declared.specification.Proc.{Proc}
 use Rattle.scram_types.specs.declared.specification.AppSpec.{AppSpec}
 use Rattle.scram_types.specs.declared.specification.Conf.{Conf}

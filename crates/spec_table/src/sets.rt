@@ -1,8 +1,7 @@
 //! Sets of processors, applications and configurations, which a document lists by their names.
 
-ghost use Rattle.std.specs.Prelude.{◌≡◌, ◌≤◌, ◌<◌, ◌^◌, false, true, length, IfOk};
+ghost use Rattle.std.specs.Prelude.{◌≡◌, ◌≤◌, ◌<◌, ◌^◌, length, IfOk};
 ghost use Rattle.serde_json.specs.View.{view, items_view};
-ghost use Rattle.scram_types.specs.Bits.{has_bit};
 ghost use Rattle.scram_doc.specs.Lists.{folded_from};
 ghost use Rattle.spec_table.specs.Facts.{IsApart};
 ghost use Rattle.spec_table.specs.Sets.{read_apps_set, read_confs_set, read_into, read_procs_set};

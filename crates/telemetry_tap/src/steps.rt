@@ -1,6 +1,6 @@
 //! The steps of writers and readers at a tap.
 
-ghost use Rattle.std.specs.Prelude.{◌≡◌, ◌≤◌, ◌+◌, Some, slice_get};
+ghost use Rattle.std.specs.Prelude.{◌≡◌, ◌≤◌, ◌+◌};
 ghost use Rattle.telemetry_tap.specs.Summaries.{IsRowAt, summary_after};
 ghost use Rattle.telemetry_tap.specs.Taps.{IsReaderOf, IsWriterOf, loads_of, rows_published, rows_seen, tap_mission};
 ghost use Rattle.telemetry_tap.specs.Words.{FitsWord};

@@ -1,6 +1,6 @@
 //! Watches, which take the rows of a flight while it runs.
 
-ghost use Rattle.std.specs.Prelude.{◌≡◌, ◌+◌, Some, slice_get};
+ghost use Rattle.std.specs.Prelude.{◌≡◌, ◌+◌};
 ghost use Rattle.telemetry_tap.specs.Summaries.{IsRowAt};
 ghost use Rattle.telemetry_tap.specs.Taps.{IsWriterOf};
 

@@ -19,5 +19,5 @@ pub mod NamesBack
 mod ListsBack
 pub mod LinesBack
 mod RowsBack
-mod ReportsBack
+pub mod ReportsBack
 pub mod FlightsBack

@@ -2,7 +2,7 @@
 
 ghost use Rattle.std.specs.Prelude.{◌≡◌, ◌+◌, ◌<◌, ◌≤◌, ℕ, None, Some, length};
 ghost use Rattle.fault_script.specs.Times.{words as words_of};
-ghost use Rattle.frame_model.specs.Flights.{draft, image_in};
+ghost use Rattle.frame_model.specs.Flights.{image_in};
 ghost use Rattle.fail_stop.specs.Events.{At, Halted, frame_of};
 ghost use Rattle.word_table.specs.Tables.{IsSeatOf, committed_image, flight_in, mission_in, proc_of, seat_place, tries_of};
 ghost use Rattle.word_deck.specs.Frames.{HaltsLate, IsAfter, IsSeatDraft};
