@@ -5,16 +5,16 @@ ghost use Rattle.scram_types.specs.Bits.{has_bit};
 ghost use Rattle.scram_types.specs.Lookups.{conf_name};
 ghost use Rattle.scram_types.specs.Searches.{any_below};
 ghost use Rattle.scram_types.specs.declared.limits.TheConstants.{MAX_LINE_BYTES};
-ghost use Rattle.choice_table.specs.Demands.{is_empty_or_holds, is_placed, modes_allow};
+ghost use Rattle.choice_table.specs.Demands.{is_empty_or_holds, is_placed};
 ghost use Rattle.choice_table.specs.Environments.{IsEnv};
 ghost use Rattle.acceptance_breaks.specs.Lines.{app_missed_text, demand_piece, first_off_missed, first_on_missed, is_off_missed, is_on_missed, members_text, missed_piece, missed_text, none_of_text, off_missed_text, whereabouts_text};
 
 use crate::choice_lines::add_situation;
 use choice_table::choose;
-use coverage_check::places::{count_apps, count_confs};
+use choice_table::demands::{is_empty_or_holds, is_placed};
 use form_base::lines::demand_name;
 use scram_types::bits::{has_bit, is_in};
-use scram_types::{AppId, ConfId, Demand, Env, Mode, Modes, Place, Spec};
+use scram_types::{AppId, ConfId, Demand, Env, Place, Spec};
 use trace_text::lines::Line;
 use trace_text::row_lines::name_of_mode;
 
@@ -68,12 +68,6 @@ fn add_none_of(line: &mut Line, spec: &Spec, demand: &Demand)
     add_members(line, spec, demand.to);
 }
 
-fn is_empty_or_holds(set: u16, c: ConfId) -> bool
-    ensures { result ≡ is_empty_or_holds set c }
-{
-    set == 0 || is_in(set, c.0)
-}
-
 // Appends the names of the configurations of a set, separated by a comma and a space.
 fn add_members(line: &mut Line, spec: &Spec, set: u16)
     requires { length line.old + 216 ≤ MAX_LINE_BYTES }
@@ -81,7 +75,7 @@ fn add_members(line: &mut Line, spec: &Spec, set: u16)
     ensures short { length line.new ≤ length line.old + 216 }
 {
     let mut is_further = false;
-    for c in 0..count_confs(spec) {
+    for c in 0..spec.count_confs() {
         if is_in(set, c) {
             add_member(line, spec, is_further, ConfId(c));
             is_further = true;
@@ -149,7 +143,7 @@ fn add_off_missed(line: &mut Line, spec: &Spec, missed: Option<u8>)
 fn first_on_missed(spec: &Spec, demand: &Demand, c: ConfId) -> Option<u8>
     ensures { result ≡ first_on_missed spec.now demand.now c }
 {
-    for a in 0..count_apps(spec) {
+    for a in 0..spec.count_apps() {
         if is_on_missed(spec, demand, c, a) {
             return Some(a);
         }
@@ -163,28 +157,12 @@ fn is_on_missed(spec: &Spec, demand: &Demand, c: ConfId, a: u8) -> bool
     !is_placed(demand.modes_on(AppId(a)), spec.place_of(c, AppId(a)))
 }
 
-fn is_placed(modes: Option<Modes>, place: Option<Place>) -> bool
-    ensures { result ≡ is_placed modes place }
-{
-    match (modes, place) {
-        (None, _) => true,
-        (Some(_), None) => false,
-        (Some(modes), Some(place)) => modes_allow(&modes, place.mode),
-    }
-}
-
-fn modes_allow(modes: &Modes, mode: Mode) -> bool
-    ensures { result ≡ modes_allow modes.now mode }
-{
-    modes.as_slice().is_empty() || modes.has(mode)
-}
-
 // Returns the first application that the demand requires to be off, but that is on in configuration `c`, or `None` if
 // there is none.
 fn first_off_missed(spec: &Spec, demand: &Demand, c: ConfId) -> Option<u8>
     ensures { result ≡ first_off_missed spec.now demand.now c }
 {
-    for a in 0..count_apps(spec) {
+    for a in 0..spec.count_apps() {
         if is_off_missed(spec, demand, c, a) {
             return Some(a);
         }

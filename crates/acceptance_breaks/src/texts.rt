@@ -17,7 +17,6 @@ use crate::lines::{
 };
 use condition_breaks::{Break, breaks_of};
 use coverage_check::choosing::Requirement;
-use coverage_check::places::count_confs;
 use scram_types::{ConfId, Env, NoMemory, Spec};
 use spec_forms::make_bound_line;
 use std::alloc::Global;
@@ -37,7 +36,7 @@ pub const MAX_BREAK_LINES: usize = 64;
 pub fn make_breaks(alloc: Global, spec: &Spec, condition: u8) -> Result<Vec<u8>, NoMemory>
     ensures { IfOk result (λ text. text.items ≡ breaks_text spec.now condition) }
 {
-    let _known = count_confs(spec);
+    let _known = spec.count_confs();
     let found = breaks_of(alloc, spec, condition)?;
     make_text(alloc, spec, &found)
 }

@@ -1,7 +1,7 @@
 //! The form `choices`. For each configuration, the form shows the rules that choose a target from the configuration.
 //! For each of these rules, it shows the number of environments in which the rule is the first that fits.
 
-ghost use Rattle.std.specs.Prelude.{◌≡◌, ◌<◌, ◌≤◌, ◌∷◌, [], IfOk, length};
+ghost use Rattle.std.specs.Prelude.{◌<◌, ◌∷◌, [], IfOk};
 ghost use Rattle.scram_types.specs.Lookups.{conf_id};
 ghost use Rattle.cube_cover.specs.Shares.{AreShares, IsShare, is_ruled_by};
 ghost use Rattle.coverage_check.specs.Form.{state_refusal};
@@ -93,24 +93,17 @@ pub fn find_shares(alloc: Global, spec: &Spec) -> Result<Vec<List<Share>>, NoMem
     ensures { IfOk result (λ shares. HasShares spec.now shares.items) }
 {
     let mut shares = Vec::new(alloc);
-    for i in 0..count_confs(spec) {
+    for i in 0..spec.count_confs() {
         shares.push(List::of(shares_of(alloc, spec, ConfId(i))?))?;
     }
     Ok(shares)
-}
-
-fn count_confs(spec: &Spec) -> u8
-    ensures value { result ≡ length spec.now.confs }
-    ensures few { result ≤ 12 }
-{
-    spec.confs.items().len() as u8
 }
 
 fn put_choices<K: Sink>(out: &mut K, spec: &Spec, shares: &[List<Share>]) -> Result<(), SinkFault>
     requires { HasShares spec.now shares.now }
     ensures { Prints result (K.state out.old) (K.state out.new) (choices_text spec.now) }
 {
-    for i in 0..count_confs(spec) {
+    for i in 0..spec.count_confs() {
         match put_choices_from(out, spec, ConfId(i), shares[usize::from(i)].items()) {
             Ok(()) => {}
             Err(fault) => return Err(fault),

@@ -50,10 +50,12 @@ fn has_processor(place: &Option<Place>, env: &Env) -> bool
 fn fits(rule: &Choice, c: ConfId, env: &Env) -> bool
     ensures { result ≡ rule_fits c env.now rule.now }
 {
-    is_source(rule.from, c) && have_wanted(rule.wants.items(), env) && are_up(rule.up, env)
+    has_source(rule.from, c) && have_wanted(rule.wants.items(), env) && are_up(rule.up, env)
 }
 
-fn is_source(from: Option<ConfId>, c: ConfId) -> bool
+/// Returns `true` if configuration `c` is the source `from` of a rule or an invariant. If `from` is `None`, every
+/// configuration is.
+pub fn has_source(from: Option<ConfId>, c: ConfId) -> bool
     ensures { result ≡ has_source from c }
 {
     match from {

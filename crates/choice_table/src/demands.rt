@@ -51,7 +51,9 @@ fn is_met_by(spec: &Spec, demand: &Demand, c: ConfId, a: u8) -> bool
         && (!has_bit(demand.off, a) || !spec.is_on(c, app))
 }
 
-fn is_placed(modes: Option<Modes>, place: Option<Place>) -> bool
+/// Returns `true` if an application's place is one that a demand asks for. If `modes` is `None`, any place is, and the
+/// application may be off. Otherwise the application must be on in a mode that `modes` allows.
+pub fn is_placed(modes: Option<Modes>, place: Option<Place>) -> bool
     ensures { result ≡ is_placed modes place }
 {
     match (modes, place) {
@@ -61,7 +63,8 @@ fn is_placed(modes: Option<Modes>, place: Option<Place>) -> bool
     }
 }
 
-fn modes_allow(modes: &Modes, mode: Mode) -> bool
+/// Returns `true` if a mode is one of `modes`, or `modes` is empty.
+pub fn modes_allow(modes: &Modes, mode: Mode) -> bool
     ensures { result ≡ modes_allow modes.now mode }
 {
     modes.as_slice().is_empty() || modes.has(mode)
@@ -101,7 +104,8 @@ fn are_down(set: u8, env: &Env) -> bool
     set & env.up == 0
 }
 
-fn is_empty_or_holds(set: u16, c: ConfId) -> bool
+/// Returns `true` if a set of configurations is empty or contains configuration `c`.
+pub fn is_empty_or_holds(set: u16, c: ConfId) -> bool
     ensures { result ≡ is_empty_or_holds set c }
 {
     set == 0 || is_in(set, c.0)

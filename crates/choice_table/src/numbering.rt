@@ -23,7 +23,7 @@ pub fn number_of(spec: &Spec, env: &Env) -> u32
     ensures number { result ≡ number_of spec.now env.now }
     ensures back { IsEnv spec.now env.now → env_of spec.now result ≡ Some env.now }
 {
-    let down = others(count_processors(spec), env.up);
+    let down = others(spec.count_procs(), env.up);
     u32::from(down) * count_combinations(spec) + number_of_values(spec, &env.factors)
 }
 
@@ -80,7 +80,7 @@ fn can_be_down(spec: &Spec, down: u32) -> bool
     requires { down < 2 ^ length spec.now.procs }
     ensures { result ≡ is_down_in_scope spec.now down }
 {
-    count_down(count_processors(spec), up_beside(spec, down)) <= spec.halts
+    count_down(spec.count_procs(), up_beside(spec, down)) <= spec.halts
 }
 
 fn env_numbered(spec: &Spec, number: u32) -> Env
@@ -94,8 +94,8 @@ fn env_numbered(spec: &Spec, number: u32) -> Env
     }
 }
 
-// Returns the set of processors that are up if exactly the processors of the set `down` are down.
-fn up_beside(spec: &Spec, down: u32) -> u8
+/// Returns the set of processors that are up if exactly the processors of the set `down` are down.
+pub fn up_beside(spec: &Spec, down: u32) -> u8
     requires { down < 2 ^ length spec.now.procs }
     ensures { result ≡ 2 ^ length spec.now.procs - 1 - down }
 {
@@ -146,20 +146,13 @@ fn count_environments(spec: &Spec) -> u32
     count_sets(spec) * count_combinations(spec)
 }
 
-// Returns the number of sets of processors, the empty set included.
-fn count_sets(spec: &Spec) -> u32
+/// Returns the number of sets of processors, the empty set included.
+pub fn count_sets(spec: &Spec) -> u32
     ensures value { result ≡ 2 ^ length spec.now.procs }
     ensures least { 1 ≤ result }
     ensures most { result ≤ 256 }
 {
-    1 << count_processors(spec)
-}
-
-fn count_processors(spec: &Spec) -> u8
-    ensures value { result ≡ length spec.now.procs }
-    ensures most { result ≤ 8 }
-{
-    spec.procs.items().len() as u8
+    1 << spec.count_procs()
 }
 
 fn count_combinations(spec: &Spec) -> u32

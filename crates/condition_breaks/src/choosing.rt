@@ -10,7 +10,6 @@ use crate::breaks::Break;
 use crate::pushes::{push_found, push_if};
 use choice_table::choose;
 use coverage_check::choosing::{Requirement, unmet_of_cover};
-use coverage_check::places::count_confs;
 use cube_cover::cover;
 use scram_types::{ConfId, Env, NoMemory, Spec};
 use std::alloc::Global;
@@ -25,7 +24,7 @@ pub(crate) fn add_unmet_breaks(
 ) -> Result<(), NoMemory>
     ensures { OnOk result (breaks.new.items ≡ breaks.old.items ++ unmet_breaks spec.now asked) }
 {
-    for c in 0..count_confs(spec) {
+    for c in 0..spec.count_confs() {
         let unmet = first_unmet_env(alloc, spec, asked, ConfId(c))?;
         push_found(breaks, unmet_in(asked, ConfId(c), unmet))?;
     }
@@ -43,7 +42,7 @@ fn first_unmet_env(
     requires { c.0 < length spec.now.confs }
     ensures { IfOk result (λ unmet. unmet ≡ first_unmet_env spec.now asked c) }
 {
-    let _known = count_confs(spec);
+    let _known = spec.count_confs();
     let found = cover(alloc, spec, c)?;
     Ok(unmet_of_cover(&found, asked))
 }

@@ -8,7 +8,6 @@ ghost use Rattle.condition_breaks.specs.Breaks.{demand_break, demand_breaks, dem
 
 use crate::breaks::Break;
 use crate::pushes::push_found;
-use coverage_check::places::count_confs;
 use cube_cover::misses;
 use scram_types::{ConfId, Env, NoMemory, Spec};
 use std::alloc::Global;
@@ -22,7 +21,7 @@ pub(crate) fn add_demand_breaks(
 ) -> Result<(), NoMemory>
     ensures { OnOk result (breaks.new.items ≡ breaks.old.items ++ demand_breaks spec.now) }
 {
-    for c in 0..count_confs(spec) {
+    for c in 0..spec.count_confs() {
         let found = misses(alloc, spec, ConfId(c))?;
         add_demand_breaks_in(breaks, spec, &found, c)?;
     }

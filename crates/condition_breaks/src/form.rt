@@ -9,7 +9,6 @@ use crate::breaks::Break;
 use crate::pushes::push_if;
 use choice_table::states;
 use coverage_check::form::{is_empty, is_overloaded, is_same};
-use coverage_check::places::{count_apps, count_confs, count_procs};
 use scram_types::limits::MAX_ENVIRONMENTS;
 use scram_types::{AppId, ConfId, NoMemory, ProcId, Spec};
 
@@ -18,7 +17,7 @@ use scram_types::{AppId, ConfId, NoMemory, ProcId, Spec};
 pub(crate) fn add_need_breaks(breaks: &mut Vec<Break>, spec: &Spec) -> Result<(), NoMemory>
     ensures { OnOk result (breaks.new.items ≡ breaks.old.items ++ need_breaks spec.now) }
 {
-    for c in 0..count_confs(spec) {
+    for c in 0..spec.count_confs() {
         add_need_breaks_in(breaks, spec, c)?;
     }
     Ok(())
@@ -27,7 +26,7 @@ pub(crate) fn add_need_breaks(breaks: &mut Vec<Break>, spec: &Spec) -> Result<()
 fn add_need_breaks_in(breaks: &mut Vec<Break>, spec: &Spec, c: u8) -> Result<(), NoMemory>
     ensures { OnOk result (breaks.new.items ≡ breaks.old.items ++ need_breaks_in spec.now c) }
 {
-    for a in 0..count_apps(spec) {
+    for a in 0..spec.count_apps() {
         add_need_breaks_of(breaks, spec, c, a)?;
     }
     Ok(())
@@ -36,7 +35,7 @@ fn add_need_breaks_in(breaks: &mut Vec<Break>, spec: &Spec, c: u8) -> Result<(),
 fn add_need_breaks_of(breaks: &mut Vec<Break>, spec: &Spec, c: u8, a: u8) -> Result<(), NoMemory>
     ensures { OnOk result (breaks.new.items ≡ breaks.old.items ++ need_breaks_of spec.now c a) }
 {
-    for b in 0..count_apps(spec) {
+    for b in 0..spec.count_apps() {
         add_need_break(breaks, spec, c, a, b)?;
     }
     Ok(())
@@ -87,7 +86,7 @@ pub(crate) fn add_state_breaks(breaks: &mut Vec<Break>, spec: &Spec) -> Result<(
 pub(crate) fn add_shape_breaks(breaks: &mut Vec<Break>, spec: &Spec) -> Result<(), NoMemory>
     ensures { OnOk result (breaks.new.items ≡ breaks.old.items ++ shape_breaks spec.now) }
 {
-    for c in 0..count_confs(spec) {
+    for c in 0..spec.count_confs() {
         add_shape_break(breaks, spec, c)?;
     }
     Ok(())
@@ -122,7 +121,7 @@ fn first_twin(spec: &Spec, c: u8) -> Option<ConfId>
 pub(crate) fn add_load_breaks(breaks: &mut Vec<Break>, spec: &Spec) -> Result<(), NoMemory>
     ensures { OnOk result (breaks.new.items ≡ breaks.old.items ++ load_breaks spec.now) }
 {
-    for c in 0..count_confs(spec) {
+    for c in 0..spec.count_confs() {
         add_load_breaks_in(breaks, spec, c)?;
     }
     Ok(())
@@ -131,7 +130,7 @@ pub(crate) fn add_load_breaks(breaks: &mut Vec<Break>, spec: &Spec) -> Result<()
 fn add_load_breaks_in(breaks: &mut Vec<Break>, spec: &Spec, c: u8) -> Result<(), NoMemory>
     ensures { OnOk result (breaks.new.items ≡ breaks.old.items ++ load_breaks_in spec.now c) }
 {
-    for p in 0..count_procs(spec) {
+    for p in 0..spec.count_procs() {
         add_load_break(breaks, spec, c, p)?;
     }
     Ok(())

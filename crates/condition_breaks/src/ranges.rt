@@ -9,7 +9,7 @@ ghost use Rattle.condition_breaks.specs.Ranges.{all_ways, first_unheld, hull, hu
 
 use crate::breaks::Way;
 use app_model::{after_init, during};
-use coverage_check::places::count_confs;
+use choice_table::has_source;
 use coverage_check::targets;
 use flight_facts::extremes::Extremes;
 use scram_types::bits::is_in;
@@ -21,7 +21,7 @@ pub(crate) fn all_ways(alloc: Global, spec: &Spec) -> Result<Vec<Way>, NoMemory>
     ensures { IfOk result (λ ways. ways.items ≡ all_ways spec.now) }
 {
     let mut ways = Vec::new(alloc);
-    for i in 0..count_confs(spec) {
+    for i in 0..spec.count_confs() {
         let set = targets(alloc, spec, ConfId(i))?;
         add_ways_from(&mut ways, spec, set, i)?;
     }
@@ -44,7 +44,7 @@ fn add_other_ways(ways: &mut Vec<Way>, spec: &Spec, set: u16, i: u8) -> Result<(
     requires { set ≡ targets spec.now (conf_id i) }
     ensures { OnOk result (ways.new.items ≡ ways.old.items ++ other_ways spec.now i) }
 {
-    for j in 0..count_confs(spec) {
+    for j in 0..spec.count_confs() {
         add_way_to(ways, spec, set, i, j)?;
     }
     Ok(())
@@ -123,17 +123,7 @@ pub(crate) fn first_unheld(spec: &Spec, inv: &Invariant, ways: &[Way]) -> Option
 fn is_unheld(spec: &Spec, inv: &Invariant, way: &Way) -> bool
     ensures { result ≡ is_unheld spec.now inv.now way.now }
 {
-    speaks_of(inv, way) && !holds(inv, &range_on(spec, inv, way))
-}
-
-// Returns `true` if invariant `inv` applies to the source of a way.
-fn speaks_of(inv: &Invariant, way: &Way) -> bool
-    ensures { result ≡ has_source inv.now.from way.now.from }
-{
-    match inv.from {
-        Some(from) => from.0 == way.from.0,
-        None => true,
-    }
+    has_source(inv.from, way.from) && !holds(inv, &range_on(spec, inv, way))
 }
 
 fn holds(inv: &Invariant, range: &Extremes) -> bool
@@ -157,7 +147,7 @@ pub(crate) fn hull_of(spec: &Spec, inv: &Invariant, first: &Way, ways: &[Way]) -
 fn hull_on(spec: &Spec, inv: &Invariant, held: &Extremes, way: &Way) -> Extremes
     ensures { result ≡ hull_on spec.now inv.now held.now way.now }
 {
-    if speaks_of(inv, way) {
+    if has_source(inv.from, way.from) {
         hull(held, &range_on(spec, inv, way))
     } else {
         *held

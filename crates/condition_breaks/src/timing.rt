@@ -2,15 +2,13 @@
 
 ghost use Rattle.std.specs.Prelude.{◌≡◌, ◌++◌, ◌<◌, ◌≤◌, OnOk, length};
 ghost use Rattle.scram_types.specs.Lookups.{conf_id};
-ghost use Rattle.coverage_check.specs.Timing.{asked_bounds, has_short_window, is_bound_asked, lacks_bound};
+ghost use Rattle.coverage_check.specs.Timing.{asked_bounds, has_short_window, lacks_bound};
 ghost use Rattle.condition_breaks.specs.Breaks.{bound_break, bound_breaks, bound_breaks_from, window_breaks};
 
 use crate::breaks::Break;
 use crate::pushes::push_if;
-use coverage_check::places::count_confs;
 use coverage_check::timing::is_bounded;
-use coverage_check::{asked_bounds, greatest_bound};
-use scram_types::bits::is_in;
+use coverage_check::{asked_bounds, greatest_bound, is_asked};
 use scram_types::{ConfId, NoMemory, Spec};
 use std::alloc::Global;
 
@@ -23,7 +21,7 @@ pub(crate) fn add_bound_breaks(
 ) -> Result<(), NoMemory>
     ensures { OnOk result (breaks.new.items ≡ breaks.old.items ++ bound_breaks spec.now) }
 {
-    for i in 0..count_confs(spec) {
+    for i in 0..spec.count_confs() {
         let set = asked_bounds(alloc, spec, ConfId(i))?;
         add_bound_breaks_from(breaks, spec, set, i)?;
     }
@@ -41,7 +39,7 @@ fn add_bound_breaks_from(
     requires { set ≡ asked_bounds spec.now (conf_id i) }
     ensures { OnOk result (breaks.new.items ≡ breaks.old.items ++ bound_breaks_from spec.now i) }
 {
-    for j in 0..count_confs(spec) {
+    for j in 0..spec.count_confs() {
         let lacks = lacks_bound(spec, set, ConfId(i), ConfId(j));
         push_if(breaks, lacks, Break::BoundLacking(ConfId(i), ConfId(j)))?;
     }
@@ -54,16 +52,6 @@ fn lacks_bound(spec: &Spec, set: u16, i: ConfId, j: ConfId) -> bool
     ensures { result ≡ lacks_bound spec.now i j.0 }
 {
     is_asked(spec, set, i, j) && !is_bounded(spec, i, j)
-}
-
-// Returns `true` if a bound from configuration `i` to configuration `j` is required. `set` contains the
-// configurations to which a bound from configuration `i` is required.
-fn is_asked(spec: &Spec, set: u16, i: ConfId, j: ConfId) -> bool
-    requires set { set ≡ asked_bounds spec.now i }
-    requires inside { j.0 < length spec.now.confs }
-    ensures { result ≡ is_bound_asked spec.now i j.0 }
-{
-    is_in(set, j.0)
 }
 
 // Appends the place of A10 if the window is not longer than the greatest bound.

@@ -8,7 +8,6 @@ ghost use Rattle.cube_cover.specs.Covers.{IsCover};
 ghost use Rattle.coverage_check.specs.Choosing.{requirement_refusal, requirement_refusal_of, number_of_requirement, start_refusal, target_shown, unmet_of_cover};
 ghost use Rattle.coverage_check.specs.TargetSets.{HasCovers};
 
-use crate::places::count_confs;
 use crate::shown::{Other, Shown};
 use choice_table::choose;
 use cube_cover::Cover;
@@ -33,7 +32,7 @@ pub(crate) fn refuse_requirement(
     requires { HasCovers spec.now covers.now }
     ensures { result ≡ requirement_refusal spec.now requirement }
 {
-    for c in 0..count_confs(spec) {
+    for c in 0..spec.count_confs() {
         let shown = refuse_requirement_of(spec, &covers[usize::from(c)], requirement, c);
         if shown.is_some() {
             return shown;

@@ -6,7 +6,6 @@ ghost use Rattle.scram_types.specs.Specification.{IsSpec};
 ghost use Rattle.cube_cover.specs.Demands.{AreMisses};
 ghost use Rattle.coverage_check.specs.Demands.{demand_refusal, demand_refusal_in, miss_shown};
 
-use crate::places::count_confs;
 use crate::shown::{Other, Shown};
 use cube_cover::misses;
 use scram_types::{ConfId, Env, NoMemory, Spec};
@@ -17,7 +16,7 @@ use std::alloc::Global;
 pub(crate) fn refuse_demand(alloc: Global, spec: &Spec) -> Result<Option<Shown>, NoMemory>
     ensures { IfOk result (λ shown. shown ≡ demand_refusal spec.now) }
 {
-    for c in 0..count_confs(spec) {
+    for c in 0..spec.count_confs() {
         let shown = refuse_demand_in(alloc, spec, c)?;
         if shown.is_some() {
             return Ok(shown);

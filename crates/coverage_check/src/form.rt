@@ -7,7 +7,6 @@ ghost use Rattle.scram_types.specs.declared.specification.ModeSpec.{ModeSpec};
 ghost use Rattle.scram_types.specs.Lookups.{mode_of_app};
 ghost use Rattle.coverage_check.specs.Form.{capacity_of, has_off, has_off_need, is_empty, is_overloaded, is_same, is_same_place, lacks_need, load_below, load_of, load_refusal, load_refusal_in, need_refusal, need_refusal_in, shape_refusal, shape_refusal_of, state_refusal, twin_refusal_of};
 
-use crate::places::{count_apps, count_confs, count_procs};
 use crate::shown::{Other, Shown};
 use choice_table::states;
 use scram_types::limits::MAX_ENVIRONMENTS;
@@ -18,7 +17,7 @@ use scram_types::{AppId, ConfId, Mode, ModeSpec, Place, ProcId, Spec};
 pub(crate) fn refuse_need(spec: &Spec) -> Option<Shown>
     ensures { result ≡ need_refusal spec.now }
 {
-    for c in 0..count_confs(spec) {
+    for c in 0..spec.count_confs() {
         let shown = refuse_need_in(spec, c);
         if shown.is_some() {
             return shown;
@@ -30,7 +29,7 @@ pub(crate) fn refuse_need(spec: &Spec) -> Option<Shown>
 fn refuse_need_in(spec: &Spec, c: u8) -> Option<Shown>
     ensures { result ≡ need_refusal_in spec.now c }
 {
-    for a in 0..count_apps(spec) {
+    for a in 0..spec.count_apps() {
         if lacks_need(spec, ConfId(c), a) {
             return Some(Shown::at(1, c, Other::App(AppId(a))));
         }
@@ -77,7 +76,7 @@ pub fn refuse_states(spec: &Spec) -> Option<Shown>
 pub(crate) fn refuse_shape(spec: &Spec) -> Option<Shown>
     ensures { result ≡ shape_refusal spec.now }
 {
-    for c in 0..count_confs(spec) {
+    for c in 0..spec.count_confs() {
         let shown = refuse_shape_of(spec, c);
         if shown.is_some() {
             return shown;
@@ -146,7 +145,7 @@ fn is_same_place(one: Option<Place>, other: Option<Place>) -> bool
 pub(crate) fn refuse_load(spec: &Spec) -> Option<Shown>
     ensures { result ≡ load_refusal spec.now }
 {
-    for c in 0..count_confs(spec) {
+    for c in 0..spec.count_confs() {
         let shown = refuse_load_in(spec, c);
         if shown.is_some() {
             return shown;
@@ -158,7 +157,7 @@ pub(crate) fn refuse_load(spec: &Spec) -> Option<Shown>
 fn refuse_load_in(spec: &Spec, c: u8) -> Option<Shown>
     ensures { result ≡ load_refusal_in spec.now c }
 {
-    for p in 0..count_procs(spec) {
+    for p in 0..spec.count_procs() {
         if is_overloaded(spec, ConfId(c), p) {
             return Some(Shown::at(4, c, Other::Proc(ProcId(p))));
         }
@@ -188,7 +187,7 @@ pub fn load_on(spec: &Spec, c: ConfId, p: u8) -> u64
     ensures { result ≡ load_below spec.now c p (length spec.now.apps) }
 {
     let mut load = 0;
-    for a in 0..count_apps(spec) {
+    for a in 0..spec.count_apps() {
         load += u64::from(load_of(spec, c, p, a));
     }
     load

@@ -8,11 +8,11 @@ ghost use Rattle.scram_types.specs.Specification.{IsSpec};
 ghost use Rattle.cube_cover.specs.Covers.{IsCover};
 ghost use Rattle.coverage_check.specs.TargetSets.{HasCovers};
 
-use crate::places::count_confs;
 use crate::shown::{Other, Shown};
-use crate::target_sets::is_in;
 use app_model::{after_init, during};
+use choice_table::has_source;
 use cube_cover::Cover;
+use scram_types::bits::is_in;
 use scram_types::{AppId, ConfId, Invariant, KindId, Mode, Place, Precondition, Spec};
 
 // Returns the refusal for the first invariant that may be broken during a reconfiguration (A11), at the first
@@ -44,7 +44,7 @@ fn refuse_invariant_of(spec: &Spec, covers: &[Cover; 12], k: u32, inv: &Invarian
     requires { HasCovers spec.now covers.now }
     ensures { result ≡ invariant_refusal_of spec.now k inv.now }
 {
-    for i in 0..count_confs(spec) {
+    for i in 0..spec.count_confs() {
         if breaks_from(spec, &covers[usize::from(i)], inv, i) {
             return Some(Shown::at(11, i, Other::Item(k)));
         }
@@ -56,16 +56,7 @@ fn breaks_from(spec: &Spec, cover: &Cover, inv: &Invariant, i: u8) -> bool
     requires { IsCover spec.now (conf_id i) cover.now }
     ensures { result ≡ breaks_from spec.now inv.now (conf_id i) }
 {
-    speaks_of(inv.from, i) && !holds_from(spec, cover, inv, i)
-}
-
-fn speaks_of(from: Option<ConfId>, i: u8) -> bool
-    ensures { result ≡ has_source from (conf_id i) }
-{
-    match from {
-        Some(from) => from.0 == i,
-        None => true,
-    }
+    has_source(inv.from, ConfId(i)) && !holds_from(spec, cover, inv, i)
 }
 
 fn holds_from(spec: &Spec, cover: &Cover, inv: &Invariant, i: u8) -> bool
@@ -82,7 +73,7 @@ fn holds_reached(spec: &Spec, cover: &Cover, inv: &Invariant, i: u8) -> bool
     requires { IsCover spec.now (conf_id i) cover.now }
     ensures { result ≡ holds_reached spec.now inv.now (conf_id i) }
 {
-    for j in 0..count_confs(spec) {
+    for j in 0..spec.count_confs() {
         if !holds_on_way(spec, cover, inv, i, j) {
             return false;
         }

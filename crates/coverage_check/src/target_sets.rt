@@ -1,11 +1,9 @@
 //! The covers of configurations, and their possible targets.
 
 ghost use Rattle.std.specs.Prelude.{◌≡◌, ◌<◌, ◌≤◌, IfOk, length};
-ghost use Rattle.scram_types.specs.Bits.{has_bit};
 ghost use Rattle.coverage_check.specs.TargetSets.{AreTargets, HasCovers};
 ghost use Rattle.coverage_check.specs.Timing.{targets};
 
-use crate::places::count_confs;
 use cube_cover::{Cover, cover};
 use scram_types::{ConfId, NoMemory, Spec};
 use std::alloc::Global;
@@ -21,7 +19,7 @@ pub fn targets(alloc: Global, spec: &Spec, i: ConfId) -> Result<u16, NoMemory>
     ensures set { IfOk result (λ set. set ≡ targets spec.now i) }
     ensures members { IfOk result (λ set. AreTargets spec.now i set) }
 {
-    let _known = count_confs(spec);
+    let _known = spec.count_confs();
     let found = cover(alloc, spec, i)?;
     Ok(found.targets)
 }
@@ -37,16 +35,8 @@ pub(crate) fn find_covers(alloc: Global, spec: &Spec) -> Result<[Cover; 12], NoM
         not_runnable: None,
         unsettled: None,
     }; 12];
-    for i in 0..count_confs(spec) {
+    for i in 0..spec.count_confs() {
         covers[usize::from(i)] = cover(alloc, spec, ConfId(i))?;
     }
     Ok(covers)
-}
-
-// Returns `true` if `j` is an element of a set of numbers, given as bits.
-pub(crate) fn is_in(set: u16, j: u8) -> bool
-    requires { j < 16 }
-    ensures { result ≡ has_bit set j }
-{
-    set >> j & 1 == 1
 }

@@ -8,11 +8,10 @@ ghost use Rattle.cube_cover.specs.Covers.{IsCover};
 ghost use Rattle.coverage_check.specs.TargetSets.{HasCovers};
 ghost use Rattle.coverage_check.specs.Timing.{asked_bounds, bound_refusal, bound_refusal_of, can_return, further, greatest_bound, is_bound_asked, is_bounded, least, may_end_in, slowest, window_refusal};
 
-use crate::places::count_confs;
 use crate::shown::{Other, Shown};
-use crate::target_sets::is_in;
 use cube_cover::{Cover, cover};
 use dep_order::timetable;
+use scram_types::bits::is_in;
 use scram_types::{Bound, ConfId, NoMemory, Policy, Spec};
 use std::alloc::Global;
 
@@ -39,9 +38,19 @@ pub fn asked_bounds(alloc: Global, spec: &Spec, i: ConfId) -> Result<u16, NoMemo
     requires { i.0 < length spec.now.confs }
     ensures { IfOk result (λ asked. asked ≡ asked_bounds spec.now i) }
 {
-    let count = count_confs(spec);
+    let count = spec.count_confs();
     let cover = cover(alloc, spec, i)?;
     Ok(find_asked(spec, &cover, i.0, count))
+}
+
+/// Returns `true` if a specification must give a bound from configuration `from` to configuration `to`. `set` must
+/// contain, as bits, the configurations to which it must give a bound from `from`.
+pub fn is_asked(spec: &Spec, set: u16, from: ConfId, to: ConfId) -> bool
+    requires set { set ≡ asked_bounds spec.now from }
+    requires to { to.0 < length spec.now.confs }
+    ensures { result ≡ is_bound_asked spec.now from to.0 }
+{
+    is_in(set, to.0)
 }
 
 // Returns the configurations, as bits, to which a bound from `i` is required, given the cover of `i`. `count` is the
@@ -79,7 +88,7 @@ fn slowest(spec: &Spec) -> u32
     ensures most { result ≤ 196606 }
 {
     let mut slowest = 0;
-    for k in 0..count_confs(spec) {
+    for k in 0..spec.count_confs() {
         slowest = way(spec, ConfId(k)).max(slowest);
     }
     slowest
@@ -99,7 +108,7 @@ pub(crate) fn refuse_bound(spec: &Spec, covers: &[Cover; 12]) -> Option<Shown>
     requires { HasCovers spec.now covers.now }
     ensures { result ≡ bound_refusal spec.now }
 {
-    for i in 0..count_confs(spec) {
+    for i in 0..spec.count_confs() {
         let shown = refuse_bound_of(spec, &covers[usize::from(i)], i);
         if shown.is_some() {
             return shown;
@@ -112,7 +121,7 @@ fn refuse_bound_of(spec: &Spec, cover: &Cover, i: u8) -> Option<Shown>
     requires { IsCover spec.now (conf_id i) cover.now }
     ensures { result ≡ bound_refusal_of spec.now i }
 {
-    for j in 0..count_confs(spec) {
+    for j in 0..spec.count_confs() {
         if is_bound_asked(spec, cover, i, j) && !is_bounded(spec, ConfId(i), ConfId(j)) {
             let frames = least(spec, ConfId(i), ConfId(j));
             return Some(Shown::at(9, i, Other::Least(ConfId(j), frames)));
@@ -174,7 +183,8 @@ pub fn greatest_bound(spec: &Spec) -> u32
     greatest_of(spec.bounds.items())
 }
 
-fn greatest_of(bounds: &[Bound]) -> u32
+/// Returns the greatest of some bounds, in frames, or 0 if there is none.
+pub fn greatest_of(bounds: &[Bound]) -> u32
     ensures { result ≡ greatest_bound bounds.now }
 {
     let mut greatest = 0;

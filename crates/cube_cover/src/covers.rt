@@ -1,6 +1,6 @@
 //! The computation of the cover of a configuration.
 
-ghost use Rattle.std.specs.Prelude.{◌≡◌, ◌+◌, ◌^◌, ◌<◌, ◌≤◌, ◌&&◌, ◌==◌, IfOk, if◌then◌else◌, length, true};
+ghost use Rattle.std.specs.Prelude.{◌≡◌, ◌+◌, ◌^◌, ◌<◌, ◌&&◌, ◌==◌, IfOk, if◌then◌else◌, length, true};
 ghost use Rattle.scram_types.specs.Specification.{IsSpec};
 ghost use Rattle.cube_cover.specs.Covers.{IsCover, IsLeastEnv, earlier_env};
 ghost use Rattle.cube_cover.specs.Cubes.{Agree, IsInScope, holders, is_in};
@@ -33,7 +33,7 @@ pub fn cover(alloc: Global, spec: &Spec, i: ConfId) -> Result<Cover, NoMemory>
     requires { i.0 < length spec.now.confs }
     ensures { IfOk result (λ cover. IsCover spec.now i cover) }
 {
-    let count = count_confs(spec);
+    let count = spec.count_confs();
     let found = regions_of(alloc, spec, i, all_cubes(alloc, spec)?)?;
     let unfit = least_of(spec, &found.unruled);
     let regions = all_regions(found, i)?;
@@ -48,14 +48,6 @@ pub fn cover(alloc: Global, spec: &Spec, i: ConfId) -> Result<Cover, NoMemory>
         cover = with_finding(spec, &cover, t, &finding);
     }
     Ok(cover)
-}
-
-fn count_confs(spec: &Spec) -> u8
-    ensures value { result ≡ length spec.now.confs }
-    ensures most { result ≤ 12 }
-    ensures known { IsSpec spec.now }
-{
-    spec.confs.items().len() as u8
 }
 
 // Returns a vector with one cube, which holds all environments of the specification.

@@ -1,6 +1,6 @@
 //! The scope split into regions, in each of which the choice table chooses one target.
 
-ghost use Rattle.std.specs.Prelude.{◌≡◌, ◌&&◌, ◌==◌, IfOk, OnOk, not};
+ghost use Rattle.std.specs.Prelude.{◌&&◌, ◌==◌, IfOk, OnOk, not};
 ghost use Rattle.scram_types.specs.Specification.{IsSpec};
 ghost use Rattle.choice_table.specs.Choices.{has_source, rule_fits};
 ghost use Rattle.cube_cover.specs.Cubes.{Agree, is_in};
@@ -8,6 +8,7 @@ ghost use Rattle.cube_cover.specs.Regions.{AreRegions, HoldsMarked, HoldsMore, M
 
 use crate::cubes::{Cube, rule_cube};
 use crate::splits::split_by;
+use choice_table::has_source;
 use scram_types::{Choice, ConfId, NoMemory, Spec};
 use std::alloc::Global;
 
@@ -68,7 +69,7 @@ fn apply_rule(
     ensures rest { IfOk result (λ rest. Agree source.now.spec.now (is_in rest.items) (λ v. is_in cubes.items v && not (rule_fits source.now.c v rule.now))) }
     ensures ruled { OnOk result (Rule source.now.spec.now source.now.c rule.now cubes.items ruled.old.items ruled.new.items) }
 {
-    if !is_source(rule.from, source.c) {
+    if !has_source(rule.from, source.c) {
         return Ok(cubes);
     }
     if cubes.is_empty() {
@@ -77,15 +78,6 @@ fn apply_rule(
     let parts = split_by(alloc, source.spec, &cubes, rule_cube(rule))?;
     assign(ruled, &parts.inside, rule.to)?;
     Ok(parts.outside)
-}
-
-pub(crate) fn is_source(from: Option<ConfId>, c: ConfId) -> bool
-    ensures { result ≡ has_source from c }
-{
-    match from {
-        Some(from) => from.0 == c.0,
-        None => true,
-    }
 }
 
 // Appends cubes to the regions, each with the same target.

@@ -10,9 +10,9 @@ ghost use Rattle.cube_cover.specs.Shares.{AreShares, HoldsRest, IsShare, first_r
 use crate::covers::all_cubes;
 use crate::cubes::{Cube, rule_cube};
 use crate::leasts::{holds, least_of};
-use crate::regions::is_source;
 use crate::sizes::count_held;
 use crate::splits::split_by;
+use choice_table::has_source;
 use scram_types::{Choice, ConfId, Env, NoMemory, Spec};
 use std::alloc::Global;
 
@@ -91,7 +91,7 @@ fn take_rule(
 fn fitting_cube(rule: &Choice, c: ConfId) -> Cube
     ensures { HoldsExactly result (λ v. rule_fits c v rule.now) }
 {
-    if is_source(rule.from, c) {
+    if has_source(rule.from, c) {
         rule_cube(rule)
     } else {
         Cube { bits: 0 }

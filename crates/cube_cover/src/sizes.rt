@@ -9,6 +9,7 @@ ghost use Rattle.cube_cover.specs.Sizes.{allows_up, are_open, count_where, digit
 
 use crate::cubes::{Cube, count_values, is_open};
 use choice_table::in_scope;
+use choice_table::numbering::{count_sets, up_beside};
 use scram_types::bits::has_bit;
 use scram_types::{Env, Spec};
 
@@ -45,20 +46,12 @@ fn are_zeros_open(spec: &Spec, cube: Cube) -> bool
     requires { IsSpec spec.now }
     ensures { result ≡ are_open cube (length spec.now.factors) (replicate (6 - length spec.now.factors) 0) }
 {
-    for x in count_factors(spec)..6 {
+    for x in spec.count_factors()..6 {
         if !is_open(cube, x, 0) {
             return false;
         }
     }
     true
-}
-
-fn count_factors(spec: &Spec) -> u8
-    requires { IsSpec spec.now }
-    ensures value { result ≡ length spec.now.factors }
-    ensures most { result ≤ 6 }
-{
-    spec.factors.items().len() as u8
 }
 
 // Returns the number of sets of processors such that the scope and the cube allow exactly these processors to be
@@ -77,23 +70,6 @@ fn count_sets_held(spec: &Spec, cube: Cube) -> u32
     sets
 }
 
-// Returns the number of sets of processors.
-fn count_sets(spec: &Spec) -> u32
-    requires { IsSpec spec.now }
-    ensures value { result ≡ 2 ^ length spec.now.procs }
-    ensures most { result ≤ 256 }
-{
-    1 << count_processors(spec)
-}
-
-fn count_processors(spec: &Spec) -> u8
-    requires { IsSpec spec.now }
-    ensures value { result ≡ length spec.now.procs }
-    ensures most { result ≤ 8 }
-{
-    spec.procs.items().len() as u8
-}
-
 // Returns `true` if the scope and the cube allow exactly the processors of the set `down` to be down.
 fn is_down_held(spec: &Spec, cube: Cube, down: u32) -> bool
     requires known { IsSpec spec.now }
@@ -106,15 +82,6 @@ fn is_down_held(spec: &Spec, cube: Cube, down: u32) -> bool
         factors: [0; 6],
     };
     allows_up(cube, up) && in_scope(spec, &env)
-}
-
-// Returns the set of processors that are up if exactly the processors of the set `down` are down.
-fn up_beside(spec: &Spec, down: u32) -> u8
-    requires known { IsSpec spec.now }
-    requires set { down < 2 ^ length spec.now.procs }
-    ensures { result ≡ 2 ^ length spec.now.procs - 1 - down }
-{
-    (count_sets(spec) - 1 - down) as u8
 }
 
 // Returns `true` if the cube allows exactly the processors of the set `up` to be up.
@@ -144,7 +111,7 @@ fn count_combinations(spec: &Spec, cube: Cube) -> u32
     ensures most { result ≤ 4096 }
 {
     let mut product = 1;
-    for x in 0..count_factors(spec) {
+    for x in 0..spec.count_factors() {
         product *= count_open(spec, cube, x);
     }
     product

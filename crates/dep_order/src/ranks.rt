@@ -5,7 +5,7 @@ ghost use Rattle.dep_order.specs.Ranks.{IsCycle, IsRanking, Needs, NeedsInRange,
 ghost use Rattle.dep_order.specs.Ranking.{AreSmall, IsReady, IsSound, IsStuck, IsWaiting, is_unranked, rank_in, ready};
 ghost use Rattle.dep_order.specs.Timetables.{is_named};
 
-use crate::timetables::is_listed;
+use crate::timetables::is_named;
 use arrayvec::ArrayVec;
 use scram_types::{AppId, AppSpec};
 
@@ -158,7 +158,7 @@ fn find_cycle(apps: &[AppSpec], ranks: &Ranks, start: AppId) -> ArrayVec<AppId, 
 {
     let mut path: ArrayVec<AppId, 8> = ArrayVec::new();
     let mut at = start;
-    while !is_listed(path.as_slice(), usize::from(at.0)) {
+    while !is_named(path.as_slice(), usize::from(at.0)) {
         path.push(at);
         at = wait_of(apps, ranks, at);
     }

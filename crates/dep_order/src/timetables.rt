@@ -109,12 +109,13 @@ fn depends(spec: &Spec, b: usize, a: usize) -> bool
     ensures { result ≡ needs spec.now b a }
 {
     match spec.apps.items().get(b) {
-        Some(app) => is_listed(app.needs.items(), a),
+        Some(app) => is_named(app.needs.items(), a),
         None => false,
     }
 }
 
-pub(crate) fn is_listed(needs: &[AppId], a: usize) -> bool
+/// Returns `true` if application `a` is one of `needs`.
+pub fn is_named(needs: &[AppId], a: usize) -> bool
     ensures { result ≡ is_named needs.now a }
 {
     needs.iter().any(|needed| usize::from(needed.0) == a)

@@ -2,8 +2,7 @@
 
 ghost use Rattle.std.specs.Prelude.{◌≡◌, ◌++◌, [], IfOk, OnOk, codes, decimal, string_bytes, if◌then◌else◌};
 ghost use Rattle.json.specs.Print.{quoted};
-ghost use Rattle.serde_json.specs.Events.{items_len};
-ghost use Rattle.serde_json.specs.View.{items_view, members_view, view};
+ghost use Rattle.serde_json.specs.View.{members_view, view};
 ghost use Rattle.spec_members.specs.Versions.{has_version};
 ghost use Rattle.document_explanations.specs.Found.{cut, elements_text, found_text_at, found_in, further_members, further_text, is_known, is_version_of};
 
@@ -12,7 +11,7 @@ use crate::objects::{Object, Versions, Wanted, find_member};
 use crate::paths::{value_at, wanted_at};
 use crate::rules::DocumentKind;
 use crate::values::value_text;
-use scram_doc::{Path, field, rule};
+use scram_doc::{Path, count_items, field, rule};
 use scram_types::NoMemory;
 use serde_json::{Map, Value};
 use std::alloc::Global;
@@ -105,12 +104,6 @@ fn further_members(
         Some(Wanted::Text(_)) => Ok(String::new(alloc)),
         None => Ok(String::new(alloc)),
     }
-}
-
-fn count_items(items: &[Value]) -> usize
-    ensures { result ≡ items_len (items_view items.now) }
-{
-    items.len()
 }
 
 fn count_text(alloc: Global, count: usize) -> Result<String, NoMemory>

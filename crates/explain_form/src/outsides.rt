@@ -1,11 +1,11 @@
 //! The reasons why a script violates the failure assumption.
 
 ghost use Rattle.std.specs.Prelude.{◌≡◌, ◌+◌, ◌≤◌, ◌++◌, IfOk, OnOk};
-ghost use Rattle.fault_script.specs.Assumption.{is_change_frame, is_same_env};
+ghost use Rattle.fault_script.specs.Assumption.{is_change_frame};
 ghost use Rattle.fault_script.specs.Environments.{env_at};
 ghost use Rattle.explain_form.specs.Outsides.{assumed_line, change_frame_text, too_many_changes_text, down_line, frame_text, change_frames_text, is_in_window, outside_text};
 
-use fault_script::{Outside, OutsideKind, factors_at, up_set_at};
+use fault_script::{Outside, OutsideKind, differs, factors_at, up_set_at};
 use form_base::lines::add_down;
 use scram_types::{Env, NoMemory, Script, Spec};
 use std::alloc::{AllocError, Global};
@@ -139,16 +139,10 @@ fn is_change_frame(spec: &Spec, script: &Script, frame: u32) -> bool
     if frame == 0 {
         return false;
     }
-    !is_same_env(
+    differs(
         &env_at(spec, script, frame - 1),
         &env_at(spec, script, frame),
     )
-}
-
-fn is_same_env(env: &Env, other: &Env) -> bool
-    ensures { result ≡ is_same_env env.now other.now }
-{
-    env.up == other.up && env.factors == other.factors
 }
 
 fn env_at(spec: &Spec, script: &Script, frame: u32) -> Env

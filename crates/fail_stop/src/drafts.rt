@@ -98,14 +98,14 @@ fn hosts(proc: ProcId, setting: &Setting<'_>, a: u8) -> bool
     requires a { a < 8 }
     ensures { result ≡ is_proc proc.0 (task_among setting.now.tasks a).proc }
 {
-    is_proc(proc, setting.tasks[usize::from(a)].proc)
+    is_proc(usize::from(proc.0), setting.tasks[usize::from(a)].proc)
 }
 
-fn is_proc(proc: ProcId, named: Option<ProcId>) -> bool
-    ensures { result ≡ is_proc proc.0 named }
+pub(crate) fn is_proc(p: usize, named: Option<ProcId>) -> bool
+    ensures { result ≡ is_proc p named }
 {
     match named {
-        Some(named) => named.0 == proc.0,
+        Some(named) => usize::from(named.0) == p,
         None => false,
     }
 }

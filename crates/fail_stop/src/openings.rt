@@ -7,11 +7,12 @@ ghost use Rattle.frame_model.specs.States.{keeper_at};
 ghost use Rattle.frame_model.specs.Storage.{kernel_image};
 ghost use Rattle.fail_stop.specs.Openings.{opening_at, opening_list, proc_opening, start_word};
 
+use crate::drafts::is_proc;
 use crate::words::WORDS;
 use bank_words::{KernelImage, encode};
 use fault_script::Walk;
 use frame_model::{Sys, decide};
-use scram_types::{NoMemory, ProcId, Script, Spec};
+use scram_types::{NoMemory, Script, Spec};
 use std::alloc::Global;
 
 /// Returns the kernel image of the first frame.
@@ -89,14 +90,5 @@ fn start_word(sys: &Sys, p: usize, i: usize) -> u64
         encode(sys.areas[i / 8][i % 8])
     } else {
         0
-    }
-}
-
-fn is_proc(p: usize, proc: Option<ProcId>) -> bool
-    ensures { result ≡ is_proc p proc }
-{
-    match proc {
-        Some(proc) => usize::from(proc.0) == p,
-        None => false,
     }
 }

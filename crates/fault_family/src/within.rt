@@ -1,8 +1,8 @@
 //! The check whether the script of a list of faults keeps the failure assumption.
 
-ghost use Rattle.std.specs.Prelude.{◌≡◌, ◌+◌, ◌-◌, ◌≤◌, is_some, length, not};
+ghost use Rattle.std.specs.Prelude.{◌≡◌, ◌+◌, ◌-◌, ◌≤◌, is_some, length};
 ghost use Rattle.scram_types.specs.Bits.{bits_below};
-ghost use Rattle.fault_script.specs.Assumption.{brings_too_many_down, changes_upto, down_below, has_too_many_down, is_change_frame, is_change_too_many, is_same_env, outside_at};
+ghost use Rattle.fault_script.specs.Assumption.{brings_too_many_down, changes_upto, down_below, has_too_many_down, is_change_frame, is_change_too_many, outside_at};
 ghost use Rattle.fault_script.specs.Environments.{env_at};
 ghost use Rattle.fault_script.specs.Times.{factors_at, is_up};
 ghost use Rattle.fault_family.specs.Counting.{AreChangeFrameCounts};
@@ -10,6 +10,7 @@ ghost use Rattle.fault_family.specs.Scripts.{as_script, is_within};
 ghost use Rattle.fault_family.specs.declared.scripts.TheConstants.{MAX_FAMILY_FRAMES};
 
 use crate::scripts::{FaultScript, is_up, value_at};
+use fault_script::differs;
 use scram_types::{Env, FactorId, Spec};
 
 /// Returns `true` if a script keeps the failure assumption of the specification. The assumption requires that no
@@ -96,12 +97,6 @@ fn is_change_frame(spec: &Spec, script: &FaultScript<'_>, frame: u32) -> bool
             &env_at(spec, script, frame - 1),
             &env_at(spec, script, frame),
         )
-}
-
-fn differs(env: &Env, other: &Env) -> bool
-    ensures { result ≡ not (is_same_env env.now other.now) }
-{
-    !(env.up == other.up && env.factors == other.factors)
 }
 
 fn env_at(spec: &Spec, script: &FaultScript<'_>, frame: u32) -> Env

@@ -22,5 +22,5 @@ pub use lists::find_value;
 pub use reading::read_script;
 pub use scram_doc::{DocError as ScriptError, DocFault as ScriptFault};
 pub use times::{factors_at, halt_in, halt_of, restart_of, up_at};
-pub use walks::{Walk, up_set_at};
-pub use writing::write_script;
+pub use walks::{Walk, differs, up_set_at};
+pub use writing::{new_value_name, write_script};

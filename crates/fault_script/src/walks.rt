@@ -175,7 +175,8 @@ fn newest(change: &Change, factor: u8, value: u8) -> u8
     }
 }
 
-fn differs(env: &Env, other: &Env) -> bool
+/// Returns `true` if two environments differ.
+pub fn differs(env: &Env, other: &Env) -> bool
     ensures { result ≡ not (is_same_env env.now other.now) }
 {
     !(env.up == other.up && env.factors == other.factors)

@@ -18,8 +18,11 @@ struct Writer<'a> {
     spec: &'a Spec,
 }
 
-fn new_value_name<'a>(spec: &'a Spec, change: &Change) -> &'a str
-    ensures { result.now ≡ new_value_name spec.now change.now }
+/// Returns the name of the value that a change sets, at most 16 bytes, or an empty string if there is no such factor
+/// or value.
+pub fn new_value_name<'a>(spec: &'a Spec, change: &Change) -> &'a str
+    ensures name { result.now ≡ new_value_name spec.now change.now }
+    ensures short { length result.now ≤ 16 }
 {
     match spec.factors.items().get(usize::from(change.factor.0)) {
         Some(factor) => factor.value_name(change.value),

@@ -9,6 +9,7 @@ ghost use Rattle.faults_form.specs.Lines.{spelled_change, spelled_halt, listed_t
 
 use fault_family::faults::Fault;
 use fault_family::scripts::{FaultScript, change_of_fault, halt_of_fault, restart_of_fault};
+use fault_script::new_value_name;
 use scram_types::{Change, HaltAt, RestartAt, Spec};
 use trace_text::lines::Line;
 
@@ -89,16 +90,6 @@ fn add_change_text(line: &mut Line, spec: &Spec, change: &Change)
     line.text(b",\"value\":\"");
     line.text(new_value_name(spec, change).as_bytes());
     line.text(b"\"}");
-}
-
-fn new_value_name<'a>(spec: &'a Spec, change: &Change) -> &'a str
-    ensures name { result.now ≡ new_value_name spec.now change.now }
-    ensures short { length result.now ≤ 16 }
-{
-    match spec.factors.items().get(usize::from(change.factor.0)) {
-        Some(factor) => factor.value_name(change.value),
-        None => "",
-    }
 }
 
 fn add_comma_if(line: &mut Line, later: bool)

@@ -1,16 +1,16 @@
 //! The search for sufficient bounds. If a bound or the window would be too long, the search also finds the refusal.
 
-ghost use Rattle.std.specs.Prelude.{◌≡◌, ◌<◌, ◌≤◌, ◌++◌, IfOk, OnOk, length, map};
+ghost use Rattle.std.specs.Prelude.{◌≡◌, ◌<◌, ◌++◌, IfOk, OnOk, length, map};
 ghost use Rattle.std.specs.Option.{option_or};
-ghost use Rattle.coverage_check.specs.Timing.{asked_bounds, greatest_bound};
+ghost use Rattle.coverage_check.specs.Timing.{asked_bounds};
 ghost use Rattle.spec_forms.specs.Bounds.{AreAskedBounds};
 ghost use Rattle.fill_form.specs.Filling.{filled_bounds, is_bound_missing, missing_bound, missing_bounds, missing_from, raised};
 ghost use Rattle.fill_form.specs.Refusing.{IsFilling, long_refusal, wide_refusal};
 
 use crate::refusing::{refuse_long, refuse_wide};
-use coverage_check::{Shown, least};
+use coverage_check::{Shown, greatest_of, is_asked, least};
 use scram_types::{Bound, ConfId, NoMemory, Spec};
-use spec_forms::{find_asked, is_asked};
+use spec_forms::find_asked;
 use std::alloc::{AllocError, Global};
 
 /// Sufficient bounds of a specification, the greatest of them, and the refusal if a bound or the window would be too
@@ -50,16 +50,6 @@ fn refuse_length(spec: &Spec, sets: &[u16; 12], greatest: u32) -> Option<Shown>
         Some(shown) => Some(shown),
         None => refuse_wide(greatest),
     }
-}
-
-fn greatest_of(bounds: &[Bound]) -> u32
-    ensures { result ≡ greatest_bound bounds.now }
-{
-    let mut greatest = 0;
-    for bound in bounds {
-        greatest = bound.frames.max(greatest);
-    }
-    greatest
 }
 
 fn fill_bounds(alloc: Global, spec: &Spec, sets: &[u16; 12]) -> Result<Vec<Bound>, NoMemory>
@@ -104,7 +94,7 @@ fn add_missing(bounds: &mut Vec<Bound>, spec: &Spec, sets: &[u16; 12]) -> Result
     requires { AreAskedBounds spec.now sets.now }
     ensures { OnOk result (bounds.new.items ≡ bounds.old.items ++ missing_bounds spec.now) }
 {
-    for i in 0..count_confs(spec) {
+    for i in 0..spec.count_confs() {
         add_missing_from(bounds, spec, ConfId(i), sets[usize::from(i)])?;
     }
     Ok(())
@@ -119,7 +109,7 @@ fn add_missing_from(
     requires { set ≡ asked_bounds spec.now from }
     ensures { OnOk result (bounds.new.items ≡ bounds.old.items ++ missing_from spec.now from.0) }
 {
-    for j in 0..count_confs(spec) {
+    for j in 0..spec.count_confs() {
         add_missing_bound(bounds, spec, set, from, ConfId(j))?;
     }
     Ok(())
@@ -151,12 +141,4 @@ fn is_bound_missing(spec: &Spec, set: u16, from: ConfId, to: ConfId) -> bool
     ensures { result ≡ is_bound_missing spec.now from.0 to.0 }
 {
     is_asked(spec, set, from, to) && spec.bound(from, to).is_none()
-}
-
-/// Returns the number of configurations of a specification.
-pub(crate) fn count_confs(spec: &Spec) -> u8
-    ensures value { result ≡ length spec.now.confs }
-    ensures few { result ≤ 12 }
-{
-    spec.confs.items().len() as u8
 }

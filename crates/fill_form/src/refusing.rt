@@ -6,11 +6,9 @@ ghost use Rattle.scram_types.specs.Lookups.{conf_id};
 ghost use Rattle.spec_forms.specs.Bounds.{AreAskedBounds};
 ghost use Rattle.fill_form.specs.Refusing.{long_refusal, long_refusal_of, wide_refusal};
 
-use crate::filling::count_confs;
-use coverage_check::{Other, Shown, least};
+use coverage_check::{Other, Shown, is_asked, least};
 use scram_types::limits::{MAX_BOUND, MAX_WINDOW};
 use scram_types::{ConfId, Spec};
-use spec_forms::is_asked;
 
 /// Returns the refusal by condition A9 for the first required bound that would be too long, or `None` if there is no
 /// such bound. Set `i` contains the configurations to which a bound from configuration `i` is required.
@@ -18,7 +16,7 @@ pub(crate) fn refuse_long(spec: &Spec, sets: &[u16; 12]) -> Option<Shown>
     requires { AreAskedBounds spec.now sets.now }
     ensures { result ≡ long_refusal spec.now }
 {
-    for i in 0..count_confs(spec) {
+    for i in 0..spec.count_confs() {
         let shown = refuse_long_of(spec, sets[usize::from(i)], i);
         if shown.is_some() {
             return shown;
@@ -33,7 +31,7 @@ fn refuse_long_of(spec: &Spec, set: u16, i: u8) -> Option<Shown>
     requires { set ≡ asked_bounds spec.now (conf_id i) }
     ensures { result ≡ long_refusal_of spec.now i }
 {
-    for j in 0..count_confs(spec) {
+    for j in 0..spec.count_confs() {
         let frames = least(spec, ConfId(i), ConfId(j));
         if is_asked(spec, set, ConfId(i), ConfId(j)) && MAX_BOUND < frames {
             return Some(Shown {

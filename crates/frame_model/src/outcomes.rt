@@ -13,6 +13,7 @@ use crate::systems::Sys;
 use crate::tasks::task_in;
 use app_model::racks::racks_frame;
 use app_model::{Rack, Seen};
+use scram_types::bits::has_bit;
 use scram_types::{Act, AppId, Area, Mode, Order, ProcId, Spec};
 
 /// The data that all applications share in a frame: the phase, the set of processors that commit the frame, as bits,
@@ -60,7 +61,7 @@ fn perform(spec: &Spec, sys: &mut Sys, setting: &mut Setting, a: u8, racks: &mut
     let task = task_in(spec, &setting.stage, AppId(a));
     match task.proc {
         Some(proc) => {
-            if has(setting.committing, proc.0) {
+            if has_bit(setting.committing, proc.0) {
                 show_in(&mut setting.seen, task.mode, &sys.areas[at]);
                 let kind = spec.kind_of_app(AppId(a));
                 sys.areas[at] = racks_frame(racks, proc, kind, task.order, &setting.seen);
@@ -90,14 +91,6 @@ pub fn act_of_order(order: Order, mode: Mode, proc: ProcId) -> Act
         Order::Init(k, n) => Act::Initialising(k, n, proc),
         Order::Off => Act::Off,
     }
-}
-
-// Returns `true` if processor `p` is in a set of processors that is given as bits.
-fn has(set: u8, p: u8) -> bool
-    requires { p < 8 }
-    ensures { result ≡ has_bit set p }
-{
-    set >> p & 1 == 1
 }
 
 /// Returns the area of the lowest-numbered application of a kind, or zeros if the kind has no application.

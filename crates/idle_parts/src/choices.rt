@@ -1,6 +1,6 @@
 //! The rules, configurations and bounds that are idle, since no choice uses them.
 
-ghost use Rattle.std.specs.Prelude.{◌≡◌, ◌<◌, ◌≤◌, IfOk, length};
+ghost use Rattle.std.specs.Prelude.{◌≡◌, ◌<◌, IfOk, length};
 ghost use Rattle.scram_types.specs.Lookups.{conf_id};
 ghost use Rattle.scram_types.specs.Searches.{any_below};
 ghost use Rattle.choice_forms.specs.Tables.{HasShares};
@@ -11,9 +11,10 @@ ghost use Rattle.idle_parts.specs.Chosen.{AreChoicesOf};
 ghost use Rattle.idle_parts.specs.Choices.{is_bound_idle, is_conf_idle, is_first_from, is_rule_idle, is_target_of_other};
 
 use choice_forms::find_shares;
+use coverage_check::is_asked;
 use cube_cover::Share;
 use scram_types::{Bound, ConfId, List, NoMemory, Spec};
-use spec_forms::{find_asked, is_asked};
+use spec_forms::find_asked;
 use std::alloc::Global;
 
 // The possible choices from each configuration. For each configuration, `shares` has each rule's share of the
@@ -48,7 +49,7 @@ fn is_rule_first(spec: &Spec, shares: &[List<Share>], k: u8) -> bool
     requires rule { k < length spec.now.rules }
     ensures { result ≡ any_below (is_first_from spec.now k) (length spec.now.confs) }
 {
-    for i in 0..count_confs(spec) {
+    for i in 0..spec.count_confs() {
         if is_first_from(spec, shares[usize::from(i)].items(), k, i) {
             return true;
         }
@@ -77,13 +78,6 @@ fn has_environment(spec: &Spec, share: &Share, k: u8, i: u8) -> bool
     share.first.is_some()
 }
 
-fn count_confs(spec: &Spec) -> u8
-    ensures value { result ≡ length spec.now.confs }
-    ensures few { result ≤ 12 }
-{
-    spec.confs.items().len() as u8
-}
-
 // Returns `true` if configuration `c` is neither the start nor a possible target of another configuration. `sets`
 // has, for each configuration, the set of the targets to which acceptance requires a bound.
 pub(crate) fn is_conf_idle(spec: &Spec, sets: &[u16; 12], c: u8) -> bool
@@ -99,7 +93,7 @@ fn is_target_of_others(spec: &Spec, sets: &[u16; 12], c: u8) -> bool
     requires conf { c < length spec.now.confs }
     ensures { result ≡ any_below (is_target_of_other spec.now c) (length spec.now.confs) }
 {
-    for i in 0..count_confs(spec) {
+    for i in 0..spec.count_confs() {
         if is_target_of_other(spec, sets[usize::from(i)], c, i) {
             return true;
         }

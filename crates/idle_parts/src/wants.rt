@@ -1,6 +1,6 @@
 //! The factors and demands that are idle, since they have no effect.
 
-ghost use Rattle.std.specs.Prelude.{◌≡◌, ◌<◌, ◌≤◌, ◌^◌, ◌&&◌, length, not};
+ghost use Rattle.std.specs.Prelude.{◌≡◌, ◌<◌, ◌^◌, ◌&&◌, length, not};
 ghost use Rattle.choice_table.specs.Demands.{applies_in};
 ghost use Rattle.choice_table.specs.Environments.{in_scope};
 ghost use Rattle.scram_types.specs.Bits.{bits_below, has_bit};
@@ -54,19 +54,12 @@ fn is_supply_read(spec: &Spec, factor: FactorId) -> bool
 fn has_placed_monitor(spec: &Spec) -> bool
     ensures { result ≡ any_below (is_placed_monitor spec.now) (length spec.now.apps) }
 {
-    for a in 0..count_apps(spec) {
+    for a in 0..spec.count_apps() {
         if is_placed_monitor(spec, AppId(a)) {
             return true;
         }
     }
     false
-}
-
-fn count_apps(spec: &Spec) -> u8
-    ensures value { result ≡ length spec.now.apps }
-    ensures few { result ≤ 8 }
-{
-    spec.apps.items().len() as u8
 }
 
 fn is_placed_monitor(spec: &Spec, app: AppId) -> bool

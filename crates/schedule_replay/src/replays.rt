@@ -10,7 +10,6 @@ ghost use Rattle.schedule_replay.specs.Replaying.{AnswersReplay, first_next, nex
 ghost use Rattle.event_core.specs.declared.cores.Illegal.{Illegal};
 ghost use Rattle.bank_words.specs.declared.events.Event.{Event};
 
-use crate::turns::proc_count;
 use app_model::Boxes;
 use bank_words::Event;
 use event_core::Core;
@@ -167,7 +166,7 @@ fn pending(core: &Core, spec: &Spec) -> Option<Event>
         return None;
     }
     core.goes_on();
-    match next_below(core, proc_count(spec)) {
+    match next_below(core, spec.count_procs()) {
         Some(next) => Some(next),
         None => core.next_kernel(),
     }

@@ -51,7 +51,7 @@ fn add_procs(
 ) -> Result<(), NoMemory>
     ensures { OnOk result (let m = flight_of spec.now script.now in Adds list.old.items list.new.items (turns_of_procs m frame m.procs)) }
 {
-    let procs = proc_count(spec);
+    let procs = spec.count_procs();
     for p in 0..procs {
         add_turn(list, spec, script, ProcId(p), frame)?;
     }
@@ -85,7 +85,7 @@ fn add_steps(
 {
     let width = image_words(spec);
     add(list, Event::Start(p))?;
-    add_looks(list, p, proc_count(spec))?;
+    add_looks(list, p, spec.count_procs())?;
     match halt {
         None => add_all_stores(list, p, width),
         Some(halt) => add_until_halt(list, p, width, halt.step),
@@ -142,7 +142,7 @@ fn add_kernel(
     requires { frame < script.now.frames }
     ensures { OnOk result (Adds list.old.items list.new.items (turn_of_kernel (flight_of spec.now script.now) frame)) }
 {
-    add_notes(list, proc_count(spec))?;
+    add_notes(list, spec.count_procs())?;
     add_releasing(list, script, frame)
 }
 
@@ -188,13 +188,6 @@ fn add(list: &mut Vec<Event>, event: Event) -> Result<(), NoMemory>
 {
     list.push(event)?;
     Ok(())
-}
-
-/// Returns the number of processors of a specification.
-pub(crate) fn proc_count(spec: &Spec) -> u8
-    ensures { result ≡ length spec.now.procs }
-{
-    spec.procs.items().len() as u8
 }
 
 // Returns the number of words of an image.

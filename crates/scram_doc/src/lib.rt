@@ -21,5 +21,5 @@ pub use members::{field, no_more_than, object, required};
 pub use name::name_of;
 pub use numbered::{NamedElements, Naming, Numbered, Numbers, read_named_items, read_named_list};
 pub use path::Path;
-pub use values::{int_in, list, text, whole_in};
+pub use values::{count_items, int_in, list, text, whole_in};
 pub use writers::{Writes, put_list, write_list};

@@ -29,7 +29,8 @@ pub fn list<'a>(v: &'a Value, least: usize, most: usize, at: &Path) -> Result<&'
     }
 }
 
-fn count_items(items: &[Value]) -> usize
+/// Returns the number of values.
+pub fn count_items(items: &[Value]) -> usize
     ensures view { result ≡ items_len (items_view items.now) }
     ensures length { result ≡ length items.now }
 {

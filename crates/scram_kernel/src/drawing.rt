@@ -9,6 +9,7 @@ ghost use Rattle.scram_kernel.specs.Drawing.{act_drawn, area_from, areas_drawn, 
 ghost use Rattle.scram_kernel.specs.Marks.{mark_in};
 
 use bank_words::KernelImage;
+use frame_model::sights::slot_in;
 use frame_model::{Task, act_of_order, world_in};
 use scram_types::{Act, Area, Image, ProcId, Row, Spec};
 
@@ -160,23 +161,6 @@ fn slot_of(images: &[Image; 8], proc: ProcId, a: u8) -> Area
         Some(image) => slot_in(image, a),
         None => [0; 8],
     }
-}
-
-fn slot_in(image: &Image, a: u8) -> Area
-    requires { a < 8 }
-    ensures { result ≡ slot_in image.now a }
-{
-    let at = 8 * usize::from(a);
-    [
-        image[at],
-        image[at + 1],
-        image[at + 2],
-        image[at + 3],
-        image[at + 4],
-        image[at + 5],
-        image[at + 6],
-        image[at + 7],
-    ]
 }
 
 #[cfg(test)]

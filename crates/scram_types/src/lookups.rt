@@ -6,7 +6,7 @@ ghost use Rattle.scram_types.specs.Lookups.{app_name, app_named, conf_name, conf
 use crate::ids::{AppId, ConfId, FactorId, KindId, Mode, ProcId};
 use crate::names::Name;
 use crate::rows::{Env, Row};
-use crate::specification::{Factor, ModeSpec, Place, Spec};
+use crate::specification::{AppSpec, Conf, Factor, ModeSpec, Place, Proc, Spec};
 
 impl Spec {
     /// Returns the application with this name, or `None` if there is no such application.
@@ -14,12 +14,7 @@ impl Spec {
         ensures app { result ≡ app_named self.now text.now }
         ensures below { IfSome result (λ app. app.0 < length self.now.apps) }
     {
-        for (i, app) in self.apps.items().iter().enumerate() {
-            if app.name.as_str().as_bytes() == text {
-                return Some(AppId(i as u8));
-            }
-        }
-        None
+        number_named(self.apps.items(), text).map(AppId)
     }
 
     /// Returns the processor with this name, or `None` if there is no such processor.
@@ -27,12 +22,7 @@ impl Spec {
         ensures proc { result ≡ proc_named self.now text.now }
         ensures below { IfSome result (λ proc. proc.0 < length self.now.procs) }
     {
-        for (i, proc) in self.procs.items().iter().enumerate() {
-            if proc.name.as_str().as_bytes() == text {
-                return Some(ProcId(i as u8));
-            }
-        }
-        None
+        number_named(self.procs.items(), text).map(ProcId)
     }
 
     /// Returns the configuration with this name, or `None` if there is no such configuration.
@@ -40,12 +30,7 @@ impl Spec {
         ensures conf { result ≡ conf_named self.now text.now }
         ensures below { IfSome result (λ conf. conf.0 < length self.now.confs) }
     {
-        for (i, conf) in self.confs.items().iter().enumerate() {
-            if conf.name.as_str().as_bytes() == text {
-                return Some(ConfId(i as u8));
-            }
-        }
-        None
+        number_named(self.confs.items(), text).map(ConfId)
     }
 
     /// Returns the factor with this name, or `None` if there is no such factor.
@@ -53,12 +38,7 @@ impl Spec {
         ensures factor { result ≡ factor_named self.now text.now }
         ensures below { IfSome result (λ factor. factor.0 < length self.now.factors) }
     {
-        for (i, factor) in self.factors.items().iter().enumerate() {
-            if factor.name.as_str().as_bytes() == text {
-                return Some(FactorId(i as u8));
-            }
-        }
-        None
+        number_named(self.factors.items(), text).map(FactorId)
     }
 
     /// Returns the name of an application, at most 16 bytes, or an empty string if there is no such application.
@@ -170,7 +150,7 @@ impl Factor {
         requires { length self.now.values ≤ 255 }
         ensures { result ≡ value_named self.now text.now }
     {
-        number_of_name(self.values.items(), text)
+        number_named(self.values.items(), text)
     }
 
     /// Returns the name of a value of the factor, at most 16 bytes, or an empty string if the factor has no such
@@ -186,12 +166,66 @@ impl Factor {
     }
 }
 
-fn number_of_name(names: &[Name], text: &[u8]) -> Option<u8>
-    requires { length names.now ≤ 255 }
-    ensures { result ≡ number_named (λ name. name) names.now text.now }
+/// An item that has a name.
+trait Named {
+    ghost use Rattle.std.specs.Prelude.{◌≡◌, List, ℕ};
+
+    /// The bytes of an item's name.
+    ghost spelling: { Self → List ℕ };
+
+    fn name(&self) -> &Name
+        ensures { result.now ≡ spelling self.now };
+}
+
+impl Named for AppSpec {
+    ghost spelling = { λ app. app.name };
+
+    fn name(&self) -> &Name {
+        &self.name
+    }
+}
+
+impl Named for Proc {
+    ghost spelling = { λ proc. proc.name };
+
+    fn name(&self) -> &Name {
+        &self.name
+    }
+}
+
+impl Named for Conf {
+    ghost spelling = { λ conf. conf.name };
+
+    fn name(&self) -> &Name {
+        &self.name
+    }
+}
+
+impl Named for Factor {
+    ghost spelling = { λ factor. factor.name };
+
+    fn name(&self) -> &Name {
+        &self.name
+    }
+}
+
+impl Named for Name {
+    ghost spelling = { λ name. name };
+
+    fn name(&self) -> &Name {
+        self
+    }
+}
+
+/// Returns the index of the first item with this name, or `None` if there is no such item. There must be at most 255
+/// items.
+fn number_named<T: Named>(items: &[T], text: &[u8]) -> Option<u8>
+    requires { length items.now ≤ 255 }
+    ensures number { result ≡ number_named T.spelling items.now text.now }
+    ensures below { IfSome result (λ i. i < length items.now) }
 {
-    for (i, name) in names.iter().enumerate() {
-        if name.as_str().as_bytes() == text {
+    for (i, item) in items.iter().enumerate() {
+        if item.name().as_str().as_bytes() == text {
             return Some(i as u8);
         }
     }

@@ -1,6 +1,6 @@
 //! Specifications: processors, applications, configurations, the choice table and the bounds.
 
-ghost use Rattle.std.specs.Prelude.{◌≡◌, slice_get};
+ghost use Rattle.std.specs.Prelude.{◌≡◌, ◌≤◌, length, slice_get};
 ghost use Rattle.std.specs.Option.{option_copied};
 ghost use Rattle.scram_types.specs.Specification.{greater_of};
 
@@ -248,7 +248,43 @@ impl AppSpec {
 }
 
 impl Spec {
-    ghost use Rattle.scram_types.specs.Specification.{bound_in, greatest_bound_in};
+    ghost use Rattle.scram_types.specs.Specification.{IsSpec, bound_in, greatest_bound_in};
+
+    /// Returns the number of processors, at most 8.
+    pub fn count_procs(&self) -> u8
+        ensures value { result ≡ length self.now.procs }
+        ensures most { result ≤ 8 }
+        ensures known { IsSpec self.now }
+    {
+        self.procs.items().len() as u8
+    }
+
+    /// Returns the number of applications, at most 8.
+    pub fn count_apps(&self) -> u8
+        ensures value { result ≡ length self.now.apps }
+        ensures most { result ≤ 8 }
+        ensures known { IsSpec self.now }
+    {
+        self.apps.items().len() as u8
+    }
+
+    /// Returns the number of configurations, at most 12.
+    pub fn count_confs(&self) -> u8
+        ensures value { result ≡ length self.now.confs }
+        ensures most { result ≤ 12 }
+        ensures known { IsSpec self.now }
+    {
+        self.confs.items().len() as u8
+    }
+
+    /// Returns the number of factors, at most 6.
+    pub fn count_factors(&self) -> u8
+        ensures value { result ≡ length self.now.factors }
+        ensures most { result ≤ 6 }
+        ensures known { IsSpec self.now }
+    {
+        self.factors.items().len() as u8
+    }
 
     /// Returns the bound, in frames, on a reconfiguration from one configuration to another, or `None` if the
     /// specification gives no bound for the pair.

@@ -19,6 +19,7 @@ ghost use Rattle.spec_members.specs.Found.{AreMembers};
 use crate::applications::Apps;
 use crate::{SpecError, SpecFault};
 use arrayvec::ArrayVec;
+use dep_order::timetables::is_named;
 use dep_order::{Cycle, rank};
 use scram_doc::{
     DocError, DocFault, Elements, Lengths, Numbered, Path, list, read_items, read_list,
@@ -31,12 +32,6 @@ use spec_members::members::Members;
 use spec_members::names::{ByName, read_named};
 use spec_members::rule;
 use std::alloc::Global;
-
-fn is_needed(needs: &[AppId], app: AppId) -> bool
-    ensures { result ≡ is_named needs.now app.0 }
-{
-    needs.iter().any(|needed| needed.0 == app.0)
-}
 
 /// A reader of the needs of an application. Each need is the name of an application of `apps`.
 #[derive(Clone, Copy)]
@@ -61,7 +56,7 @@ impl Elements<AppId> for Needs<'_> {
         at: &Path,
     ) -> Result<AppId, DocError> {
         let app = AppId(read_named(self.apps, rule::UNKNOWN_APPLICATION, v, at)?);
-        if is_needed(done, app) {
+        if is_named(done, usize::from(app.0)) {
             Err(DocError::from(DocFault::new(rule::TWICE_IN_LIST, at)))
         } else {
             Ok(app)

@@ -1,9 +1,8 @@
 //! The form `bounds`, which lists the bounds that a specification must give.
 
-ghost use Rattle.std.specs.Prelude.{◌≡◌, ◌<◌, ◌≤◌, ◌∷◌, [], IfOk, length};
-ghost use Rattle.scram_types.specs.Bits.{has_bit};
+ghost use Rattle.std.specs.Prelude.{◌≡◌, ◌<◌, ◌∷◌, [], IfOk, length};
 ghost use Rattle.coverage_check.specs.Form.{state_refusal};
-ghost use Rattle.coverage_check.specs.Timing.{asked_bounds, is_bound_asked};
+ghost use Rattle.coverage_check.specs.Timing.{asked_bounds};
 ghost use Rattle.scram_io.specs.Outside.{Prints};
 ghost use Rattle.form_base.specs.Answers.{Gives};
 ghost use Rattle.form_base.specs.Endings.{Ends, IsTaken, Prepares, PreparesWithoutFiles};
@@ -13,7 +12,7 @@ ghost use Rattle.spec_forms.specs.Asked.{AreAsked, GivesBounds};
 ghost use Rattle.spec_forms.specs.Bounds.{AreAskedBounds, bound_text_of, bounds_text, bounds_text_from};
 
 use crate::lines::make_bound_line;
-use coverage_check::{asked_bounds, refuse_states};
+use coverage_check::{asked_bounds, is_asked, refuse_states};
 use form_base::lines::make_shown_line;
 use form_base::loads::load;
 use form_base::printing::{print_refusal, status_after};
@@ -92,24 +91,17 @@ pub fn find_asked(alloc: Global, spec: &Spec) -> Result<[u16; 12], NoMemory>
     ensures { IfOk result (λ sets. AreAskedBounds spec.now sets) }
 {
     let mut sets = [0; 12];
-    for i in 0..count_confs(spec) {
+    for i in 0..spec.count_confs() {
         sets[usize::from(i)] = asked_bounds(alloc, spec, ConfId(i))?;
     }
     Ok(sets)
-}
-
-fn count_confs(spec: &Spec) -> u8
-    ensures value { result ≡ length spec.now.confs }
-    ensures few { result ≤ 12 }
-{
-    spec.confs.items().len() as u8
 }
 
 fn put_bounds<K: Sink>(out: &mut K, spec: &Spec, sets: &[u16; 12]) -> Result<(), SinkFault>
     requires { AreAskedBounds spec.now sets.now }
     ensures { Prints result (K.state out.old) (K.state out.new) (bounds_text spec.now) }
 {
-    for i in 0..count_confs(spec) {
+    for i in 0..spec.count_confs() {
         match put_bounds_from(out, spec, sets[usize::from(i)], ConfId(i)) {
             Ok(()) => {}
             Err(fault) => return Err(fault),
@@ -127,7 +119,7 @@ fn put_bounds_from<K: Sink>(
     requires { set ≡ asked_bounds spec.now from }
     ensures { Prints result (K.state out.old) (K.state out.new) (bounds_text_from spec.now from.0) }
 {
-    for j in 0..count_confs(spec) {
+    for j in 0..spec.count_confs() {
         match put_bound(out, spec, set, from, ConfId(j)) {
             Ok(()) => {}
             Err(fault) => return Err(fault),
@@ -154,22 +146,4 @@ fn put_bound<K: Sink>(
     } else {
         Ok(())
     }
-}
-
-/// Returns `true` if a bound from `from` to `to` is required. `set` holds, as bits, the configurations to which a
-/// bound from `from` is required.
-pub fn is_asked(spec: &Spec, set: u16, from: ConfId, to: ConfId) -> bool
-    requires set { set ≡ asked_bounds spec.now from }
-    requires to { to.0 < length spec.now.confs }
-    requires few { to.0 < 12 }
-    ensures { result ≡ is_bound_asked spec.now from to.0 }
-{
-    is_in_set(set, to.0)
-}
-
-fn is_in_set(set: u16, j: u8) -> bool
-    requires { j < 16 }
-    ensures { result ≡ has_bit set j }
-{
-    set >> j & 1 == 1
 }

@@ -7,5 +7,5 @@ mod bound_pairs;
 mod lines;
 
 pub use acceptance::check;
-pub use bound_pairs::{bounds, find_asked, is_asked};
+pub use bound_pairs::{bounds, find_asked};
 pub use lines::{make_accepted_line, make_bound_line};

@@ -1,9 +1,9 @@
 //! The causes of reconfigurations: changes of the environment (SP5).
 
 ghost use Rattle.std.specs.Prelude.{◌≡◌, ◌+◌, ◌-◌};
-ghost use Rattle.fault_script.specs.Assumption.{is_same_env};
 ghost use Rattle.trace_props.specs.Judging.{causeless_at, changes_in, first_within, follows, has_cause, is_another_env, settles};
 
+use fault_script::differs;
 use scram_types::lookups::{env_before, env_in};
 use scram_types::{Env, Policy, Report, Row, Spec};
 
@@ -83,14 +83,8 @@ pub(crate) fn is_another_env(env: Option<Env>, before: Option<Env>) -> bool
     ensures { result ≡ is_another_env env before }
 {
     match (env, before) {
-        (Some(env), Some(before)) => !is_same_env(&env, &before),
+        (Some(env), Some(before)) => differs(&env, &before),
         (Some(_), None) => true,
         (None, _) => false,
     }
-}
-
-fn is_same_env(env: &Env, other: &Env) -> bool
-    ensures { result ≡ is_same_env env.now other.now }
-{
-    env.up == other.up && env.factors == other.factors
 }

@@ -6,6 +6,7 @@ ghost use Rattle.choice_table.specs.Choices.{has_source};
 ghost use Rattle.frame_model.specs.States.{area_at};
 ghost use Rattle.trace_props.specs.Judging.{breaks_at, breaks_target_precondition, breaks_invariant, goes_to, breaks_precondition, lesser_frame, lies_in, unkept_at, unkept_from, unmet_at, unmet_in, first_within};
 
+use choice_table::has_source;
 use scram_types::{AppId, Area, ConfId, Invariant, Precondition, Report, Row, Spec};
 
 // Returns the first frame in which SP4 is broken, or `None` if SP4 is kept. SP4 is broken in a row that breaks an
@@ -90,15 +91,6 @@ fn breaks_precondition(row: &Row, pre: &Precondition) -> bool
     ensures { result ≡ breaks_precondition row.now pre.now }
 {
     !lies_in(pre.least, pre.greatest, word_in(row, pre.app, pre.variable))
-}
-
-fn has_source(wanted: Option<ConfId>, from: ConfId) -> bool
-    ensures { result ≡ has_source wanted from }
-{
-    match wanted {
-        Some(wanted) => wanted.0 == from.0,
-        None => true,
-    }
 }
 
 fn goes_to(to: Option<ConfId>, conf: ConfId) -> bool

@@ -10,7 +10,7 @@ pub returns-in-None-clause-over : goal.returns-in-None-clause-over
 returns-in-None-clause-over c = λ is.
     let core = c.args.core.now in
     let told : c.next_below.result ≡ None = search rules in
-    let procs : c.proc_count.result ≡ length core.spec.procs = c.proc_count.ensures ∙ ap (λ (spec : Parts). length spec.procs) (sym c.requires.spec) in
+    let procs : c.count_procs.result ≡ length core.spec.procs = c.count_procs.ensures.value ∙ ap (λ (spec : Parts). length spec.procs) (sym c.requires.spec) in
     let none : next_below (core_flight core) (core_places core) (core_words core) (length core.spec.procs) ≡ None =
     subst (λ (n : ℕ). next_below (core_flight core) (core_places core) (core_words core) n ≡ None) procs (sym c.next_below.ensures ∙ told) in
     over_without (core_flight core) (core_places core) (core_words core) none (sym c.next_kernel.ensures ∙ is) c.goes_on.ensures

@@ -9,5 +9,5 @@ use Rattle.schedule_replay.proofs.turns.add_kernel.Goals as goal
 
 pub returns : goal.returns
 returns c =
-    let noted = subst (λ n. Adds c.args.list.now.items c.add_notes.new.list.items (listed_below (λ (p : ℕ). KNote (proc_id p)) n)) c.proc_count.ensures c.in_ok-add_notes.ensures in
+    let noted = subst (λ n. Adds c.args.list.now.items c.add_notes.new.list.items (listed_below (λ (p : ℕ). KNote (proc_id p)) n)) c.count_procs.ensures.value c.in_ok-add_notes.ensures in
     adds_then c.add_releasing.result _ _ _ _ _ noted (c.add_releasing.ensures (flight_of c.args.spec.now c.args.script.now) refl)

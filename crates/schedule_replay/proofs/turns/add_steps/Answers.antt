@@ -15,7 +15,7 @@ returns-in-None c = λ script.
     let looks = listed_below (λ (q : ℕ). Look (proc_id c.args.p.0) (proc_id q)) m.procs in
     let ended = c.add_all_stores.ensures m (sym c.image_words-width.ensures) in
     let looked : Adds c.add.new.list.items c.add_looks.new.list.items looks =
-    subst (λ n. Adds c.add.new.list.items c.add_looks.new.list.items (listed_below (λ (q : ℕ). Look (proc_id c.args.p.0) (proc_id q)) n)) c.proc_count.ensures c.in_ok-add_looks.ensures in
+    subst (λ n. Adds c.add.new.list.items c.add_looks.new.list.items (listed_below (λ (q : ℕ). Look (proc_id c.args.p.0) (proc_id q)) n)) c.count_procs.ensures.value c.in_ok-add_looks.ensures in
     let after = adds_then c.add_all_stores.result c.add.new.list.items c.add_looks.new.list.items c.add_all_stores.new.list.items looks rest looked ended in
     rw c.in-None.is (adds_then c.add_all_stores.result c.args.list.now.items c.add.new.list.items c.add_all_stores.new.list.items (Start c.args.p ∷ []) (looks ++ rest) c.in_ok-add.ensures after)
 
@@ -26,6 +26,6 @@ returns-in-Some c = λ script.
     let looks = listed_below (λ (q : ℕ). Look (proc_id c.args.p.0) (proc_id q)) m.procs in
     let ended = c.add_until_halt.ensures m (sym c.image_words-width.ensures) in
     let looked : Adds c.add.new.list.items c.add_looks.new.list.items looks =
-    subst (λ n. Adds c.add.new.list.items c.add_looks.new.list.items (listed_below (λ (q : ℕ). Look (proc_id c.args.p.0) (proc_id q)) n)) c.proc_count.ensures c.in_ok-add_looks.ensures in
+    subst (λ n. Adds c.add.new.list.items c.add_looks.new.list.items (listed_below (λ (q : ℕ). Look (proc_id c.args.p.0) (proc_id q)) n)) c.count_procs.ensures.value c.in_ok-add_looks.ensures in
     let after = adds_then c.add_until_halt.result c.add.new.list.items c.add_looks.new.list.items c.add_until_halt.new.list.items looks rest looked ended in
     rw c.in-Some.is (adds_then c.add_until_halt.result c.args.list.now.items c.add.new.list.items c.add_until_halt.new.list.items (Start c.args.p ∷ []) (looks ++ rest) c.in_ok-add.ensures after)
