@@ -26,27 +26,30 @@ use std::alloc::Global;
 
 type Places = [Option<Place>; 8];
 
-fn has_place(places: &Places, app: AppId) -> bool
-    ensures { result ≡ is_some (given places.now app.0) }
+/// Returns `true` if there is an item for an application.
+pub(crate) fn is_given<T>(items: &[Option<T>; 8], app: AppId) -> bool
+    ensures { result ≡ is_some (given items.now app.0) }
 {
-    match places.get(usize::from(app.0)) {
+    match items.get(usize::from(app.0)) {
         Some(Some(_)) => true,
         Some(None) | None => false,
     }
 }
 
-fn read_new_app(
+/// Reads an application from its name. Returns an error if the value is not a text, no application has this name, or
+/// there is an item for the application.
+pub(crate) fn read_new_app<T>(
     apps: &Numbered<AppSpec, ByName>,
-    places: &Places,
+    items: &[Option<T>; 8],
     v: &Value,
     at: &Path,
 ) -> Result<AppId, DocFault>
     requires few { length apps.now ≤ 8 }
-    ensures value { ok_map (λ app. app.0) result ≡ read_new_app apps.now places.now at.now (view v.now) }
+    ensures value { ok_map (λ app. app.0) result ≡ read_new_app apps.now items.now at.now (view v.now) }
     ensures there { IfOk result (λ app. app.0 < length apps.now) }
 {
     let app = AppId(read_named(apps, rule::UNKNOWN_APPLICATION, v, at)?);
-    if has_place(places, app) {
+    if is_given(items, app) {
         Err(DocFault::new(rule::TWICE_IN_LIST, at))
     } else {
         Ok(app)

@@ -6,12 +6,12 @@ ghost use Rattle.serde_json.specs.View.{view};
 ghost use Rattle.scram_doc.specs.Chain.{ok_map};
 ghost use Rattle.scram_doc.specs.Faults.{Answers};
 ghost use Rattle.scram_doc.specs.Lists.{AllAfter};
-ghost use Rattle.spec_table.specs.Configurations.{given, read_new_app};
+ghost use Rattle.spec_table.specs.Configurations.{given};
 ghost use Rattle.spec_table.specs.Demands.{on_set, read_demand, read_demands, read_modes_on, read_on_app, read_on_mode, read_on_modes, read_requirements};
 ghost use Rattle.spec_table.specs.Facts.{AreOn, FitsRequirements, HasMoreModes, IsNewDemand, IsNewOn, IsOnAfter};
 
 use crate::choices::Wants;
-use crate::configurations::{find_app, read_listed_mode};
+use crate::configurations::{find_app, is_given, read_listed_mode, read_new_app};
 use crate::sets::{read_apps_set, read_confs_set, read_procs_set};
 use crate::vocabulary::Vocabulary;
 use scram_doc::{
@@ -21,7 +21,7 @@ use scram_doc::{
 use scram_types::limits::{MAX_APPLICATIONS, MAX_DEMANDS, MAX_FACTORS, MAX_MODES};
 use scram_types::{AppId, AppSpec, Demand, List, Mode, Modes};
 use serde_json::Value;
-use spec_members::names::{ByName, read_named, read_new_name};
+use spec_members::names::{ByName, read_new_name};
 use spec_members::rule;
 use std::alloc::Global;
 
@@ -60,33 +60,6 @@ fn read_on_modes(app: Option<&AppSpec>, v: &Value, at: &Path) -> Result<Modes, D
         modes = read_on_mode(app, modes, v, &at.item(i))?;
     }
     Ok(modes)
-}
-
-fn is_on(on: &On, app: AppId) -> bool
-    ensures { result ≡ is_some (given on.now app.0) }
-{
-    match on.get(usize::from(app.0)) {
-        Some(Some(_)) => true,
-        Some(None) | None => false,
-    }
-}
-
-fn read_new_app(
-    apps: &Numbered<AppSpec, ByName>,
-    on: &On,
-    v: &Value,
-    at: &Path,
-) -> Result<AppId, DocFault>
-    requires few { length apps.now ≤ 8 }
-    ensures value { ok_map (λ app. app.0) result ≡ read_new_app apps.now on.now at.now (view v.now) }
-    ensures there { IfOk result (λ app. app.0 < length apps.now) }
-{
-    let app = AppId(read_named(apps, rule::UNKNOWN_APPLICATION, v, at)?);
-    if is_on(on, app) {
-        Err(DocFault::new(rule::TWICE_IN_LIST, at))
-    } else {
-        Ok(app)
-    }
 }
 
 /// Reads an application that must be on, and adds its modes to `on`.
@@ -133,7 +106,7 @@ fn on_set(on: &On) -> u8
 {
     let mut set = 0;
     for a in 0..8 {
-        if is_on(on, AppId(a)) {
+        if is_given(on, AppId(a)) {
             set += 1 << a;
         }
     }
