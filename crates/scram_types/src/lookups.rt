@@ -148,7 +148,8 @@ impl Factor {
     /// most 255 values.
     pub fn value_named(&self, text: &[u8]) -> Option<u8>
         requires { length self.now.values ≤ 255 }
-        ensures { result ≡ value_named self.now text.now }
+        ensures value { result ≡ value_named self.now text.now }
+        ensures below { IfSome result (λ value. value < length self.now.values) }
     {
         number_named(self.values.items(), text)
     }

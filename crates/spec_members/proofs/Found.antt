@@ -1,6 +1,5 @@
 -- The index of a name in a list and the search through the list find the same item.
-use Rattle.std.proofs.Common.{◌≡◌, ◌+◌, ◌<◌, ℕ, suc, Bool, true, false, cond, List, [], ◌∷◌, length, arith, refl, ◌∙◌}
-use Rattle.std.specs.Prelude.{Option, Some, None}
+use Rattle.std.proofs.Common.{◌≡◌, ◌+◌, ℕ, suc, List, [], ◌∷◌, arith, refl, ◌∙◌}
 use Rattle.std.specs.List.{position_from}
 use Rattle.std.specs.Str.{bytes_eq}
 use Rattle.std.proofs.lemmas.Cmp.{nat_list_eq_equiv}
@@ -20,19 +19,3 @@ first_place name text number (x ∷ xs) =
 
 pub place_found : {A : Type 0} (name : A → List ℕ) (xs : List A) (text : List ℕ) → index_named name xs text ≡ number_named name xs text
 place_found {A} name xs text = position_from-zero (λ (x : A). bytes_eq text (name x)) xs ∙ first_place name text 0 xs
-
-below_either : (test : Bool) (k n count : ℕ) (later : Option ℕ) → (later ≡ Some n → n < suc k + count) → cond test (Some k) later ≡ Some n → n < k + suc count
-below_either true k n count later below e =
-    let found : Some k ≡ Some n = e in
-    let same : k ≡ n = cc in
-    omega (arith, same)
-below_either false k n count later below e = let within = below e in omega (arith, within)
-
-below_from : {A : Type 0} (name : A → List ℕ) (k n : ℕ) (xs : List A) (text : List ℕ) → number_from name k xs text ≡ Some n → n < k + length xs
-below_from name k n [] text e = absurd (let none : None ≡ Some n = e in cc)
-below_from name k n (x ∷ xs) text e =
-    below_either (bytes_eq (name x) text) k n (length xs) (number_from name (suc k) xs text) (below_from name (suc k) n xs text) e
-
--- A number that the search finds is the index of an item.
-pub number_below : {A : Type 0} (name : A → List ℕ) (xs : List A) (text : List ℕ) (n : ℕ) → number_named name xs text ≡ Some n → n < length xs
-number_below name xs text n e = let within = below_from name 0 n xs text e in omega (arith, within)

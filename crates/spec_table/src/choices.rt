@@ -3,12 +3,10 @@
 ghost use Rattle.std.specs.Prelude.{◌≡◌, ◌≤◌, ◌<◌, false, codes, length, slice_get, IfOk, IfSome};
 ghost use Rattle.std.specs.Option.{option_copied};
 ghost use Rattle.serde_json.specs.View.{view};
-ghost use Rattle.scram_types.specs.Lookups.{number_named};
 ghost use Rattle.scram_types.specs.Specification.{IsIn, IsInIfNamed};
 ghost use Rattle.scram_doc.specs.Chain.{ok_map};
 ghost use Rattle.scram_doc.specs.Faults.{Answers};
 ghost use Rattle.scram_doc.specs.Lists.{AllAfter};
-ghost use Rattle.scram_doc.specs.Numbering.{itself};
 ghost use Rattle.spec_table.specs.Choices.{read_conf_id, read_source, wants_factor, read_new_factor, read_value_of, read_want, read_choice, read_choices};
 ghost use Rattle.spec_members.specs.Members.{member_in};
 ghost use Rattle.spec_table.specs.Facts.{IsNewWant, FitsChoice, HasValue};
@@ -85,15 +83,6 @@ fn read_new_factor(
     }
 }
 
-#[tactic(auto, using(spec_members::proofs::Found::number_below))]
-fn number_of_value(factor: &Factor, text: &str) -> Option<u8>
-    requires few { length factor.now.values ≤ 255 }
-    ensures value { result ≡ number_named itself factor.now.values text.now }
-    ensures below { IfSome result (λ value. value < length factor.now.values) }
-{
-    factor.value_named(text.as_bytes())
-}
-
 fn find_factor(factors: &Numbered<Factor, ByName>, factor: FactorId) -> Option<&Factor>
     ensures { option_copied result ≡ slice_get factors.now factor.0 }
 {
@@ -108,7 +97,7 @@ fn read_value_of(factor: Option<&Factor>, v: &Value, at: &Path) -> Result<u8, Do
     let Some(found) = factor else {
         return Err(DocFault::new(rule::UNKNOWN_FACTOR_OR_VALUE, at));
     };
-    match number_of_value(found, text(v, at)?) {
+    match found.value_named(text(v, at)?.as_bytes()) {
         Some(value) => Ok(value),
         None => Err(DocFault::new(rule::UNKNOWN_FACTOR_OR_VALUE, at)),
     }
