@@ -202,14 +202,12 @@ fn form_of_few(words: &[String]) -> Option<Form<&str>>
 fn form_of_one<'a>(command: &str) -> Option<Form<&'a str>>
     ensures { option_map (with_names (λ name. name.now)) result ≡ form_of_one command.now }
 {
-    if command == "--help" {
-        Some(Form::Told { page: Page::Help })
-    } else if command == "--version" {
-        Some(Form::Told {
+    match command {
+        "--help" => Some(Form::Told { page: Page::Help }),
+        "--version" => Some(Form::Told {
             page: Page::Version,
-        })
-    } else {
-        None
+        }),
+        _ => None,
     }
 }
 
@@ -226,37 +224,29 @@ fn form_of_two<'a>(command: &str, word: &'a str) -> Option<Form<&'a str>>
 fn question_of<'a>(command: &str, specification: &'a str) -> Option<SpecificationForm<&'a str>>
     ensures { option_map (question_with_names (λ name. name.now)) result ≡ question_of command.now specification.now }
 {
-    if command == "check" {
-        Some(SpecificationForm::Check { specification })
-    } else if command == "bounds" {
-        Some(SpecificationForm::Bounds { specification })
-    } else if command == "explain" {
-        Some(SpecificationForm::Explain { specification })
-    } else if command == "fill" {
-        Some(SpecificationForm::Fill { specification })
-    } else if command == "choices" {
-        Some(SpecificationForm::Choices { specification })
-    } else {
-        None
+    match command {
+        "check" => Some(SpecificationForm::Check { specification }),
+        "bounds" => Some(SpecificationForm::Bounds { specification }),
+        "explain" => Some(SpecificationForm::Explain { specification }),
+        "fill" => Some(SpecificationForm::Fill { specification }),
+        "choices" => Some(SpecificationForm::Choices { specification }),
+        _ => None,
     }
 }
 
 fn form_of_number<'a>(command: &str, word: &str) -> Option<Form<&'a str>>
     ensures { option_map (with_names (λ name. name.now)) result ≡ form_of_number command.now word.now }
 {
-    if command == "gen" {
-        let number = mission_number(word)?;
-        Some(Form::Flight {
-            flight: FlightForm::Gen { number },
-        })
-    } else if command == "fly" {
-        let number = mission_number(word)?;
-        Some(Form::Flight {
-            flight: FlightForm::Fly { number },
-        })
-    } else {
-        None
-    }
+    let flight = match command {
+        "gen" => FlightForm::Gen {
+            number: mission_number(word)?,
+        },
+        "fly" => FlightForm::Fly {
+            number: mission_number(word)?,
+        },
+        _ => return None,
+    };
+    Some(Form::Flight { flight })
 }
 
 fn mission_number(word: &str) -> Option<u32>
@@ -286,15 +276,14 @@ fn form_of_explained<'a>(
 ) -> Option<Form<&'a str>>
     ensures { option_map (with_names (λ name. name.now)) result ≡ form_of_explained command.now specification.now further.now }
 {
-    if command == "explain" {
-        Some(Form::Specification {
+    match command {
+        "explain" => Some(Form::Specification {
             question: SpecificationForm::ExplainScript {
                 specification,
                 script: further,
             },
-        })
-    } else {
-        form_of_look(command, specification, further)
+        }),
+        _ => form_of_look(command, specification, further),
     }
 }
 
@@ -307,29 +296,24 @@ fn flight_of_three<'a>(
 ) -> Option<FlightForm<&'a str>>
     ensures { option_map (flight_with_names (λ name. name.now)) result ≡ flight_of_three command.now specification.now further.now }
 {
-    if command == "run" {
-        Some(FlightForm::Run {
+    match command {
+        "run" => Some(FlightForm::Run {
             specification,
             script: further,
-        })
-    } else if command == "watch" {
-        Some(FlightForm::Watch {
+        }),
+        "watch" => Some(FlightForm::Watch {
             specification,
             script: further,
-        })
-    } else if command == "faults" {
-        let count = fault_count(further.as_bytes())?;
-        Some(FlightForm::Faults {
+        }),
+        "faults" => Some(FlightForm::Faults {
             specification,
-            count,
-        })
-    } else if command == "flights" {
-        Some(FlightForm::Flights {
+            count: fault_count(further.as_bytes())?,
+        }),
+        "flights" => Some(FlightForm::Flights {
             specification,
             scripts: further,
-        })
-    } else {
-        None
+        }),
+        _ => None,
     }
 }
 
@@ -347,16 +331,12 @@ fn form_of_look<'a>(command: &str, specification: &'a str, trace: &'a str) -> Op
 fn look_of(command: &str) -> Option<Look>
     ensures { result ≡ look_of command.now }
 {
-    if command == "props" {
-        Some(Look::Props)
-    } else if command == "summary" {
-        Some(Look::Summary)
-    } else if command == "columns" {
-        Some(Look::Columns)
-    } else if command == "picture" {
-        Some(Look::Picture)
-    } else {
-        None
+    match command {
+        "props" => Some(Look::Props),
+        "summary" => Some(Look::Summary),
+        "columns" => Some(Look::Columns),
+        "picture" => Some(Look::Picture),
+        _ => None,
     }
 }
 
@@ -368,16 +348,15 @@ fn form_of_four<'a>(
 ) -> Option<Form<&'a str>>
     ensures { option_map (with_names (λ name. name.now)) result ≡ form_of_four command.now specification.now script.now schedule.now }
 {
-    if command == "replay" {
-        Some(Form::Flight {
+    match command {
+        "replay" => Some(Form::Flight {
             flight: FlightForm::Replay {
                 specification,
                 script,
                 schedule,
             },
-        })
-    } else {
-        None
+        }),
+        _ => None,
     }
 }
 
@@ -389,17 +368,15 @@ fn form_of_six<'a>(
     ensures { option_map (with_names (λ name. name.now)) result
         ≡ form_of_six command.now files.entry.0.now files.entry.1.now halt.entry.0.now halt.entry.1.now halt.entry.2.now }
 {
-    if command == "pair" {
-        let halt = unit_halt(halt.0, halt.1, halt.2)?;
-        Some(Form::Flight {
+    match command {
+        "pair" => Some(Form::Flight {
             flight: FlightForm::Pair {
                 specification: files.0,
                 script: files.1,
-                halt,
+                halt: unit_halt(halt.0, halt.1, halt.2)?,
             },
-        })
-    } else {
-        None
+        }),
+        _ => None,
     }
 }
 
