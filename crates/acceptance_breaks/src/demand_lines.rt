@@ -1,9 +1,8 @@
 //! The lines about demands, in pieces that are made without allocating.
 
-ghost use Rattle.std.specs.Prelude.{◌≡◌, ◌+◌, ◌*◌, ◌<◌, ◌≤◌, ◌++◌, [], codes, length, if◌then◌else◌};
+ghost use Rattle.std.specs.Prelude.{◌≡◌, ◌+◌, ◌<◌, ◌≤◌, ◌++◌, [], codes, length, if◌then◌else◌};
 ghost use Rattle.scram_types.specs.Bits.{has_bit};
 ghost use Rattle.scram_types.specs.Lookups.{conf_name};
-ghost use Rattle.scram_types.specs.Searches.{any_below};
 ghost use Rattle.scram_types.specs.declared.limits.TheConstants.{MAX_LINE_BYTES};
 ghost use Rattle.choice_table.specs.Demands.{is_empty_or_holds, is_placed};
 ghost use Rattle.choice_table.specs.Environments.{IsEnv};

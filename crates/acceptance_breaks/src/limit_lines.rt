@@ -1,6 +1,6 @@
 //! The lines about invariants and preconditions, made without allocating.
 
-ghost use Rattle.std.specs.Prelude.{◌≡◌, ◌+◌, ◌≤◌, ◌++◌, [], codes, length, if◌then◌else◌};
+ghost use Rattle.std.specs.Prelude.{◌≡◌, ◌+◌, ◌≤◌, ◌++◌, length};
 ghost use Rattle.scram_types.specs.declared.limits.TheConstants.{MAX_LINE_BYTES};
 ghost use Rattle.acceptance_breaks.specs.Lines.{intervals_text, limits_text, missed_line, missed_line_of, place_mode_text, subject_text, unheld_line, unheld_line_of, variable_text, way_text};
 

@@ -1,6 +1,6 @@
 //! Reading and writing a specification and a script.
 
-ghost use Rattle.std.specs.Prelude.{◌≡◌, ◌∷◌, [], IfOk, OnOk};
+ghost use Rattle.std.specs.Prelude.{◌∷◌, [], IfOk, OnOk};
 ghost use Rattle.scram_io.specs.Outside.{Grew};
 ghost use Rattle.bench_documents.specs.Documents.{IsPrinted, IsRead, AreSent};
 

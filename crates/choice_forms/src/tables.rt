@@ -2,7 +2,6 @@
 //! For each of these rules, it shows the number of environments in which the rule is the first that fits.
 
 ghost use Rattle.std.specs.Prelude.{◌<◌, ◌∷◌, [], IfOk};
-ghost use Rattle.scram_types.specs.Lookups.{conf_id};
 ghost use Rattle.cube_cover.specs.Shares.{AreShares, IsShare, is_ruled_by};
 ghost use Rattle.coverage_check.specs.Form.{state_refusal};
 ghost use Rattle.scram_io.specs.Outside.{Prints};

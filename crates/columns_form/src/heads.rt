@@ -1,6 +1,6 @@
 //! The names of columns, made without allocating.
 
-ghost use Rattle.std.specs.Prelude.{◌≡◌, ◌<◌, ◌≤◌, ◌+◌, ◌*◌, ◌++◌, length};
+ghost use Rattle.std.specs.Prelude.{◌≡◌, ◌≤◌, ◌+◌, ◌++◌, length};
 ghost use Rattle.scram_types.specs.declared.limits.TheConstants.{MAX_LINE_BYTES};
 ghost use Rattle.form_base.specs.Texts.{texts_below};
 ghost use Rattle.columns_form.specs.Heads.{app_head, factor_heads, proc_heads, row_head, word_head};

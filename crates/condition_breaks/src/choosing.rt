@@ -1,10 +1,9 @@
 //! The places at which the conditions A5 to A8 on the choice table do not hold.
 
 ghost use Rattle.std.specs.Prelude.{◌≡◌, ◌++◌, ◌<◌, IfOk, OnOk, length, option_map};
-ghost use Rattle.scram_types.specs.Lookups.{conf_id};
 ghost use Rattle.coverage_check.specs.Choosing.{first_unmet_env, leaves_start};
 ghost use Rattle.condition_breaks.specs.declared.breaks.Break.TheVariants as broken;
-ghost use Rattle.condition_breaks.specs.Breaks.{start_breaks, unmet_break, unmet_breaks};
+ghost use Rattle.condition_breaks.specs.Breaks.{start_breaks, unmet_breaks};
 
 use crate::breaks::Break;
 use crate::pushes::{push_found, push_if};

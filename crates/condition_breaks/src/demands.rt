@@ -1,10 +1,10 @@
 //! The places at which the condition A13 does not hold, since the choice table misses a demand.
 
-ghost use Rattle.std.specs.Prelude.{◌≡◌, ◌++◌, ◌<◌, OnOk, length};
+ghost use Rattle.std.specs.Prelude.{◌≡◌, ◌++◌, ◌<◌, OnOk};
 ghost use Rattle.scram_types.specs.Lookups.{conf_id};
 ghost use Rattle.scram_types.specs.Specification.{IsSpec};
 ghost use Rattle.cube_cover.specs.Demands.{AreMisses};
-ghost use Rattle.condition_breaks.specs.Breaks.{demand_break, demand_breaks, demand_breaks_in, missed_at};
+ghost use Rattle.condition_breaks.specs.Breaks.{demand_breaks, demand_breaks_in, missed_at};
 
 use crate::breaks::Break;
 use crate::pushes::push_found;

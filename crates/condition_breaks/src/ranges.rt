@@ -1,6 +1,6 @@
 //! The ranges that invariants and preconditions have to contain, and the ways on which invariants are checked.
 
-ghost use Rattle.std.specs.Prelude.{◌≡◌, ◌++◌, ◌<◌, ◌≤◌, IfOk, OnOk, length, option_map};
+ghost use Rattle.std.specs.Prelude.{◌≡◌, ◌++◌, ◌<◌, IfOk, OnOk, length};
 ghost use Rattle.scram_types.specs.Lookups.{conf_id};
 ghost use Rattle.choice_table.specs.Choices.{has_source};
 ghost use Rattle.coverage_check.specs.Holding.{holds_range};

@@ -1,9 +1,9 @@
 //! The places at which the conditions A9 on bounds and A10 on the window do not hold.
 
-ghost use Rattle.std.specs.Prelude.{◌≡◌, ◌++◌, ◌<◌, ◌≤◌, OnOk, length};
+ghost use Rattle.std.specs.Prelude.{◌≡◌, ◌++◌, ◌<◌, OnOk, length};
 ghost use Rattle.scram_types.specs.Lookups.{conf_id};
 ghost use Rattle.coverage_check.specs.Timing.{asked_bounds, has_short_window, lacks_bound};
-ghost use Rattle.condition_breaks.specs.Breaks.{bound_break, bound_breaks, bound_breaks_from, window_breaks};
+ghost use Rattle.condition_breaks.specs.Breaks.{bound_breaks, bound_breaks_from, window_breaks};
 
 use crate::breaks::Break;
 use crate::pushes::push_if;

@@ -1,5 +1,5 @@
 -- Lemmas on environments by number, on possible targets, and on the targets and environments in covers.
-use Rattle.std.proofs.Common.{◌≡◌, ℕ, ◌+◌, ◌<◌, Bool, true, false, refl, arith, ap, sym, ◌∙◌, List, get_or, length, set, subst}
+use Rattle.std.proofs.Common.{◌≡◌, ℕ, ◌+◌, ◌<◌, Bool, true, false, arith, ap, sym, ◌∙◌, List, get_or, length, set, subst}
 use mathlib.Core.Logic.{inl, inr}
 use Rattle.std.specs.Int.{bit_at}
 use Rattle.scram_types.specs.Bits.{has_bit}

@@ -1,6 +1,6 @@
 //! The covers of configurations, and their possible targets.
 
-ghost use Rattle.std.specs.Prelude.{◌≡◌, ◌<◌, ◌≤◌, IfOk, length};
+ghost use Rattle.std.specs.Prelude.{◌≡◌, ◌<◌, IfOk, length};
 ghost use Rattle.coverage_check.specs.TargetSets.{AreTargets, HasCovers};
 ghost use Rattle.coverage_check.specs.Timing.{targets};
 

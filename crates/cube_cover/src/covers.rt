@@ -1,6 +1,6 @@
 //! The computation of the cover of a configuration.
 
-ghost use Rattle.std.specs.Prelude.{◌≡◌, ◌+◌, ◌^◌, ◌<◌, ◌&&◌, ◌==◌, IfOk, if◌then◌else◌, length, true};
+ghost use Rattle.std.specs.Prelude.{◌≡◌, ◌+◌, ◌^◌, ◌<◌, ◌==◌, IfOk, if◌then◌else◌, length, true};
 ghost use Rattle.scram_types.specs.Specification.{IsSpec};
 ghost use Rattle.cube_cover.specs.Covers.{IsCover, IsLeastEnv, earlier_env};
 ghost use Rattle.cube_cover.specs.Cubes.{Agree, IsInScope, holders, is_in};

@@ -1,7 +1,7 @@
 //! The first environments, by number, that cubes hold.
 
-ghost use Rattle.std.specs.Prelude.{◌≡◌, ◌*◌, ◌+◌, ◌<◌, ◌≤◌, length};
-ghost use Rattle.scram_types.specs.Bits.{bits_below, has_bit};
+ghost use Rattle.std.specs.Prelude.{◌≡◌, ◌*◌, ◌+◌, ◌<◌, length};
+ghost use Rattle.scram_types.specs.Bits.{bits_below};
 ghost use Rattle.scram_types.specs.Specification.{IsSpec};
 ghost use Rattle.cube_cover.specs.Covers.{IsLeastEnv, earlier_env};
 ghost use Rattle.cube_cover.specs.Cubes.{HasDigits, holds, is_in, may_be_up};

@@ -4,7 +4,7 @@ ghost use Rattle.std.specs.Prelude.{◌≡◌, ◌&&◌, IfOk};
 ghost use Rattle.scram_types.specs.Specification.{IsSpec};
 ghost use Rattle.choice_table.specs.Choices.{rule_fits};
 ghost use Rattle.choice_table.specs.Environments.{IsEnv};
-ghost use Rattle.cube_cover.specs.Cubes.{AreDisjoint, HasDigits, HoldsExactly, holds, is_in};
+ghost use Rattle.cube_cover.specs.Cubes.{AreDisjoint, HoldsExactly, holds, is_in};
 ghost use Rattle.cube_cover.specs.Shares.{AreShares, HoldsRest, IsShare, first_rule};
 
 use crate::covers::all_cubes;

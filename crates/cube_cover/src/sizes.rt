@@ -3,7 +3,7 @@
 ghost use Rattle.std.specs.Prelude.{◌≡◌, ◌+◌, ◌*◌, ◌-◌, ◌^◌, ◌<◌, ◌≤◌, length, replicate};
 ghost use Rattle.scram_types.specs.Bits.{count_below};
 ghost use Rattle.scram_types.specs.Specification.{IsSpec};
-ghost use Rattle.choice_table.specs.Numbering.{environments, value_count};
+ghost use Rattle.choice_table.specs.Numbering.{value_count};
 ghost use Rattle.cube_cover.specs.Cubes.{AreDisjoint, holds, is_in};
 ghost use Rattle.cube_cover.specs.Sizes.{allows_up, are_open, count_where, digit_of_processor, is_down_held, is_open_digit, open_ways};
 

@@ -1,5 +1,5 @@
 -- Ranks that are assigned one after another.
-use Rattle.std.proofs.Common.{◌≡◌, ℕ, zero, suc, ◌+◌, ◌<◌, ◌≤◌, ◌≢◌, refl, arith, ◌⊎◌, ap, sym, ◌∙◌, List, [], ◌∷◌, length, set}
+use Rattle.std.proofs.Common.{◌≡◌, ℕ, zero, suc, ◌+◌, ◌<◌, ◌≤◌, ◌≢◌, refl, arith, ap, sym, ◌∙◌, List, [], ◌∷◌, length, set}
 use mathlib.Core.Logic.{inl, inr}
 use Rattle.std.specs.Prelude.{Option, Some, None, max, option_and_then, slice_get}
 use Rattle.scram_types.specs.declared.ids.AppId.{AppId}

@@ -1,10 +1,9 @@
 //! The timetables of configurations: when applications halt, prepare and initialise.
 
-ghost use Rattle.std.specs.Prelude.{◌≡◌, ◌≤◌, length, slice_index};
+ghost use Rattle.std.specs.Prelude.{◌≡◌, ◌≤◌, length};
 ghost use Rattle.scram_types.specs.Specification.{IsSpec};
-ghost use Rattle.scram_types.specs.Searches.{greatest_below};
 ghost use Rattle.scram_types.specs.Eights.{eight};
-ghost use Rattle.dep_order.specs.Chains.{offset, time_added};
+ghost use Rattle.dep_order.specs.Chains.{offset};
 ghost use Rattle.dep_order.specs.Timetables.{AtMost, IsTableOf, goes_before, is_named, needs, offset_from, offset_where_on, phase_length, phase_time, timed_chart, timetable};
 
 use scram_types::{AppId, ConfId, Spec};

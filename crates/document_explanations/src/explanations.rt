@@ -1,7 +1,6 @@
 //! The explanation in the refusal of a document that breaks a rule: the lines that follow the refusal's first line.
 
-ghost use Rattle.std.specs.Prelude.{◌≡◌, ◌++◌, IfOk, OnOk, codes, option_map, string_bytes};
-ghost use Rattle.serde_json.specs.View.{view};
+ghost use Rattle.std.specs.Prelude.{◌≡◌, ◌++◌, IfOk, OnOk, option_map, string_bytes};
 ghost use Rattle.scram_doc.specs.Documents.{document};
 ghost use Rattle.document_explanations.specs.Explanations.{explanation, found_line, found_part, rule_line, rule_lines, wanted_line, wanted_part};
 ghost use Rattle.document_explanations.specs.Rules.{plain_rule};

@@ -3,7 +3,6 @@
 ghost use Rattle.std.specs.Prelude.{◌≡◌, ◌∷◌, ◌<◌, [], IfSome, MatchOption, length, option_and_then, option_map};
 ghost use Rattle.serde_json.specs.View.{view};
 ghost use Rattle.trace_text.specs.Pieces.{pieces_of};
-ghost use Rattle.document_explanations.specs.Objects.{member_read};
 ghost use Rattle.document_explanations.specs.Paths.{after_dot, all_but_last, child, wanted_below, value_along, value_at, wanted_along, wanted_at, wanted_element};
 
 use crate::objects::{Element, Wanted, find_member};

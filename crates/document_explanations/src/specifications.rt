@@ -1,6 +1,6 @@
 //! Specifications in files, with explanations of broken rules.
 
-ghost use Rattle.std.specs.Prelude.{◌≡◌, ◌⊎◌, ◌++◌, IfOk, string_bytes};
+ghost use Rattle.std.specs.Prelude.{◌≡◌, ◌⊎◌, IfOk, string_bytes};
 ghost use Rattle.scram_types.specs.declared.limits.TheConstants.{MAX_SPECIFICATION_BYTES};
 ghost use Rattle.form_base.specs.Loads.{IsOutOfMemory};
 ghost use Rattle.form_base.specs.Refusals.{answer_of};

@@ -1,6 +1,6 @@
 //! The texts that describe expected values.
 
-ghost use Rattle.std.specs.Prelude.{◌≡◌, ◌++◌, OnOk, map, option_map};
+ghost use Rattle.std.specs.Prelude.{◌≡◌, ◌++◌, OnOk, option_map};
 ghost use Rattle.document_explanations.specs.Wants.{factors_and_values, script_factors, script_procs, step_after_mark, length_wanted, number_text, text_text, wanted_text};
 
 use crate::lines::Lines;

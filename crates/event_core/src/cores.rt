@@ -46,7 +46,7 @@ impl<'a> std::marker::Model for Core<'a> {
 }
 
 impl<'a> Core<'a> {
-    ghost use Rattle.std.specs.Prelude.{◌≡◌, ◌≢◌, ◌<◌, ◌/◌, ◌++◌, [], ◌∷◌, IfErr, IfOk, IsTrue, ◌↔◌, ◌≤◌, ◌+◌, ◌⊎◌, ◌^◌, length};
+    ghost use Rattle.std.specs.Prelude.{◌≡◌, ◌<◌, ◌/◌, ◌++◌, [], ◌∷◌, IfErr, IfOk, IsTrue, ◌↔◌, ◌≤◌, ◌+◌, ◌⊎◌, ◌^◌, length};
     ghost use Rattle.event_core.specs.Replays.{IsReplay};
     ghost use Rattle.fail_stop.specs.Events.{frame_of, next_kernel, next_of, next_of_actor};
     ghost use Rattle.fail_stop.specs.Drafts.{IsSnapshot};

@@ -1,6 +1,6 @@
 //! The places of actors after an event.
 
-ghost use Rattle.std.specs.Prelude.{◌≡◌, ℕ, ◌+◌, ◌<◌, ◌^◌, nat_eq, if◌then◌else◌};
+ghost use Rattle.std.specs.Prelude.{◌≡◌, ℕ, ◌+◌, ◌<◌, nat_eq, if◌then◌else◌};
 ghost use Rattle.scram_types.specs.Specification.{Parts};
 ghost use Rattle.fail_stop.specs.Events.{frame_on, halted_there, moved, one_on, started};
 ghost use Rattle.fail_stop.specs.Listed.{Moves};

@@ -7,7 +7,7 @@ ghost use Rattle.fail_stop.specs.Events.{KernelWord, MarkWord};
 ghost use Rattle.fail_stop.specs.Flights.{word_in};
 ghost use Rattle.fail_stop.specs.Listed.{stored_in, word_index_count};
 ghost use Rattle.frame_model.specs.Flights.{image_in};
-ghost use Rattle.event_core.specs.Reads.{bank_taken, kernel_words_stored, word_read};
+ghost use Rattle.event_core.specs.Reads.{kernel_words_stored, word_read};
 
 use bank_words::{KernelImage, decode, kernel_decode, kernel_encode, pick};
 use fail_stop::words::{bank_index, mark_index};

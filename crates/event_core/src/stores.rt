@@ -1,7 +1,7 @@
 //! The effect of an event on the stored words.
 
 ghost use Rattle.std.specs.Prelude.{◌≡◌, suc, ◌<◌, ◌≤◌, ◌-◌, ◌%◌, length};
-ghost use Rattle.fail_stop.specs.Events.{BankWord, MarkWord, frame_of, writes};
+ghost use Rattle.fail_stop.specs.Events.{MarkWord, frame_of, writes};
 ghost use Rattle.fail_stop.specs.Flights.{Flight};
 ghost use Rattle.fail_stop.specs.Listed.{list_after, stored_in, word_index_count};
 ghost use Rattle.event_core.specs.Places.{CanGoOn, kept_place, machine_place, machine_places};

@@ -3,7 +3,6 @@
 ghost use Rattle.std.specs.Prelude.{◌≡◌, ◌<◌, IfOk};
 ghost use Rattle.fault_script.specs.Fits.{Fits};
 ghost use Rattle.frame_model.specs.Flights.{is_proc};
-ghost use Rattle.frame_model.specs.States.{keeper_at};
 ghost use Rattle.frame_model.specs.Storage.{kernel_image};
 ghost use Rattle.fail_stop.specs.Openings.{opening_at, opening_list, proc_opening, start_word};
 

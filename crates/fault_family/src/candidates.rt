@@ -1,8 +1,7 @@
 //! The faults that may come next in a script.
 
-ghost use Rattle.std.specs.Prelude.{◌≡◌, ℕ, ◌+◌, ◌*◌, ◌<◌, ◌≤◌, ◌++◌, [], Some, flat_map, length, map, slice_get};
+ghost use Rattle.std.specs.Prelude.{◌≡◌, ℕ, ◌+◌, ◌*◌, ◌<◌, ◌≤◌, ◌++◌, [], Some, flat_map, length, slice_get};
 ghost use Rattle.std.specs.List.{list_all};
-ghost use Rattle.scram_types.specs.Searches.{listed_below};
 ghost use Rattle.fault_script.specs.Times.{words};
 ghost use Rattle.coverage_check.specs.Timing.{greatest_bound};
 ghost use Rattle.fault_family.specs.NextFaults.{candidates, factor_changes, frames_after, gaps, proc_halts, kinds_of, numbers_below, restarts_of, factor_value_count};

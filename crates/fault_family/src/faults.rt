@@ -52,7 +52,7 @@ impl std::marker::Model for Faults {
 }
 
 impl Faults {
-    ghost use Rattle.std.specs.Prelude.{◌≡◌, ◌++◌, ◌∷◌, ◌<◌, ◌≤◌, [], length};
+    ghost use Rattle.std.specs.Prelude.{◌≡◌, ◌++◌, ◌∷◌, ◌<◌, [], length};
 
     /// Returns the empty list.
     pub fn new() -> Faults

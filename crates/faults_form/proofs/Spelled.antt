@@ -1,7 +1,7 @@
 -- The canonical text of a script is the text spelled member by member, in which names are between quotes without
 -- escapes.
 use Rattle.std.proofs.Common.{◌≡◌, ◌∙◌, ℕ, suc, ◌+◌, Bool, true, false, List, [], ◌∷◌, ◌++◌, length, map, append_assoc, arith, ap, refl, sym}
-use Rattle.std.specs.Prelude.{◌&&◌, nat_lt, slice_get, Option, Some, None, codes, decimal, filter_map}
+use Rattle.std.specs.Prelude.{nat_lt, slice_get, Option, Some, None, codes, decimal, filter_map}
 use Rattle.std.specs.List.{cons_option, list_all}
 use Rattle.std.specs.Option.{option_map_or}
 use Rattle.std.proofs.lemmas.Bool.Decides.{nat_tests}

@@ -1,6 +1,6 @@
 //! The number of faults in each script of a family.
 
-ghost use Rattle.std.specs.Prelude.{◌≡◌, ◌≤◌, option_map};
+ghost use Rattle.std.specs.Prelude.{◌≡◌, ◌≤◌};
 ghost use Rattle.faults_form.specs.Counts.{fault_count, number};
 
 /// The number of faults in each script of a family.

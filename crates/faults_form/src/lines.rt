@@ -1,6 +1,6 @@
 //! The lines of scripts, made without allocating.
 
-ghost use Rattle.std.specs.Prelude.{◌≡◌, ◌+◌, ◌*◌, ◌≤◌, ◌++◌, [], ◌∷◌, codes, decimal, false, filter_map, length, map, nat_lt};
+ghost use Rattle.std.specs.Prelude.{◌≡◌, ◌+◌, ◌*◌, ◌≤◌, ◌++◌, codes, decimal, false, filter_map, length, map, nat_lt};
 ghost use Rattle.serde_json.specs.Written.{comma_if};
 ghost use Rattle.scram_types.specs.declared.limits.TheConstants.{MAX_LINE_BYTES};
 ghost use Rattle.fault_script.specs.Texts.{new_value_name, script_text};

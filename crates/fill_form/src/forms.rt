@@ -1,6 +1,6 @@
 //! The form `fill`, which prints a filled-in specification.
 
-ghost use Rattle.std.specs.Prelude.{◌≡◌, ◌∷◌, ◌++◌, [], IfOk, List, None, codes, ℕ};
+ghost use Rattle.std.specs.Prelude.{◌≡◌, ◌∷◌, ◌++◌, [], IfOk, List, None, codes};
 ghost use Rattle.scram_types.specs.Specification.{IsSpec};
 ghost use Rattle.coverage_check.specs.Form.{state_refusal};
 ghost use Rattle.reconf_spec.specs.Writable.{IsWritable};

@@ -1,6 +1,5 @@
 //! The forms `gen` and `fly`, which print or fly the mission generated from a number.
 
-ghost use Rattle.std.specs.Prelude.{◌≡◌};
 ghost use Rattle.form_base.specs.Endings.{PrintsAnswer};
 ghost use Rattle.flight_forms.specs.Answers.{FlyAnswers, GenAnswers, SummaryAnswers};
 ghost use Rattle.fault_script.specs.Fits.{Fits};

@@ -4,7 +4,7 @@ ghost use Rattle.std.specs.Prelude.{◌≡◌, ◌∷◌, []};
 ghost use Rattle.fault_script.specs.Fits.{Fits};
 ghost use Rattle.form_base.specs.Endings.{Ends, IsTaken, Prepares, PrintsAnswer};
 ghost use Rattle.form_base.specs.Refusals.{answer_of};
-ghost use Rattle.flight_forms.specs.Answers.{IsReplayAnswer, ListAnswers, ReplayAnswers, ScheduleAnswers, replay_refusal};
+ghost use Rattle.flight_forms.specs.Answers.{ListAnswers, ReplayAnswers, ScheduleAnswers, replay_refusal};
 ghost use Rattle.mission_files.specs.Documents.{AsksScript};
 ghost use Rattle.flight_forms.specs.Documents.{AsksSchedule};
 ghost use Rattle.flight_forms.specs.Replays.{MakesReplay, GivesReplay};

@@ -1,6 +1,6 @@
 //! The facts of a flight: the numbers that its line shows.
 
-ghost use Rattle.std.specs.Prelude.{◌≡◌, ◌<◌, ◌≤◌, ◌-◌, ◌-ℤ◌, ◌^◌, length, pos};
+ghost use Rattle.std.specs.Prelude.{◌≡◌, ◌<◌, ◌-◌, ◌-ℤ◌, ◌^◌, length, pos};
 ghost use Rattle.flights_form.specs.Facts.{facts_of, gap_of_app, greater_gap, greatest_gap, least_margin, lesser_margin, margin_in, margin_to};
 
 use flight_facts::acts::count_apps;

@@ -4,7 +4,6 @@ ghost use Rattle.std.specs.Prelude.{◌≡◌, ◌⊎◌, IfOk};
 ghost use Rattle.fault_script.specs.Assumption.{first_outside};
 ghost use Rattle.fault_script.specs.Fits.{Fits};
 ghost use Rattle.frame_model.specs.Flights.{reports_of, rows_of};
-ghost use Rattle.form_base.specs.Refusals.{memory_line};
 ghost use Rattle.flights_form.specs.Facts.{facts_of};
 ghost use Rattle.flights_form.specs.Outcomes.{IsOutcome, memory_outcome, outcome_within};
 

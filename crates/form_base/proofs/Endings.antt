@@ -1,13 +1,13 @@
 -- Lemmas on the result of a form, given the text that it printed.
-use Rattle.std.proofs.Common.{◌≡◌, ℕ, ◌-◌, ◌<◌, ◌≤◌, List, [], ◌++◌, length, append_assoc, append-nil, refl, sym, ◌∙◌, ap, inl, inr, arith}
+use Rattle.std.proofs.Common.{◌≡◌, ℕ, ◌-◌, ◌≤◌, List, [], ◌++◌, length, append_assoc, append-nil, refl, sym, ◌∙◌, ap, inl, inr, arith}
 use Rattle.std.specs.Prelude.{◌≢◌, Option, Some, None, Result, Ok, Err, IfSome, IsTrue, ◌⊎◌}
 use Rattle.scram_io.specs.Outside.{Agrees, CutOff, FileMap, FilesState, Flushed, History, Printed, Prints, Rose, SinkState, TakesSurely, Took, TookPrefix, Unrisen, taken}
 use Rattle.form_base.specs.declared.status.TheConstants.{ANSWERED, OUT_OF_MEMORY, UNREAD_FILE, UNWRITTEN_OUTPUT}
 use Rattle.form_base.specs.declared.refusals.Refused.{Refused}
 use Rattle.form_base.specs.declared.refusals.Refused.TheVariants.{Usage, File, Specification, Acceptance, Script, Assumption, Memory, Trace, Schedule, Name}
-use Rattle.form_base.specs.Answers.{Answer, Gives, WithoutFiles}
+use Rattle.form_base.specs.Answers.{Answer, Gives}
 use Rattle.form_base.specs.Assurance.{Assured, IsAssuring}
-use Rattle.form_base.specs.Endings.{AreInTurn, AreThere, Completes, Decides, Ends, IsPrepared, HasRoom, IsMemoryRefusal, IsQuietFor, IsSent, IsTaken, StaysQuiet, StoppedIn, PrintsAnswer, WentOut}
+use Rattle.form_base.specs.Endings.{AreInTurn, AreThere, Completes, Decides, Ends, IsPrepared, HasRoom, IsMemoryRefusal, IsQuietFor, IsSent, IsTaken, StoppedIn, PrintsAnswer, WentOut}
 use Rattle.form_base.specs.Refusals.{code_of, memory_line}
 use Rattle.form_base.specs.Printing.{status_after}
 

@@ -1,14 +1,14 @@
 -- Lemmas on the answer of a form, given the files that it loaded.
-use Rattle.std.proofs.Common.{◌≡◌, ℕ, ◌≤◌, List, [], ◌∷◌, ◌++◌, refl, sym, ◌∙◌, ap, inl, inr, arith}
-use Rattle.std.specs.Prelude.{◌≢◌, Bool, Option, Some, None, IfNone, IfSome, IsSome, IsTrue, ◌⊎◌, ◌<◌, Result, Ok, Err, ⊤}
-use Rattle.scram_io.specs.Outside.{FileMap, FilesState, FoundLonger, Grew, History, Rose, SinkState, StaysSteady, Unrisen, file_at, greatest_count}
+use Rattle.std.proofs.Common.{◌≡◌, ℕ, ◌≤◌, List, [], ◌∷◌, refl, sym, ◌∙◌, ap, inl, inr, arith}
+use Rattle.std.specs.Prelude.{Bool, Option, Some, None, IfSome, IsSome, IsTrue, ◌⊎◌, ◌<◌, Result, Ok, Err, ⊤}
+use Rattle.scram_io.specs.Outside.{FileMap, FilesState, Grew, History, Rose, SinkState, StaysSteady, Unrisen, file_at, greatest_count}
 use Rattle.scram_io.proofs.Histories.{grew_more, grew_none}
 use Rattle.form_base.specs.declared.refusals.Refusal.{Refusal}
-use Rattle.form_base.specs.declared.status.TheConstants.{OUT_OF_MEMORY, UNREAD_FILE}
+use Rattle.form_base.specs.declared.status.TheConstants.{UNREAD_FILE}
 use Rattle.form_base.specs.Answers.{Answer, AnswersDocument, AnswersFile, WithoutFiles}
-use Rattle.form_base.specs.Endings.{AreInTurn, AreThere, Decides, Ends, IsPrepared, IsMemoryRefusal, IsTaken, Prepares, PreparesWithoutFiles, StaysQuiet, PrintsAnswer}
-use Rattle.form_base.specs.Loads.{HasRead, IsOutOfMemory, IsUnloaded, Loads}
-use Rattle.form_base.specs.Refusals.{memory_line, read_line, answer_of}
+use Rattle.form_base.specs.Endings.{AreInTurn, AreThere, Decides, Ends, IsMemoryRefusal, IsTaken, Prepares, PreparesWithoutFiles, StaysQuiet, PrintsAnswer}
+use Rattle.form_base.specs.Loads.{HasRead, IsOutOfMemory, IsUnloaded}
+use Rattle.form_base.specs.Refusals.{answer_of}
 
 -- Lemmas on fault counts: if the files are steady and the named files exist, reading them raises no fault count.
 

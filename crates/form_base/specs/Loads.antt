@@ -1,5 +1,5 @@
 -- The results of loading a file.
-use Rattle.std.specs.Prelude.{◌≡◌, ◌≢◌, ◌⊎◌, ◌≤◌, ℕ, [], ◌∷◌, ⊤, List, length, Result, Ok, Err, IfErr}
+use Rattle.std.specs.Prelude.{◌≡◌, ◌⊎◌, ◌≤◌, ℕ, [], ◌∷◌, ⊤, List, length, Result, Ok, Err, IfErr}
 use Rattle.scram_io.specs.Outside.{FilesState, FoundLonger, Grew, Rose}
 use Rattle.form_base.specs.declared.refusals.Refusal.{Refusal}
 use Rattle.form_base.specs.declared.status.TheConstants.{OUT_OF_MEMORY, UNREAD_FILE}

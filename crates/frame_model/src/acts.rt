@@ -1,6 +1,6 @@
 //! The configuration that the acts of a row run.
 
-ghost use Rattle.std.specs.Prelude.{◌≡◌, ◌<◌, IfSome};
+ghost use Rattle.std.specs.Prelude.{◌≡◌, ◌<◌};
 ghost use Rattle.frame_model.specs.Runs.{act_at, is_off, is_ran_at, is_run_by, running, runs};
 
 use scram_types::{Act, AppId, ConfId, Place, Spec};

@@ -4,7 +4,7 @@ ghost use Rattle.std.specs.Prelude.{◌≡◌, ◌<◌, ℕ};
 ghost use Rattle.scram_types.specs.declared.limits.TheConstants.{MAX_FRAMES};
 ghost use Rattle.scram_types.specs.Numbers.{word};
 ghost use Rattle.scram_types.specs.Specification.{Parts};
-ghost use Rattle.frame_model.specs.Frames.{committing, frame_env, row_given, state_of, sys_after, up_after};
+ghost use Rattle.frame_model.specs.Frames.{committing, frame_env, row_given, sys_after, up_after};
 ghost use Rattle.frame_model.specs.Phases.{is_running, is_settled, phase_at};
 ghost use Rattle.frame_model.specs.States.{has_arrived, world_in};
 

@@ -1,6 +1,6 @@
 //! The factors and demands that are idle, since they have no effect.
 
-ghost use Rattle.std.specs.Prelude.{◌≡◌, ◌<◌, ◌^◌, ◌&&◌, length, not};
+ghost use Rattle.std.specs.Prelude.{◌≡◌, ◌<◌, ◌&&◌, length, not};
 ghost use Rattle.choice_table.specs.Demands.{applies_in};
 ghost use Rattle.choice_table.specs.Environments.{in_scope};
 ghost use Rattle.scram_types.specs.Bits.{bits_below, has_bit};

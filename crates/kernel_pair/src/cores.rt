@@ -35,7 +35,7 @@ impl<'a> std::marker::Model for PairCore<'a> {
 }
 
 impl<'a> PairCore<'a> {
-    ghost use Rattle.std.specs.Prelude.{◌≡◌, ◌<◌, ℕ, [], IfErr, IfOk, IsTrue, ◌↔◌, Some};
+    ghost use Rattle.std.specs.Prelude.{◌≡◌, ◌<◌, [], IfErr, IfOk, IsTrue, ◌↔◌, Some};
     ghost use Rattle.scram_types.specs.Specification.{IsSpec};
     ghost use Rattle.fault_script.specs.Fits.{Fits};
     ghost use Rattle.fail_stop.specs.Drafts.{IsSnapshot};

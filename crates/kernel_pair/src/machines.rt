@@ -33,7 +33,7 @@ impl<'a> std::marker::Model for PairMachine<'a> {
 }
 
 impl<'a> PairMachine<'a> {
-    ghost use Rattle.std.specs.Prelude.{◌≡◌, ◌<◌, ◌≤◌, ◌+◌, ◌*◌, ℕ, ◌++◌, ◌∷◌, [], IfOk, IsTrue, ◌↔◌, Some, is_some, vec_capacity, vec_len, length};
+    ghost use Rattle.std.specs.Prelude.{◌≡◌, ◌<◌, ◌+◌, ◌*◌, ℕ, [], IfOk, IsTrue, ◌↔◌, Some, is_some, vec_capacity, vec_len, length};
     ghost use Rattle.scram_types.specs.Specification.{IsSpec};
     ghost use Rattle.fault_script.specs.Fits.{Fits};
     ghost use Rattle.fail_stop.specs.Drafts.{IsSnapshot};

@@ -1,6 +1,6 @@
 //! The effect of a next event on a state, and the end of a pair.
 
-ghost use Rattle.std.specs.Prelude.{◌≡◌, ◌<◌, ◌≤◌, ◌+◌, ◌*◌, ◌^◌, Some, None, IsTrue, ◌↔◌};
+ghost use Rattle.std.specs.Prelude.{◌≡◌, ◌<◌, ◌+◌, Some, None, IsTrue, ◌↔◌};
 ghost use Rattle.scram_types.specs.Specification.{IsSpec};
 ghost use Rattle.fault_script.specs.Fits.{Fits};
 ghost use Rattle.fail_stop.specs.ScriptFlights.{flight_of};

@@ -1,6 +1,6 @@
 //! The next events of the actors.
 
-ghost use Rattle.std.specs.Prelude.{◌≡◌, ℕ, ◌<◌, ◌≤◌, ◌+◌, ◌^◌, length, [], nat_lt, ◌&&◌, if◌then◌else◌, Some, None, IsTrue, ◌↔◌};
+ghost use Rattle.std.specs.Prelude.{◌≡◌, ℕ, ◌<◌, ◌≤◌, ◌+◌, length, nat_lt, ◌&&◌, if◌then◌else◌, Some, None, IsTrue, ◌↔◌};
 ghost use Rattle.scram_types.specs.Lookups.{proc_id};
 ghost use Rattle.fault_script.specs.Times.{restart_of};
 ghost use Rattle.fail_stop.specs.Events.{may_note};

@@ -1,6 +1,6 @@
 //! A processor between its frames, and the effect of a frame on it.
 
-ghost use Rattle.std.specs.Prelude.{◌≡◌, ℕ, suc, ◌<◌, ◌≤◌, ◌+◌, ◌-◌, ◌*◌, ◌%◌, ◌^◌, length, option_map, if◌then◌else◌, nat_eq, nat_lt, slice_index_or, [], ◌∷◌, ◌&&◌};
+ghost use Rattle.std.specs.Prelude.{◌≡◌, ℕ, suc, ◌<◌, ◌≤◌, ◌+◌, ◌-◌, ◌*◌, ◌%◌, ◌^◌, length, option_map, if◌then◌else◌, nat_eq, nat_lt, slice_index_or, ◌&&◌};
 ghost use Rattle.scram_types.specs.declared.scripts.HaltAt.{HaltAt};
 ghost use Rattle.fail_stop.specs.Events.{after_frame};
 ghost use Rattle.fail_stop.specs.Flights.{end_word_after, reaches_mark, stores_by, word_in};

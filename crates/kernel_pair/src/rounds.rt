@@ -1,6 +1,6 @@
 //! The flight of a pair on one thread.
 
-ghost use Rattle.std.specs.Prelude.{◌≡◌, ◌<◌, ◌≤◌, ℕ, None};
+ghost use Rattle.std.specs.Prelude.{◌≡◌, ◌<◌, ℕ, None};
 ghost use Rattle.kernel_pair.specs.Machines.{IsPairNextIn, IsPairOverIn, next_unit_in};
 ghost use Rattle.kernel_pair.specs.Rounds.{IsFlownOn, left_in};
 ghost use Rattle.kernel_pair.specs.declared.events.PairEvent.TheVariants.{Fly};

@@ -1,6 +1,6 @@
 //! The snapshot of a processor that makes a frame, and the words that a unit has noted.
 
-ghost use Rattle.std.specs.Prelude.{◌≡◌, ℕ, ◌<◌, ◌≤◌, length, [], pos, slice_index_or};
+ghost use Rattle.std.specs.Prelude.{◌≡◌, ℕ, ◌<◌, length, [], pos, slice_index_or};
 ghost use Rattle.scram_types.specs.Specification.{IsSpec};
 ghost use Rattle.bank_words.specs.Marks.{pick};
 ghost use Rattle.fault_script.specs.Fits.{Fits};

@@ -18,7 +18,7 @@ pub struct UnitState {
 }
 
 impl UnitState {
-    ghost use Rattle.std.specs.Prelude.{◌≡◌, ℕ, suc, ◌<◌, ◌+◌, ◌^◌, length};
+    ghost use Rattle.std.specs.Prelude.{◌≡◌, suc, ◌<◌, ◌+◌, ◌^◌};
     ghost use Rattle.fail_stop.specs.Flights.{Flight, word_in};
     ghost use Rattle.kernel_pair.specs.Pairs.{noted, readied, released, stepped, stored, halted_unit};
     ghost use Rattle.kernel_pair.specs.States.{processor_of, unit_of};

@@ -1,6 +1,6 @@
 //! A flight with a thread for each processor.
 
-ghost use Rattle.std.specs.Prelude.{◌≡◌, ◌≤◌, ◌<◌, ◌+◌, [], All, IfOk, IfSome, OnOk, Some, length, vec_capacity, vec_len};
+ghost use Rattle.std.specs.Prelude.{◌≡◌, ◌≤◌, ◌<◌, ◌+◌, [], All, IfOk, IfSome, OnOk, Some, vec_capacity, vec_len};
 ghost use Rattle.coverage_check.specs.Missions.{MissionParts, mission_of};
 ghost use Rattle.event_core.specs.Cores.{IsOverIn};
 ghost use Rattle.frame_model.specs.Flights.{reports_of, rows_of};

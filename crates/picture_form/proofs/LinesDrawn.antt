@@ -1,5 +1,5 @@
 -- If a line of a trace can be read, its contents can be drawn.
-use Rattle.std.proofs.Common.{ℕ, ℤ, suc, zero, ◌≡◌, ◌<◌, ◌≤◌, ◌+◌, ◌-◌, ◌^◌, Bool, true, false, cond, List, [], ◌∷◌, ◌++◌, Option, Some, None, Ok, Err, length, replicate, arith, refl, ap}
+use Rattle.std.proofs.Common.{ℕ, ℤ, suc, zero, ◌≡◌, ◌<◌, ◌≤◌, ◌+◌, ◌-◌, ◌^◌, Bool, true, false, cond, List, [], ◌∷◌, Option, Some, None, Ok, Err, length, replicate, arith, refl, ap}
 use Rattle.std.specs.Prelude.{◌==◌, ◌&&◌, IsSome, bytes_eq, codes, nat_le, nat_lt, option_map, option_and_then, slice_get, slice_index, slice_index_or, slice_set}
 use Rattle.std.specs.Fmt.{signed_decimal}
 use Rattle.std.specs.Str.Parse.{signed_digits_value}
@@ -37,7 +37,6 @@ use Rattle.trace_text.specs.TraceReading.{with_app}
 use Rattle.trace_text.specs.declared.app_reading.Done.{Done}
 use Rattle.trace_text.specs.declared.app_reading.Phase.{Phase}
 use Rattle.trace_text.specs.declared.app_reading.Phase.TheVariants.{Halting, Preparing, Initialising}
-use Rattle.trace_text.specs.declared.progress.Expected.{Expected}
 use Rattle.trace_text.specs.declared.rule.TheConstants.{NOT_NEXT, NO_FORM, OUT_OF_ORDER, UNKNOWN_NAME, WRONG_COUNT, WRONG_NUMBER}
 use Rattle.trace_text.proofs.Found.{place_named}
 use Rattle.trace_text.proofs.Inversion.{if_ok, kept_says, map_some, or_rule_ok, some_says, then_some}

@@ -18,7 +18,6 @@ use Rattle.picture_form.specs.Sheets.{scale_of, width_of, x_of}
 use Rattle.picture_form.specs.Spans.{class_text, label_of, lane_name, rect_text, span_label, words_text}
 use Rattle.picture_form.specs.declared.sheets.Sheet.{Sheet}
 use Rattle.picture_form.specs.declared.spans.Span.{Span}
-use Rattle.trace_text.proofs.WordBytes.{all_over, all_over_less}
 use Rattle.picture_form.proofs.Cuts.{cut, left_after}
 use Rattle.picture_form.proofs.RectsBack.{box_plain, box_quotes, frames_after, frames_plain, frames_tail, label_plain, rect_ends, rect_grouped, rect_of, rect_parts}
 use Rattle.picture_form.proofs.ShowsBack.{IsShownIn, SameEnds, class_over, is_seen, label_words_plain, lane_name_over, plain, shown_same, words_plain}

@@ -1,6 +1,6 @@
 -- Every trace that can be read can be drawn.
-use Rattle.std.proofs.Common.{ℕ, ◌≡◌, ◌<◌, ◌≤◌, ◌+◌, ◌-◌, ◌^◌, Bool, true, false, cond, List, [], ◌∷◌, ◌++◌, Option, Result, Ok, Err, length, arith, refl}
-use Rattle.std.specs.Prelude.{◌==◌, ◌&&◌, codes, nat_lt, ⊤}
+use Rattle.std.proofs.Common.{ℕ, ◌≡◌, ◌<◌, ◌≤◌, ◌+◌, ◌-◌, Bool, true, false, cond, List, [], ◌∷◌, ◌++◌, Result, Ok, Err, length, arith, refl}
+use Rattle.std.specs.Prelude.{codes, nat_lt, ⊤}
 use Rattle.std.proofs.lemmas.List.{length-append}
 use Rattle.std.proofs.lemmas.Option.{slice_get_within}
 use Rattle.scram_types.specs.Specification.{Each, IsSpec, Parts}
@@ -8,9 +8,7 @@ use Rattle.scram_types.specs.declared.rows.Flown.{Flown}
 use Rattle.scram_types.specs.declared.rows.Report.{Report}
 use Rattle.scram_types.specs.declared.rows.Row.{Row}
 use Rattle.scram_types.specs.declared.limits.TheConstants.{MAX_FRAMES, MAX_TRACE_BYTES}
-use Rattle.scram_types.specs.declared.orders.Act.{Act}
 use Rattle.scram_types.specs.declared.orders.Act.TheVariants as act
-use Rattle.scram_types.specs.declared.orders.KMode.{KMode}
 use Rattle.scram_types.proofs.Items.{each_end}
 use Rattle.trace_text.specs.AppReading.{app_read, done}
 use Rattle.trace_text.specs.Pieces.{is_filled, pieces_of}
@@ -18,7 +16,6 @@ use Rattle.trace_text.specs.ReportReading.{end_read, report_read}
 use Rattle.trace_text.specs.RowReading.{row_read}
 use Rattle.trace_text.specs.TraceReading.{ReadingState, after_app, after_line, at_end, before_first, begins, closing, fault_at, go_on, is_plain, expected_line, trace_from, with_app, with_done, with_end, with_report, with_row}
 use Rattle.trace_text.specs.declared.app_reading.Done.{Done}
-use Rattle.trace_text.specs.declared.app_reading.Phase.{Phase}
 use Rattle.trace_text.specs.declared.progress.Expected.{Expected}
 use Rattle.trace_text.specs.declared.progress.Expected.TheVariants.{Rows, Apps, Reports, Over}
 use Rattle.trace_text.specs.declared.trace_reading.TraceFault.{TraceFault}

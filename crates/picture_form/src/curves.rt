@@ -1,8 +1,7 @@
 //! The curves of the aircraft's quantities over the rows of a flight, made without allocating.
 
-ghost use Rattle.std.specs.Prelude.{◌≡◌, ◌<◌, ◌≤◌, ◌+◌, ◌++◌, ◌^◌, length, option_map};
+ghost use Rattle.std.specs.Prelude.{◌≡◌, ◌<◌, ◌≤◌, ◌+◌, length, option_map};
 ghost use Rattle.std.specs.Fmt.{signed_decimal};
-ghost use Rattle.scram_types.specs.declared.limits.TheConstants.{MAX_LINE_BYTES};
 ghost use Rattle.picture_form.specs.Curves.{crosses_north, curve_begin, curve_end, curve_names, distance, drop_of, is_joined, point_text};
 
 use crate::boxes::{add_name, add_number, add_placed};

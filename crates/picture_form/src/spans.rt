@@ -4,7 +4,7 @@ ghost use Rattle.std.specs.Prelude.{◌≡◌, ◌<◌, ◌≤◌, ◌+◌, ◌+
 ghost use Rattle.scram_types.specs.Lookups.{proc_name};
 ghost use Rattle.scram_types.specs.declared.limits.TheConstants.{MAX_LINE_BYTES};
 ghost use Rattle.flight_facts.specs.Spans.{IsLane};
-ghost use Rattle.picture_form.specs.Spans.{act_label, begun_text, class_text, label_of, lane_name, lane_span_text, mode_and_proc, rect_text, span_label, span_text, stable_text, value_in, words_text};
+ghost use Rattle.picture_form.specs.Spans.{act_label, class_text, label_of, lane_name, lane_span_text, mode_and_proc, rect_text, span_label, span_text, stable_text, value_in, words_text};
 
 use crate::boxes::{add_box, add_frames, add_label, add_number};
 use crate::sheets::Sheet;

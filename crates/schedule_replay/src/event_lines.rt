@@ -1,6 +1,6 @@
 //! The reading and the writing of an event as a line of a schedule.
 
-ghost use Rattle.std.specs.Prelude.{◌≡◌, ◌+◌, ◌≤◌, ◌<◌, ◌*◌, ◌++◌, IfOk, IfSome, length, decimal};
+ghost use Rattle.std.specs.Prelude.{◌≡◌, ◌+◌, ◌≤◌, ◌<◌, ◌*◌, ◌++◌, IfOk, IfSome, length};
 ghost use Rattle.scram_types.specs.declared.limits.TheConstants.{MAX_LINE_BYTES};
 ghost use Rattle.scram_types.specs.Lookups.{proc_name, proc_named};
 ghost use Rattle.trace_text.specs.Pieces.{word_at};

@@ -1,8 +1,7 @@
 //! The refusals of schedules as lines, made without allocation.
 
-ghost use Rattle.std.specs.Prelude.{◌≡◌, ◌+◌, ◌≤◌, ◌++◌, length, codes, decimal};
+ghost use Rattle.std.specs.Prelude.{◌≡◌, ◌+◌, ◌≤◌, ◌++◌, length};
 ghost use Rattle.scram_types.specs.declared.limits.TheConstants.{MAX_LINE_BYTES};
-ghost use Rattle.schedule_replay.specs.Events.{event_text};
 ghost use Rattle.schedule_replay.specs.Refusals.{event_or_dash, fault_line, illegal_line, short_line};
 
 use crate::event_lines::add_event;

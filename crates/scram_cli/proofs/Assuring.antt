@@ -1,5 +1,5 @@
 -- If the command answers with status 0, the assurance of its form holds.
-use Rattle.std.proofs.Common.{◌≡◌, ℕ, List}
+use Rattle.std.proofs.Common.{ℕ, List}
 use Rattle.std.specs.Prelude.{Option, Some, None}
 use Rattle.form_base.specs.Assurance.{IsAssuring}
 use Rattle.form_base.proofs.Assuring.{not_zero, text_of_gives}

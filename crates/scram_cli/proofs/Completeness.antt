@@ -18,14 +18,14 @@ use Rattle.coverage_check.specs.Acceptance.{first_refusal}
 use Rattle.coverage_check.specs.Missions.{MissionParts}
 use Rattle.coverage_check.proofs.Accepting.{accepts_iff_unrefused}
 use Rattle.form_base.specs.declared.status.TheConstants.{ANSWERED, UNWRITTEN_OUTPUT}
-use Rattle.form_base.specs.Answers.{Answer, AnswersBytes, AnswersDocument, AnswersFile, AnswersLonger, AnswersUnread, Gives, WithoutFiles}
+use Rattle.form_base.specs.Answers.{Answer, AnswersBytes, AnswersDocument, AnswersFile, AnswersLonger, AnswersUnread, Gives}
 use Rattle.form_base.specs.Endings.{AreInTurn, AreThere, HasRoom, IsMemoryRefusal, StoppedIn, WentOut}
 use Rattle.form_base.specs.Specifications.{BreaksSpecification, SaysSpecification, long_specification}
 use Rattle.flight_forms.specs.declared.runs.FlightText.TheVariants.{Trace}
 use Rattle.mission_files.specs.Answers.{ScriptAnswers}
 use Rattle.flight_forms.specs.Answers.{RunAnswers}
 use Rattle.mission_files.specs.Documents.{AsksScript, BreaksScript, SaysScript, long_script}
-use Rattle.mission_files.specs.Missions.{UnlessRefused, mission_refusal, refusal_by, script_refusal}
+use Rattle.mission_files.specs.Missions.{UnlessRefused, refusal_by, script_refusal}
 use Rattle.flight_forms.specs.Texts.{flight_text}
 use Rattle.scram_cli.specs.Laws.{EndsAnswered, HasRoomFor, HoldsMission, MissionsAreAnswered}
 

@@ -1,7 +1,6 @@
 //! Standard output.
 ghost use Rattle.std.specs.Prelude.{◌≡◌, [], IfOk};
 ghost use Rattle.std.specs.Io.Buffered.{writer_buffer, writer_inner};
-ghost use Rattle.std.proofs.Common.{rules};
 ghost use Rattle.scram_io.specs.Real.{SinkSeen, real_sink};
 
 use super::recorded::Recorded;

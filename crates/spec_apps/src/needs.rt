@@ -1,6 +1,6 @@
 //! The needs of applications, read by name and ranked.
 
-ghost use Rattle.std.specs.Prelude.{◌≡◌, ◌≤◌, ◌<◌, ℕ, [], length, All, Ok, Some, codes, option_map, slice_get, IfErr, IfOk, OnOk, true};
+ghost use Rattle.std.specs.Prelude.{◌≡◌, ◌≤◌, ◌<◌, ℕ, length, All, Ok, Some, codes, option_map, slice_get, IfErr, IfOk, OnOk, true};
 ghost use Rattle.serde_json.specs.View.{view};
 ghost use Rattle.scram_types.specs.declared.ids.AppId.{AppId};
 ghost use Rattle.scram_types.specs.Specification.{Each};

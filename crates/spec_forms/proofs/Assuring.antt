@@ -1,5 +1,5 @@
 -- If `check` answers with status 0, `AssuresCheck` holds. If `bounds` answers with status 0, `AssuresBounds` holds.
-use Rattle.std.proofs.Common.{◌≡◌, ℕ, List, [], refl}
+use Rattle.std.proofs.Common.{◌≡◌, ℕ, List, refl}
 use Rattle.std.specs.Prelude.{Option, Some, None}
 use Rattle.scram_types.specs.Specification.{IsSpec, Parts}
 use Rattle.coverage_check.specs.declared.shown.Shown.{Shown}

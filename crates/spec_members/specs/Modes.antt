@@ -1,5 +1,5 @@
 -- How a mode of a kind of application is read.
-use Rattle.std.specs.Prelude.{ℕ, List, [], Result}
+use Rattle.std.specs.Prelude.{ℕ, List, Result}
 use Rattle.serde_json.specs.Data.{Data}
 use Rattle.kind_table.specs.Names.{mode_names, number_in}
 use Rattle.scram_doc.specs.declared.fault.DocFault.{DocFault}

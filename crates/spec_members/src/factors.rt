@@ -1,6 +1,6 @@
 //! Environment factors and their values.
 
-ghost use Rattle.std.specs.Prelude.{◌≡◌, ◌≤◌, codes, length, IfOk};
+ghost use Rattle.std.specs.Prelude.{◌≤◌, codes, length, IfOk};
 ghost use Rattle.serde_json.specs.View.{view};
 ghost use Rattle.scram_doc.specs.Faults.{Answers};
 ghost use Rattle.spec_members.specs.Factors.{read_value_name, read_factor, read_factors};

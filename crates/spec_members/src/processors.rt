@@ -1,6 +1,6 @@
 //! How processors are read.
 
-ghost use Rattle.std.specs.Prelude.{◌≡◌, ◌≤◌, codes, length, IfOk};
+ghost use Rattle.std.specs.Prelude.{◌≤◌, codes, length, IfOk};
 ghost use Rattle.serde_json.specs.View.{view};
 ghost use Rattle.scram_doc.specs.Faults.{Answers};
 ghost use Rattle.spec_members.specs.Processors.{read_proc, read_procs};

@@ -18,7 +18,6 @@ use Rattle.scram_types.specs.declared.specification.Place.{Place}
 use Rattle.scram_types.specs.declared.specification.Policy.{Policy}
 use Rattle.scram_types.specs.declared.specification.Policy.TheVariants.{Retarget, Settle}
 use Rattle.scram_types.specs.declared.specification.Precondition.{Precondition}
-use Rattle.scram_types.specs.declared.specification.Proc.{Proc}
 use Rattle.scram_types.specs.Specification.{Parts}
 use Rattle.scram_types.specs.Bits.{has_bit}
 use Rattle.spec_members.specs.Names.{name_of_app, name_of_conf, name_of_proc}

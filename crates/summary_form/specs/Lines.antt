@@ -1,7 +1,7 @@
 -- The lines of a summary.
 use Rattle.std.specs.Prelude.{ℕ, List, ◌++◌, codes, decimal, Option, Some, None}
 use Rattle.std.specs.List.{count_by}
-use Rattle.std.specs.Prelude.{Bool, true, false, length}
+use Rattle.std.specs.Prelude.{Bool, true, false}
 use Rattle.scram_types.specs.Lookups.{conf_name, env_in, env_before}
 use Rattle.scram_types.specs.Specification.{Parts}
 use Rattle.scram_types.specs.declared.rows.Report.{Report}

@@ -1,7 +1,5 @@
 //! Boxes that count their calls.
 
-ghost use Rattle.std.specs.Prelude.{◌≡◌};
-
 use crate::calls::Calls;
 use app_model::{App, Seen};
 use scram_types::{Area, KindId, Order};

@@ -1,6 +1,6 @@
 //! The choice of the actor that makes the next event.
 
-ghost use Rattle.std.specs.Prelude.{◌≡◌, ℕ, ◌+◌, ◌-◌, ◌≤◌, ◌<◌, IfSome, None, if◌then◌else◌, length, option_map};
+ghost use Rattle.std.specs.Prelude.{◌≡◌, ℕ, ◌+◌, ◌-◌, ◌≤◌, ◌<◌, IfSome, None, length, option_map};
 ghost use Rattle.event_core.specs.Cores.{IsNextIn, IsOverIn, core_flight, core_places, core_words};
 ghost use Rattle.test_schedules.specs.Choices.{begin_of, chooser_after, chosen, first_chooser, first_from, first_in, generator_after, is_backwards, next_in_order, place_in_turn, seed_of};
 

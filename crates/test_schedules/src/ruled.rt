@@ -1,7 +1,7 @@
 //! Flights of a core by a rule, with processors whose racks have no boxes. With any rule, a flight to the end returns
 //! a core whose flight is over.
 
-ghost use Rattle.std.specs.Prelude.{◌≡◌, ◌<◌, ◌≤◌, ◌⊎◌, ◌++◌, [], ◌∷◌, IfOk, length};
+ghost use Rattle.std.specs.Prelude.{◌≡◌, ◌<◌, ◌⊎◌, ◌++◌, [], ◌∷◌, IfOk, length};
 ghost use Rattle.event_core.specs.Cores.{HappensIn, IsNextIn, IsOverIn, IsWordIn, events_left_in};
 ghost use Rattle.event_core.specs.Flyers.{FlyersFitCore};
 ghost use Rattle.fault_script.specs.Fits.{Fits};

@@ -1,7 +1,7 @@
 //! The flights of a row.
 
 ghost use Rattle.std.specs.Prelude.{◌≡◌, ◌∷◌, [], IfOk};
-ghost use Rattle.word_table.specs.Tables.{AreOpening, AreSeatsOf, IsKernelSeatOf, kernel_frame, kernel_steps, mission_in};
+ghost use Rattle.word_table.specs.Tables.{IsKernelSeatOf, kernel_frame, kernel_steps, mission_in};
 ghost use Rattle.test_words.specs.Actors.{ActorsFit, PairFits};
 
 use crate::crews::{Actors, Pair, pair_of};

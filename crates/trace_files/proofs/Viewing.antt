@@ -1,5 +1,5 @@
 -- The assurance of a form that shows a view follows from each of its answers with status 0.
-use Rattle.std.proofs.Common.{◌≡◌, ℕ, List, [], sym}
+use Rattle.std.proofs.Common.{ℕ, List, sym}
 use Rattle.std.specs.Prelude.{◌≢◌}
 use Rattle.scram_types.specs.Specification.{Parts}
 use Rattle.scram_types.specs.declared.rows.Flown.{Flown}

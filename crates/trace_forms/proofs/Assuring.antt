@@ -1,14 +1,14 @@
 -- The assurance of `props` follows from each of its answers with status 0.
-use Rattle.std.proofs.Common.{◌≡◌, ℕ, List, [], sym}
-use Rattle.std.specs.Prelude.{◌≢◌, Option, Some, None}
+use Rattle.std.proofs.Common.{◌≡◌, ℕ, List}
+use Rattle.std.specs.Prelude.{Option, Some, None}
 use Rattle.scram_types.specs.declared.rows.Flown.{Flown}
 use Rattle.scram_types.specs.declared.limits.TheConstants.{MAX_TRACE_BYTES}
-use Rattle.scram_types.specs.Specification.{IsSpec, Parts}
+use Rattle.scram_types.specs.Specification.{Parts}
 use Rattle.trace_props.specs.declared.breaks.Broken.{Broken}
 use Rattle.trace_props.specs.Properties.{HoldsAll}
 use Rattle.form_base.specs.declared.status.TheConstants.{ANSWERED}
 use Rattle.form_base.specs.Answers.{Gives, WithoutFiles}
-use Rattle.form_base.specs.Assurance.{IsAssuring, OfDocument}
+use Rattle.form_base.specs.Assurance.{IsAssuring}
 use Rattle.form_base.proofs.Assuring.{document_assures, not_zero, specification_assures, text_of_gives}
 use Rattle.trace_files.specs.Traces.{BreaksTrace, SaysTrace, long_trace}
 use Rattle.trace_files.proofs.Viewing.{no_broken_trace}

@@ -1,11 +1,8 @@
 -- Lemmas on the status and the text that are printed for a judgement.
-use Rattle.std.proofs.Common.{◌≡◌, ℕ, List, ap, subst, sym, ◌∙◌, inl, inr, arith}
-use Rattle.std.specs.Prelude.{◌⊎◌}
+use Rattle.std.proofs.Common.{ℕ, List, ◌∙◌, inl, inr, arith}
 use Rattle.scram_types.specs.declared.rows.Flown.{Flown}
 use Rattle.scram_types.specs.Specification.{Parts}
 use Rattle.scram_io.specs.Outside.{SinkState}
-use Rattle.form_base.specs.declared.status.TheConstants.{ANSWERED, BROKEN_PROPERTY}
-use Rattle.form_base.specs.Answers.{Gives}
 use Rattle.form_base.specs.Endings.{IsTaken, PrintsAnswer}
 use Rattle.form_base.proofs.Endings.{given_prints}
 use Rattle.trace_forms.specs.declared.judgements.Judgement.{Judgement}

@@ -1,6 +1,6 @@
 //! The form `props`, which judges a finished trace.
 
-ghost use Rattle.std.specs.Prelude.{◌≡◌, ◌⊎◌, ◌∷◌, [], ◌<◌, ◌^◌, ℕ, List, IfOk, length};
+ghost use Rattle.std.specs.Prelude.{◌∷◌, [], ◌<◌, ◌^◌, IfOk, length};
 ghost use Rattle.scram_types.specs.declared.rows.Flown.{Flown};
 ghost use Rattle.form_base.specs.Answers.{WithoutFiles};
 ghost use Rattle.form_base.specs.Endings.{Ends, IsTaken, Prepares};

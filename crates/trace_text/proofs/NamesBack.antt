@@ -5,7 +5,7 @@ use Rattle.std.specs.Option.{option_map_or}
 use Rattle.std.proofs.lemmas.Bool.{eq-eqb, eqb-true}
 use Rattle.std.proofs.lemmas.Slice.Eq.{bytes_eq-Decides}
 use Rattle.scram_types.specs.Specification.{Each, IsIn, IsInIfNamed, IsModeSpec, IsSpec, NamesDiffer, Parts, mode_in, modes_of_kind}
-use Rattle.scram_types.specs.Lookups.{conf_name, conf_named, number_from, proc_name}
+use Rattle.scram_types.specs.Lookups.{conf_name, conf_named, number_from}
 use Rattle.scram_types.specs.Names.{is_name}
 use Rattle.scram_types.specs.declared.ids.ConfId.{ConfId}
 use Rattle.scram_types.specs.declared.ids.Mode.{Mode}

@@ -1,6 +1,6 @@
 //! The flight of a mission with a thread for each processor. The kernel makes its turns while the threads run.
 
-ghost use Rattle.std.specs.Prelude.{ℕ, List, ◌≡◌, ◌≤◌, ◌<◌, ◌+◌, [], ◌∷◌, ◌++◌, length, vec_capacity, vec_len};
+ghost use Rattle.std.specs.Prelude.{ℕ, List, ◌≡◌, ◌≤◌, ◌<◌, ◌+◌, vec_capacity, vec_len};
 ghost use Rattle.fail_stop.specs.Events.{At};
 ghost use Rattle.word_table.specs.Tables.{IsSeatOf, mission_in, proc_of, seat_place};
 ghost use Rattle.word_deck.specs.Landing.{IsLanded};

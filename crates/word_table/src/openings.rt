@@ -1,11 +1,8 @@
 //! The opening of a table.
 
-ghost use Rattle.std.specs.Prelude.{◌≡◌, ◌∷◌, [], IfOk, OnOk, length};
+ghost use Rattle.std.specs.Prelude.{◌≡◌, ◌∷◌, [], IfOk, OnOk};
 ghost use Rattle.scram_types.specs.Eights.{eight};
-ghost use Rattle.scram_types.specs.Specification.{IsSpec};
-ghost use Rattle.fault_script.specs.Fits.{Fits};
 ghost use Rattle.fault_script.specs.Times.{restart_of};
-ghost use Rattle.fail_stop.specs.Listed.{word_index_count};
 ghost use Rattle.word_table.specs.Actors.{with_actors};
 ghost use Rattle.word_table.specs.Keeping.{IsFlown};
 ghost use Rattle.word_table.specs.Rule.{first_view};

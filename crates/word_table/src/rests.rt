@@ -7,9 +7,9 @@
 //! finds the count raised and wakes the sleeper. A sleeper parks only while the word has the value that the sleeper
 //! loaded.
 
-ghost use Rattle.std.specs.Prelude.{◌≡◌, ◌<◌};
+ghost use Rattle.std.specs.Prelude.{◌<◌};
 ghost use Rattle.fail_stop.specs.Listed.{word_index_count};
-ghost use Rattle.word_table.specs.Tables.{IsSeatOf, proc_of};
+ghost use Rattle.word_table.specs.Tables.{IsSeatOf};
 
 use crate::seats::{KSeat, Seat};
 use crate::tables::WordTable;

@@ -1,6 +1,6 @@
 //! The steps of a processor.
 
-ghost use Rattle.std.specs.Prelude.{◌≡◌, ◌+◌, ◌<◌, ◌^◌, MatchOption, Some, length};
+ghost use Rattle.std.specs.Prelude.{◌≡◌, ◌+◌, ◌<◌, MatchOption, Some, length};
 ghost use Rattle.scram_types.specs.Lookups.{proc_id};
 ghost use Rattle.bank_words.specs.declared.events.Event.TheVariants.{Done, Flip, Halt, Look, Store};
 ghost use Rattle.fail_stop.specs.Events.{frame_of, frame_on, halted_there, one_on};

@@ -1,5 +1,4 @@
-use Rattle.std.proofs.Common.{arith, append_assoc, ap, sym, ◌∙◌, ◌++◌, List, ℕ}
-use Rattle.form_base.specs.Texts.{texts_below}
+use Rattle.std.proofs.Common.{arith}
 use Rattle.form_base.proofs.TextsBelow.{added_next}
 use Rattle.columns_form.specs.Fields.{word_field}
 use Rattle.columns_form.proofs.fields.add_word_fields.Goals as goal

@@ -1,4 +1,4 @@
-use Rattle.std.proofs.Common.{◌≡◌, ◌+◌, ◌*◌, ◌≤◌, ◌++◌, length, drop}
+use Rattle.std.proofs.Common.{◌≡◌, ◌+◌, ◌*◌, ◌≤◌, ◌++◌, length}
 use Rattle.form_base.specs.Texts.{texts_below}
 use Rattle.columns_form.specs.Fields.{word_field}
 use Rattle.columns_form.proofs.fields.add_word_fields.Given as goal

@@ -1,4 +1,4 @@
-use Rattle.std.proofs.Common.{◌≡◌, ◌+◌, ◌*◌, ◌≤◌, ◌++◌, length, drop}
+use Rattle.std.proofs.Common.{◌≡◌, ◌+◌, ◌*◌, ◌≤◌, ◌++◌, length}
 use Rattle.form_base.specs.Texts.{texts_below}
 use Rattle.columns_form.specs.Heads.{word_head}
 use Rattle.columns_form.proofs.heads.add_word_heads.Given as goal

@@ -1,4 +1,4 @@
-use Rattle.std.proofs.Common.{length, codes}
+use Rattle.std.proofs.Common.{length}
 use Rattle.scram_io.proofs.Puts.{cut_more, prints_more}
 use Rattle.form_base.specs.Texts.{texts_below}
 use Rattle.columns_form.specs.Table.{heads_text, row_line_text}

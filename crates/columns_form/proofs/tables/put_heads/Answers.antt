@@ -1,4 +1,3 @@
-use Rattle.std.proofs.Common.{length, codes}
 use Rattle.scram_io.proofs.Puts.{cut_more, prints_more}
 use Rattle.columns_form.specs.Heads.{row_head}
 use Rattle.columns_form.specs.Table.{heads_end}

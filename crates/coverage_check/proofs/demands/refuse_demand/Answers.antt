@@ -1,5 +1,5 @@
 use Rattle.std.proofs.Common.{◌∙◌, arith, length, sym}
-use Rattle.scram_types.proofs.Searches.{first_is, first_more}
+use Rattle.scram_types.proofs.Searches.{first_is}
 use Rattle.coverage_check.specs.Demands.{demand_refusal_in}
 use Rattle.coverage_check.proofs.demands.refuse_demand.Goals as goal
 

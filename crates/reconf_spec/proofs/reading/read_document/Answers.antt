@@ -1,4 +1,4 @@
-use Rattle.std.proofs.Common.{◌≡◌, [], rules}
+use Rattle.std.proofs.Common.{◌≡◌, rules}
 use Rattle.std.specs.Prelude.{Ok}
 use Rattle.serde_json.specs.View.{view}
 use Rattle.spec_apps.specs.Answers.{HasNoCycle}

@@ -1,4 +1,4 @@
-use Rattle.std.proofs.Common.{◌≡◌, ◌≤◌, length, subst, sym}
+use Rattle.std.proofs.Common.{◌≤◌, length, subst, sym}
 use Rattle.scram_types.specs.declared.limits.TheConstants.{MAX_SPECIFICATION_BYTES}
 use Rattle.scram_types.specs.Specification.{IsSpec}
 use Rattle.reconf_spec.proofs.SpecBack.{text_back}

@@ -1,4 +1,4 @@
-use Rattle.std.proofs.Common.{◌++◌, ◌∷◌, ◌∙◌, [], ℕ, List, Some, ap, subst, sym, take}
+use Rattle.std.proofs.Common.{◌∙◌, ℕ, List, Some, ap, subst, sym, take}
 use Rattle.std.specs.Prelude.{slice_get}
 use Rattle.bank_words.specs.declared.events.Event.{Event}
 use Rattle.event_core.specs.Cores.{core_places, core_words, core_flight}

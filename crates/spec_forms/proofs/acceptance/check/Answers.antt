@@ -1,4 +1,3 @@
-use Rattle.std.proofs.Common.{List, ℕ}
 use Rattle.form_base.proofs.Endings.{answered_prints, found_ends}
 use Rattle.spec_forms.proofs.acceptance.check.Goals as goal
 

@@ -1,6 +1,5 @@
-use Rattle.std.proofs.Common.{◌≡◌, ◌∙◌, ◌<◌, List, length, rules, refl, subst, sym}
-use Rattle.std.specs.Prelude.{Option, slice_get}
-use Rattle.std.specs.Option.{option_copied}
+use Rattle.std.proofs.Common.{◌≡◌, ◌<◌, length, rules, refl, subst}
+use Rattle.std.specs.Prelude.{Option}
 use Rattle.scram_types.specs.declared.specification.AppSpec.{AppSpec}
 use Rattle.scram_types.proofs.Items.{some_item}
 use Rattle.scram_doc.specs.Lists.{AllAfter}

@@ -1,4 +1,4 @@
-use Rattle.std.proofs.Common.{◌≡◌, ◌+◌, [], ◌∷◌, ◌++◌, length, rules, arith}
+use Rattle.std.proofs.Common.{[], ◌∷◌, rules, arith}
 use Rattle.std.specs.Option.{option_copied}
 use Rattle.std.proofs.lemmas.List.{length-append}
 use Rattle.scram_doc.proofs.Growing.{after_push, step_made}

@@ -1,4 +1,4 @@
-use Rattle.std.proofs.Common.{arith, length}
+use Rattle.std.proofs.Common.{arith}
 use Rattle.form_base.proofs.TextsBelow.{cut_below, printed_next}
 use Rattle.std.specs.Prelude.{ℕ, ◌+◌}
 use Rattle.summary_form.specs.Summary.{change_text, first_row_after_decision, rows_after_decision}

@@ -1,7 +1,7 @@
 use Rattle.form_base.specs.Texts.{texts_below}
 use Rattle.scram_io.specs.Outside.{Printed}
 use Rattle.std.specs.Prelude.{ℕ, ◌+◌}
-use Rattle.summary_form.specs.Summary.{change_text, first_row_after_decision, rows_after_decision}
+use Rattle.summary_form.specs.Summary.{change_text, first_row_after_decision}
 use Rattle.summary_form.proofs.summaries.put_changes.Given as goal
 
 abbrev pub invariant-loop-j : goal.invariant-loop-j

@@ -1,4 +1,4 @@
-use Rattle.std.proofs.Common.{rules, ◌+◌, ◌∙◌, ap, length, refl, sym}
+use Rattle.std.proofs.Common.{rules, ◌+◌, ◌∙◌, ap, length, refl}
 use Rattle.std.proofs.lemmas.List.{length-append}
 use Rattle.event_core.specs.Cores.{core_places, core_words, core_flight}
 use Rattle.test_schedules.proofs.Ruling.{ruled_on, ruled_opening}

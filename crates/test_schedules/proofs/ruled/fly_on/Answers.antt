@@ -1,4 +1,4 @@
-use Rattle.std.proofs.Common.{rules, ◌∙◌, refl, sym}
+use Rattle.std.proofs.Common.{rules, ◌∙◌, refl}
 use Rattle.event_core.specs.Cores.{core_places, core_words, core_flight}
 use Rattle.test_schedules.proofs.Ruling.{ruled_on, ruled_opening}
 use Rattle.test_schedules.proofs.ruled.fly_on.Goals as goal

@@ -1,7 +1,7 @@
-use Rattle.std.proofs.Common.{[], subst, ℕ, List, ◌≡◌, sym}
+use Rattle.std.proofs.Common.{[]}
 use Rattle.std.specs.Prelude.{Ok}
 use Rattle.scram_types.specs.declared.rows.Flown.{Flown}
-use Rattle.form_base.specs.Answers.{Gives, WithoutFiles}
+use Rattle.form_base.specs.Answers.{WithoutFiles}
 use Rattle.form_base.proofs.Reading.{settled}
 use Rattle.trace_files.proofs.FileReading.{trace_reads, trace_unread}
 use Rattle.trace_forms.proofs.Judged.{judgement_settles}

@@ -2,7 +2,6 @@
 use Rattle.std.proofs.Common.{[], ◌∷◌, refl}
 use Rattle.std.proofs.raw_atomic.Walks.{proved}
 use mir.Val.{Val, vstruct, vnil}
-use contract.Running.{tables}
 use types.Kit.{raw, ◌$◌, ◌∵◌, !, qed, keep, join, suffices, done}
 use types.Run.{no_more, returns, enter}
 use types.Part.{agg}
@@ -10,7 +9,7 @@ use types.ByLocal.{alloc_all, pass_all, free_all, look_at, sets}
 use denote.Shadow.{pure_i}
 use denote.Steps.{nothing}
 use denote.Triple.Entry.{on_entry}
-use denote.Triple.Walked.{Stays, says, ends_at}
+use denote.Triple.Walked.{says, ends_at}
 use Rattle.scram_io.specs.declared.recorded.NotedBytes.{NotedBytes}
 use Rattle.scram_io.specs.contracts.recorded.NotedBytes as T
 use Rattle.scram_io.specs.contracts.recorded.NotedBytes.new as f

@@ -1,11 +1,10 @@
 -- The body is empty. The proof opens the borrow and closes it at the longer list of bytes.
-use Rattle.std.proofs.Common.{List, [], ◌∷◌, ◌++◌, refl, length}
+use Rattle.std.proofs.Common.{List, [], ◌∷◌, ◌++◌, refl}
 use Rattle.std.proofs.raw_atomic.Walks.{proved}
 use mir.Syntax.{named}
 use mir.Val.{Val, vunit, vptr}
 use base.Logic.{id⊢}
-use contract.Running.{tables}
-use types.Kit.{‵, raw, ◌⊛◌, ◌$◌, ◌∵◌, !, qed, move, keep, drop, use1, split, join, fsplit, fsplit3, fjoin, fjoin3, feq_i, suffices, frame, done}
+use types.Kit.{‵, ◌⊛◌, ◌$◌, ◌∵◌, !, qed, move, keep, drop, use1, split, join, fsplit, fsplit3, fjoin, fjoin3, feq_i, suffices, frame, done}
 use types.Run.{unit_lit, of_opd, returns, enter}
 use types.ByLocal.{alloc_all, pass_all, free_all, look_at, sets}
 use base.Fml.{ftrue, flft}
@@ -13,9 +12,9 @@ use denote.Exit.{yes}
 use denote.RattleType.{owns}
 use denote.Builtin.{u8}
 use denote.Ref.{MutRef, mut_vals, mut_Tells}
-use denote.Slice.{ShrSlice, slice_val, shr_slice_vals, shr_slice_Tells}
-use denote.Signature.{plain, types_at}
-use denote.Steps.{nothing, opens, closes}
+use denote.Slice.{ShrSlice, shr_slice_vals, shr_slice_Tells}
+use denote.Signature.{plain}
+use denote.Steps.{opens, closes}
 use denote.Triple.Walked.{says, Stays, walk_of, stay_ref, stay_none_slice, Goes-ref, Goes-none_slice, ends_at}
 use Rattle.scram_io.specs.declared.recorded.NotedBytes.{NotedBytes}
 use Rattle.scram_io.specs.contracts.recorded.NotedBytes as T
