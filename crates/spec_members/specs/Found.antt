@@ -5,7 +5,8 @@ use Rattle.scram_doc.specs.Members.{required_at}
 use Rattle.serde_json.specs.Data.{Data}
 use Rattle.spec_members.specs.declared.members.Members.{Members}
 use Rattle.spec_members.specs.declared.members.NamingMembers.{NamingMembers}
-use Rattle.spec_members.specs.declared.members.MembersAfterNames.{MembersAfterNames}
+use Rattle.spec_members.specs.declared.members.TableMembers.{TableMembers}
+use Rattle.spec_members.specs.declared.members.LimitMembers.{LimitMembers}
 use Rattle.spec_members.specs.Versions.{AreDemands, IsPolicy}
 
 -- `m` contains the values of the document's version and of its members that contain names.
@@ -16,12 +17,15 @@ pub record AreNamingMembers (d : Data) (m : NamingMembers) : Type 0 where
   pub confs : required_at (codes "configurations") [] d ≡ Ok (view m.confs.now)
   pub factors : required_at (codes "factors") [] d ≡ Ok (view m.factors.now)
 
--- `m` contains the values of the document's members after those that contain names.
-pub record AreMembersAfterNames (d : Data) (m : MembersAfterNames) : Type 0 where
+-- `m` contains the values of the document's choice table, bounds, start and goal.
+pub record AreTableMembers (d : Data) (m : TableMembers) : Type 0 where
   pub rules : required_at (codes "rules") [] d ≡ Ok (view m.rules.now)
   pub bounds : required_at (codes "bounds") [] d ≡ Ok (view m.bounds.now)
   pub start : required_at (codes "start") [] d ≡ Ok (view m.start.now)
   pub goal : required_at (codes "goal") [] d ≡ Ok (view m.goal.now)
+
+-- `m` contains the values of the document's invariants, preconditions and failure assumption.
+pub record AreLimitMembers (d : Data) (m : LimitMembers) : Type 0 where
   pub invariants : required_at (codes "invariants") [] d ≡ Ok (view m.invariants.now)
   pub preconditions : required_at (codes "preconditions") [] d ≡ Ok (view m.preconditions.now)
   pub assumption : required_at (codes "assumption") [] d ≡ Ok (view m.assumption.now)

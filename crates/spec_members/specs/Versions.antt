@@ -37,10 +37,13 @@ first_members =
 abbrev pub naming_members : List (List ℕ)
 naming_members = codes "scram" ∷ codes "processors" ∷ codes "apps" ∷ codes "configurations" ∷ codes "factors" ∷ []
 
--- The members of version 1 after those that contain names, in the order in which they are checked.
-abbrev pub members_after_names : List (List ℕ)
-members_after_names =
-    codes "rules" ∷ codes "bounds" ∷ codes "start" ∷ codes "goal" ∷ codes "invariants" ∷ codes "preconditions" ∷ codes "assumption" ∷ []
+-- The first members of version 1 after those that contain names, in the order in which they are checked.
+abbrev pub table_members : List (List ℕ)
+table_members = codes "rules" ∷ codes "bounds" ∷ codes "start" ∷ codes "goal" ∷ []
+
+-- The last members of version 1, in the order in which they are checked.
+abbrev pub limit_members : List (List ℕ)
+limit_members = codes "invariants" ∷ codes "preconditions" ∷ codes "assumption" ∷ []
 
 -- The number of members that a document must have. It is 14 in version 3, which has a policy and demands, 13 in
 -- version 2, which has a policy, and 12 otherwise.

@@ -4,8 +4,8 @@ ghost use Rattle.std.specs.Prelude.{◌≡◌, [], Ok, Some, codes, option_map, 
 ghost use Rattle.serde_json.specs.View.{view};
 ghost use Rattle.scram_doc.specs.Chain.{ok_map};
 ghost use Rattle.scram_doc.specs.Members.{required_at, no_more_than};
-ghost use Rattle.spec_members.specs.Found.{AreMembers, AreMembersAfterNames, AreNamingMembers};
-ghost use Rattle.spec_members.specs.Versions.{AreDemands, IsPolicy, demands_tested, each_needed, is_version_in, members_after_names, members_count, members_tested, naming_members, policy_tested};
+ghost use Rattle.spec_members.specs.Found.{AreLimitMembers, AreMembers, AreNamingMembers, AreTableMembers};
+ghost use Rattle.spec_members.specs.Versions.{AreDemands, IsPolicy, demands_tested, each_needed, is_version_in, limit_members, members_count, members_tested, naming_members, policy_tested, table_members};
 
 use scram_doc::{DocFault, Path, no_more_than, object, required};
 use serde_json::Value;
@@ -110,35 +110,49 @@ fn find_naming(document: &Value) -> Result<NamingMembers<'_>, DocFault>
     })
 }
 
-/// The values of the members after those that contain names, except the policy and the demands.
+/// The values of the choice table, the bounds, the start and the goal.
 #[derive(Clone, Copy)]
-struct MembersAfterNames<'a> {
+struct TableMembers<'a> {
     rules: &'a Value,
     bounds: &'a Value,
     start: &'a Value,
     goal: &'a Value,
-    invariants: &'a Value,
-    preconditions: &'a Value,
-    assumption: &'a Value,
 }
 
-fn find_after_names(document: &Value) -> Result<MembersAfterNames<'_>, DocFault>
-    ensures tested { ok_map (λ _. tt) result ≡ each_needed members_after_names (view document.now) }
-    ensures members { IfOk result (AreMembersAfterNames (view document.now)) }
+fn find_table(document: &Value) -> Result<TableMembers<'_>, DocFault>
+    ensures tested { ok_map (λ _. tt) result ≡ each_needed table_members (view document.now) }
+    ensures members { IfOk result (AreTableMembers (view document.now)) }
 {
     let root = Path::root();
     let rules = required(document, "rules", &root)?;
     let bounds = required(document, "bounds", &root)?;
     let start = required(document, "start", &root)?;
     let goal = required(document, "goal", &root)?;
-    let invariants = required(document, "invariants", &root)?;
-    let preconditions = required(document, "preconditions", &root)?;
-    let assumption = required(document, "assumption", &root)?;
-    Ok(MembersAfterNames {
+    Ok(TableMembers {
         rules,
         bounds,
         start,
         goal,
+    })
+}
+
+/// The values of the invariants, the preconditions and the failure assumption.
+#[derive(Clone, Copy)]
+struct LimitMembers<'a> {
+    invariants: &'a Value,
+    preconditions: &'a Value,
+    assumption: &'a Value,
+}
+
+fn find_limits(document: &Value) -> Result<LimitMembers<'_>, DocFault>
+    ensures tested { ok_map (λ _. tt) result ≡ each_needed limit_members (view document.now) }
+    ensures members { IfOk result (AreLimitMembers (view document.now)) }
+{
+    let root = Path::root();
+    let invariants = required(document, "invariants", &root)?;
+    let preconditions = required(document, "preconditions", &root)?;
+    let assumption = required(document, "assumption", &root)?;
+    Ok(LimitMembers {
         invariants,
         preconditions,
         assumption,
@@ -157,7 +171,8 @@ pub fn find_members(document: &Value) -> Result<Members<'_>, DocFault>
 {
     object(document, &Path::root())?;
     let naming = find_naming(document)?;
-    let after_names = find_after_names(document)?;
+    let table = find_table(document)?;
+    let limits = find_limits(document)?;
     let policy = find_policy(document, naming.scram)?;
     let demands = find_demands(document, naming.scram)?;
     check_count(document, naming.scram)?;
@@ -168,13 +183,13 @@ pub fn find_members(document: &Value) -> Result<Members<'_>, DocFault>
         apps: naming.apps,
         confs: naming.confs,
         factors: naming.factors,
-        rules: after_names.rules,
-        bounds: after_names.bounds,
-        start: after_names.start,
-        goal: after_names.goal,
-        invariants: after_names.invariants,
-        preconditions: after_names.preconditions,
-        assumption: after_names.assumption,
+        rules: table.rules,
+        bounds: table.bounds,
+        start: table.start,
+        goal: table.goal,
+        invariants: limits.invariants,
+        preconditions: limits.preconditions,
+        assumption: limits.assumption,
         policy,
         demands,
     })
