@@ -11,9 +11,15 @@ use scram_types::{Area, KindId, Order, ProcId};
 use std::alloc::{AllocError, Global};
 
 /// The applications of one processor: `boxes[k]` is the box of kind `k`.
-#[derive(Drop)]
 pub struct Rack {
     pub boxes: Vec<Box<dyn App + Send>>,
+}
+
+// A derived drop is laid out in the proof of each function that drops the value, and this one is a call.
+impl Drop for Rack {
+    fn drop(self) {
+        let Rack { boxes: _ } = self;
+    }
 }
 
 /// Creates a rack without boxes. This function does not allocate memory.

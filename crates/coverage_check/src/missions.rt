@@ -7,10 +7,19 @@ use fault_script::{Outside, within};
 use scram_types::{Script, Spec};
 
 /// An accepted specification, and a script that fits the specification and keeps to its failure assumption.
-#[derive(Drop)]
 pub struct Mission {
     accepted: Accepted,
     script: Script,
+}
+
+// A derived drop is laid out in the proof of each function that drops the value, and this one is a call.
+impl Drop for Mission {
+    fn drop(self) {
+        let Mission {
+            accepted: _,
+            script: _,
+        } = self;
+    }
 }
 
 impl std::marker::Model for Mission {
@@ -25,11 +34,21 @@ impl std::marker::Model for Mission {
 
 /// The refusal of a script: the first frame in which the script leaves the failure assumption, with the specification
 /// and the script.
-#[derive(Drop)]
 pub struct NotWithin {
     pub accepted: Accepted,
     pub script: Script,
     pub outside: Outside,
+}
+
+// A derived drop is laid out in the proof of each function that drops the value, and this one is a call.
+impl Drop for NotWithin {
+    fn drop(self) {
+        let NotWithin {
+            accepted: _,
+            script: _,
+            outside: _,
+        } = self;
+    }
 }
 
 impl Mission {

@@ -24,7 +24,6 @@ pub struct Illegal {
 
 /// The core of a flight of a specification and a script. It holds the state of the flight after the events that it
 /// has made so far, which are its history.
-#[derive(Drop)]
 pub struct Core<'a> {
     spec: &'a Spec,
     script: &'a Script,
@@ -32,6 +31,20 @@ pub struct Core<'a> {
     stored: Vec<u64>,
     history: Vec<Event>,
     kernel: Kernel<'a>,
+}
+
+// A derived drop is laid out in the proof of each function that drops the value, and this one is a call.
+impl Drop for Core<'_> {
+    fn drop(self) {
+        let Core {
+            spec: _,
+            script: _,
+            places: _,
+            stored: _,
+            history: _,
+            kernel: _,
+        } = self;
+    }
 }
 
 impl<'a> std::marker::Model for Core<'a> {
@@ -184,7 +197,15 @@ impl<'a> Core<'a> {
         ensures rows { result.rows ≡ rows_of self.entry.spec self.entry.script }
         ensures reports { result.reports ≡ reports_of self.entry.spec self.entry.script }
     {
-        self.kernel.finish()
+        let Core {
+            spec: _,
+            script: _,
+            places: _,
+            stored: _,
+            history: _,
+            kernel,
+        } = self;
+        kernel.finish()
     }
 
     /// Returns the next event of the actor of `event`, or `None` if the actor has none. This is the result of

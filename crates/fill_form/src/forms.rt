@@ -108,23 +108,10 @@ fn with_times(spec: Spec, bounds: Vec<Bound>, window: u32) -> Spec
     requires { IsSpec (with_times spec bounds.items window) }
     ensures { result ≡ with_times spec bounds.items window }
 {
-    Spec {
-        procs: spec.procs,
-        apps: spec.apps,
-        confs: spec.confs,
-        factors: spec.factors,
-        rules: spec.rules,
-        bounds: List::of(bounds),
-        start: spec.start,
-        goal: spec.goal,
-        invariants: spec.invariants,
-        preconditions: spec.preconditions,
-        policy: spec.policy,
-        demands: spec.demands,
-        halts: spec.halts,
-        changes: spec.changes,
-        window,
-    }
+    let mut spec = spec;
+    spec.bounds = List::of(bounds);
+    spec.window = window;
+    spec
 }
 
 // Returns the line that holds the canonical text of a specification.

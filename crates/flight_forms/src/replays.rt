@@ -35,10 +35,19 @@ pub struct ReplayFiles<'a> {
 }
 
 /// A mission, and the events by which it is flown.
-#[derive(Drop)]
 struct Replay {
     mission: Mission,
     list: List<Event>,
+}
+
+// A derived drop is laid out in the proof of each function that drops the value, and this one is a call.
+impl Drop for Replay {
+    fn drop(self) {
+        let Replay {
+            mission: _,
+            list: _,
+        } = self;
+    }
 }
 
 /// Flies the mission of a specification and a script by a schedule, and prints the trace of the flight.

@@ -27,10 +27,19 @@ pub struct ScriptsFiles<'a> {
 }
 
 /// An accepted specification, and the bytes of a file with a script on each line.
-#[derive(Drop)]
 pub struct Series {
     pub accepted: Accepted,
     pub scripts: List<u8>,
+}
+
+// A derived drop is laid out in the proof of each function that drops the value, and this one is a call.
+impl Drop for Series {
+    fn drop(self) {
+        let Series {
+            accepted: _,
+            scripts: _,
+        } = self;
+    }
 }
 
 /// Reads the specification and the file of scripts, and checks that the specification is accepted.

@@ -64,10 +64,19 @@ pub enum RefusalLine {
 }
 
 /// A refusal, with its kind and its line.
-#[derive(Drop)]
 pub struct Refusal {
     pub refused: Refused,
     pub line: RefusalLine,
+}
+
+// A derived drop is laid out in the proof of each function that drops the value, and this one is a call.
+impl Drop for Refusal {
+    fn drop(self) {
+        let Refusal {
+            refused: _,
+            line: _,
+        } = self;
+    }
 }
 
 impl Refusal {

@@ -19,10 +19,16 @@ use std::alloc::Global;
 
 // The possible choices from each configuration. For each configuration, `shares` has each rule's share of the
 // environments in scope, and `sets` has the set of the targets to which acceptance requires a bound.
-#[derive(Drop)]
 pub(crate) struct Chosen {
     pub(crate) shares: Vec<List<Share>>,
     pub(crate) sets: [u16; 12],
+}
+
+// A derived drop is laid out in the proof of each function that drops the value, and this one is a call.
+impl Drop for Chosen {
+    fn drop(self) {
+        let Chosen { shares: _, sets: _ } = self;
+    }
 }
 
 // Returns the possible choices from each configuration.

@@ -15,12 +15,23 @@ use std::alloc::Global;
 
 /// The core of a flight of a specification and a script, with the kernel on two units, one of which may halt. It
 /// holds the state of the flight after the events that it has made so far.
-#[derive(Drop)]
 pub struct PairCore<'a> {
     machine: PairMachine<'a>,
     first: Kernel<'a>,
     second: Kernel<'a>,
     flyers: Vec<Flyer>,
+}
+
+// A derived drop is laid out in the proof of each function that drops the value, and this one is a call.
+impl Drop for PairCore<'_> {
+    fn drop(self) {
+        let PairCore {
+            machine: _,
+            first: _,
+            second: _,
+            flyers: _,
+        } = self;
+    }
 }
 
 impl<'a> std::marker::Model for PairCore<'a> {

@@ -14,11 +14,21 @@ use std::alloc::Global;
 
 /// A state of a pair, with the specification, the script, the halt of a unit, if there is one, and the events that
 /// led to the state.
-#[derive(Drop)]
 pub(crate) struct PairMachine<'a> {
     setup: Setup<'a>,
     state: PairState,
     events: Vec<PairEvent>,
+}
+
+// A derived drop is laid out in the proof of each function that drops the value, and this one is a call.
+impl Drop for PairMachine<'_> {
+    fn drop(self) {
+        let PairMachine {
+            setup: _,
+            state: _,
+            events: _,
+        } = self;
+    }
 }
 
 impl<'a> std::marker::Model for PairMachine<'a> {

@@ -25,9 +25,15 @@ pub trait Naming<T> {
 }
 
 /// A list of different names, each numbered by its index.
-#[derive(Drop)]
 pub struct Numbers {
     names: IndexSet<String>,
+}
+
+// A derived drop is laid out in the proof of each function that drops the value, and this one is a call.
+impl Drop for Numbers {
+    fn drop(self) {
+        let Numbers { names: _ } = self;
+    }
 }
 
 impl Model for Numbers {
@@ -60,18 +66,28 @@ impl Numbers {
         requires { index_named itself self name.now ≡ None }
         ensures { IfOk result (λ numbers. numbers ≡ self ++ name.now ∷ []) }
     {
-        let mut names = self.names;
+        let Numbers { mut names } = self;
         names.insert(String::from_str(alloc, name)?)?;
         Ok(Numbers { names })
     }
 }
 
 /// A list of items with different names.
-#[derive(Drop)]
 pub struct Numbered<T, N: Naming<T>> {
     items: Vec<T>,
     numbers: Numbers,
     naming: PhantomData<N>,
+}
+
+// A derived drop is laid out in the proof of each function that drops the value, and this one is a call.
+impl<T: Drop, N: Naming<T>> Drop for Numbered<T, N> {
+    fn drop(self) {
+        let Numbered {
+            items: _,
+            numbers: _,
+            naming: _,
+        } = self;
+    }
 }
 
 impl<T, N: Naming<T>> Model for Numbered<T, N> {
@@ -116,14 +132,19 @@ impl<T, N: Naming<T>> Numbered<T, N> {
         ensures items { result.0.items ≡ self }
         ensures numbers { result.1 ≡ map N.spelling self }
     {
-        (self.items, self.numbers)
+        let Numbered {
+            items,
+            numbers,
+            naming: _,
+        } = self;
+        (items, numbers)
     }
 
     /// Returns the items in order.
     pub fn into_items(self) -> Vec<T>
         ensures { result.items ≡ self }
     {
-        self.items
+        self.into_parts().0
     }
 }
 
@@ -143,8 +164,12 @@ impl<T: Drop, N: Naming<T>> Numbered<T, N> {
         requires { index_named N.spelling self (N.spelling item) ≡ None }
         ensures { IfOk result (λ numbered. numbered ≡ self ++ item ∷ []) }
     {
-        let numbers = self.numbers.with(alloc, N::name(&item))?;
-        let mut items = self.items;
+        let Numbered {
+            mut items,
+            numbers,
+            naming: _,
+        } = self;
+        let numbers = numbers.with(alloc, N::name(&item))?;
         items.push(item)?;
         Ok(Numbered {
             items,

@@ -17,13 +17,25 @@ use std::marker::Model;
 /// Contracts see the history, the map, the numbers of the reads that are to fail, the number of reads and the number
 /// of faults. Each call of `read` is a read, numbered from 0. Neither number rises past `u64::MAX`, which is above
 /// every number that can be listed.
-#[derive(Drop)]
 pub struct MemFiles {
     files: Vec<(String, Vec<u8>)>,
     failing: Vec<u32>,
     reads: u64,
     faults: u64,
     history: NotedReads,
+}
+
+// A derived drop is laid out in the proof of each function that drops the value, and this one is a call.
+impl Drop for MemFiles {
+    fn drop(self) {
+        let MemFiles {
+            files: _,
+            failing: _,
+            reads: _,
+            faults: _,
+            history: _,
+        } = self;
+    }
 }
 
 impl Model for MemFiles {

@@ -16,13 +16,25 @@ use std::marker::Model;
 /// Contracts see the bytes, the capacity, the numbers of the puts that are to fail, the number of puts and the number
 /// of faults. Each call of `put` is a put, numbered from 0. Neither number rises past `u64::MAX`, which is above
 /// every number that can be listed.
-#[derive(Drop)]
 pub struct MemSink {
     bytes: Vec<u8>,
     room: usize,
     failing: Vec<u32>,
     puts: u64,
     faults: u64,
+}
+
+// A derived drop is laid out in the proof of each function that drops the value, and this one is a call.
+impl Drop for MemSink {
+    fn drop(self) {
+        let MemSink {
+            bytes: _,
+            room: _,
+            failing: _,
+            puts: _,
+            faults: _,
+        } = self;
+    }
 }
 
 impl Model for MemSink {

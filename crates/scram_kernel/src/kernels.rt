@@ -12,7 +12,6 @@ use std::alloc::Global;
 /// a frame from the marks and the images of the processors after the frame. It reads the environment of the next
 /// frame from the script. It holds the kernel image of the running frame, which is the first that has not ended, and
 /// the areas before that frame. It also holds the rows and the reconfigurations of the frames that have ended.
-#[derive(Drop)]
 pub struct Kernel<'a> {
     spec: &'a Spec,
     script: &'a Script,
@@ -22,6 +21,22 @@ pub struct Kernel<'a> {
     reading: Reading,
     rows: Vec<Row>,
     reports: Vec<Report>,
+}
+
+// A derived drop is laid out in the proof of each function that drops the value, and this one is a call.
+impl Drop for Kernel<'_> {
+    fn drop(self) {
+        let Kernel {
+            spec: _,
+            script: _,
+            walk: _,
+            image: _,
+            areas: _,
+            reading: _,
+            rows: _,
+            reports: _,
+        } = self;
+    }
 }
 
 impl<'a> std::marker::Model for Kernel<'a> {

@@ -4,9 +4,15 @@ ghost use Rattle.std.specs.Prelude.{◌≡◌};
 
 /// A list of items in order. Contracts see the items but not the capacity, so a value that contains a list can equal
 /// the value of a definition.
-#[derive(Drop)]
 pub struct List<T> {
     items: Vec<T>,
+}
+
+// A derived drop is laid out in the proof of each function that drops the value, and this one is a call.
+impl<T: Drop> Drop for List<T> {
+    fn drop(self) {
+        let List { items: _ } = self;
+    }
 }
 
 impl<T> std::marker::Model for List<T> {
@@ -36,6 +42,7 @@ impl<T> List<T> {
     pub fn into_items(self) -> Vec<T>
         ensures { result.items ≡ self }
     {
-        self.items
+        let List { items } = self;
+        items
     }
 }

@@ -29,12 +29,23 @@ pub struct RestartAt {
 }
 
 /// A fault script of at most 20,000 frames, with its changes, halts and restarts, each list in the order of frames.
-#[derive(Drop)]
 pub struct Script {
     pub frames: u32,
     pub changes: List<Change>,
     pub halts: List<HaltAt>,
     pub restarts: List<RestartAt>,
+}
+
+// A derived drop is laid out in the proof of each function that drops the value, and this one is a call.
+impl Drop for Script {
+    fn drop(self) {
+        let Script {
+            frames: _,
+            changes: _,
+            halts: _,
+            restarts: _,
+        } = self;
+    }
 }
 
 impl std::marker::Model for Script {

@@ -30,13 +30,25 @@ pub struct ModeSpec {
 
 /// An application: its kind, the applications that it needs, and the modes of its kind that it lists. Its rank is
 /// above the rank of each application that it needs.
-#[derive(Drop)]
 pub struct AppSpec {
     pub name: Name,
     pub kind: KindId,
     pub needs: List<AppId>,
     pub modes: List<ModeSpec>,
     pub rank: u8,
+}
+
+// A derived drop is laid out in the proof of each function that drops the value, and this one is a call.
+impl Drop for AppSpec {
+    fn drop(self) {
+        let AppSpec {
+            name: _,
+            kind: _,
+            needs: _,
+            modes: _,
+            rank: _,
+        } = self;
+    }
 }
 
 /// The mode and the processor of an application in a configuration in which it is on.
@@ -55,10 +67,16 @@ pub struct Conf {
 }
 
 /// An environment factor and its possible values. At the start of a flight the factor has its first value.
-#[derive(Drop)]
 pub struct Factor {
     pub name: Name,
     pub values: List<Name>,
+}
+
+// A derived drop is laid out in the proof of each function that drops the value, and this one is a call.
+impl Drop for Factor {
+    fn drop(self) {
+        let Factor { name: _, values: _ } = self;
+    }
 }
 
 /// A requirement that a factor has a value, given as an index into the factor's values.
@@ -70,12 +88,23 @@ pub struct Want {
 
 /// A rule of the choice table, whose target is `to`. The rule applies if the source is `from` (`None` for any
 /// source), each required factor has the required value, and each processor whose bit is set in `up` is up.
-#[derive(Drop)]
 pub struct Choice {
     pub from: Option<ConfId>,
     pub wants: List<Want>,
     pub up: u8,
     pub to: ConfId,
+}
+
+// A derived drop is laid out in the proof of each function that drops the value, and this one is a call.
+impl Drop for Choice {
+    fn drop(self) {
+        let Choice {
+            from: _,
+            wants: _,
+            up: _,
+            to: _,
+        } = self;
+    }
 }
 
 /// The maximum length of a reconfiguration from configuration `from` to configuration `to`: 1 to 1,000 frames.
@@ -123,7 +152,6 @@ pub enum Policy {
 ///
 /// For each application, the entry of `on` is `None` if the application need not be on. Otherwise the entry is the
 /// list of the modes that are allowed, and an empty list allows any mode.
-#[derive(Drop)]
 pub struct Demand {
     pub name: Name,
     pub from: u16,
@@ -135,13 +163,28 @@ pub struct Demand {
     pub off: u8,
 }
 
+// A derived drop is laid out in the proof of each function that drops the value, and this one is a call.
+impl Drop for Demand {
+    fn drop(self) {
+        let Demand {
+            name: _,
+            from: _,
+            wants: _,
+            up: _,
+            down: _,
+            to: _,
+            on: _,
+            off: _,
+        } = self;
+    }
+}
+
 /// A specification. Its creator proves `IsSpec`: names differ within their class, indexes are in range, the limits
 /// hold, and a needed application has a lower rank. Modes are modes of their kind, and the mode of a place is listed
 /// by its application.
 ///
 /// `halts`, `changes` and `window` are the failure assumption. At most `halts` processors are down at once, and any
 /// `window` consecutive frames hold at most `changes + 1` frames in which the environment changes.
-#[derive(Drop)]
 pub struct Spec {
     pub procs: List<Proc>,
     pub apps: List<AppSpec>,
@@ -158,6 +201,29 @@ pub struct Spec {
     pub halts: u8,
     pub changes: u8,
     pub window: u32,
+}
+
+// A derived drop is laid out in the proof of each function that drops the value, and this one is a call.
+impl Drop for Spec {
+    fn drop(self) {
+        let Spec {
+            procs: _,
+            apps: _,
+            confs: _,
+            factors: _,
+            rules: _,
+            bounds: _,
+            start: _,
+            goal: _,
+            invariants: _,
+            preconditions: _,
+            policy: _,
+            demands: _,
+            halts: _,
+            changes: _,
+            window: _,
+        } = self;
+    }
 }
 
 impl std::marker::Model for Spec {

@@ -10,7 +10,6 @@ use std::alloc::Global;
 
 /// A tap of a flight: the shared word that encodes the summary of the flight, and the flight's mission. Threads share
 /// a tap by reference.
-#[derive(Drop)]
 pub struct Tap<'a> {
     pub(crate) mission: &'a Mission,
     pub(crate) table: Table<(), TapView, Mission, TapRule, Global>,
@@ -19,9 +18,18 @@ pub struct Tap<'a> {
     ghost slots: { table.shared.table_id.slots ≡ 0 },
 }
 
+// A derived drop is laid out in the proof of each function that drops the value, and this one is a call.
+impl Drop for Tap<'_> {
+    fn drop(self) {
+        let Tap {
+            mission: _,
+            table: _,
+        } = self;
+    }
+}
+
 /// The only writer of a tap. For the next summary it records the number of rows published so far, the number of
 /// reconfigurations that begin in these rows, and the reading of these rows.
-#[derive(Drop)]
 pub struct Writer {
     pub(crate) published: u32,
     pub(crate) begun: u32,
@@ -29,8 +37,26 @@ pub struct Writer {
     pub(crate) inner: Seat<(), TapView>,
 }
 
+// A derived drop is laid out in the proof of each function that drops the value, and this one is a call.
+impl Drop for Writer {
+    fn drop(self) {
+        let Writer {
+            published: _,
+            begun: _,
+            reading: _,
+            inner: _,
+        } = self;
+    }
+}
+
 /// A reader of a tap.
-#[derive(Drop)]
 pub struct Reader {
     pub(crate) inner: Seat<(), TapView>,
+}
+
+// A derived drop is laid out in the proof of each function that drops the value, and this one is a call.
+impl Drop for Reader {
+    fn drop(self) {
+        let Reader { inner: _ } = self;
+    }
 }

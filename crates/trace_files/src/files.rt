@@ -24,10 +24,16 @@ pub struct TraceFiles<'a> {
 }
 
 /// A specification, and a trace of its missions.
-#[derive(Drop)]
 pub struct Flight {
     pub spec: Spec,
     pub flown: Flown,
+}
+
+// A derived drop is laid out in the proof of each function that drops the value, and this one is a call.
+impl Drop for Flight {
+    fn drop(self) {
+        let Flight { spec: _, flown: _ } = self;
+    }
 }
 
 /// Reads a specification and a trace from their files.

@@ -25,7 +25,6 @@ use word_table::{KSeat, Seat, WordTable, Words};
 
 /// A flight of a mission, ready to start, with all memory that the flight needs. It has the words, the kernel, the
 /// seats and the boxes of all processors, and room for the seats of the landed processors.
-#[derive(Drop)]
 pub struct WordFlight<'a> {
     mission: &'a Mission,
     words: WordTable,
@@ -42,6 +41,19 @@ pub struct WordFlight<'a> {
     ghost none_landed: { vec_len roster.landed ≡ 0 },
     ghost own_room: { vec_len roster.waiting ≤ vec_capacity roster.own },
     ghost room: { vec_len roster.waiting ≤ vec_capacity roster.landed },
+}
+
+// A derived drop is laid out in the proof of each function that drops the value, and this one is a call.
+impl Drop for WordFlight<'_> {
+    fn drop(self) {
+        let WordFlight {
+            mission: _,
+            words: _,
+            kernel: _,
+            roster: _,
+            cells: _,
+        } = self;
+    }
 }
 
 /// The result of a flight: the trace, and the words with all seats. The actors of the seats have no more steps. The

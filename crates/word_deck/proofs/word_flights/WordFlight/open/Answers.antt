@@ -9,9 +9,9 @@ invariant_of-result g c =
     let kernel = c.in_ok-words.ensures.kernel in
     record {
       of = c.in_ok-words.ensures.mission;
-      same = ap (λ mission. mission.now) c.kernel-2.ensures.mission;
-      seated = subst (IsAtTable c.in_ok-words.words) (sym c.kernel-2.ensures.seat) (kernel.table, kernel.mission);
-      fresh = fresh (length c.args.mission.now.spec.procs) c.in_ok-words.kseat c.kernel-2.result.kseat (omega (arith, c.holds.ensures.spec.procs_count.enough)) c.kernel-2.ensures.seat c.in_ok-words.ensures.kernel_place;
+      same = ap (λ mission. mission.now) c.kernel.ensures.mission;
+      seated = subst (IsAtTable c.in_ok-words.words) (sym c.kernel.ensures.seat) (kernel.table, kernel.mission);
+      fresh = fresh (length c.args.mission.now.spec.procs) c.in_ok-words.kseat c.kernel.result.kseat (omega (arith, c.holds.ensures.spec.procs_count.enough)) c.kernel.ensures.seat c.in_ok-words.ensures.kernel_place;
       waiting = at_table c.in_ok-words.words c.in_ok-words.seats.items c.in_ok-words.ensures.seats c.in_ok-words.ensures.opening;
       all = search rules;
       none_own = search rules;
