@@ -13,7 +13,7 @@ use Rattle.form_base.specs.Loads.{HasRead, IsUnloaded}
 use Rattle.form_base.specs.Refusals.{answer_of}
 use Rattle.form_base.specs.Specifications.{SaysSpecification}
 use Rattle.form_base.proofs.Reading.{document_reads, refused_reads}
-use Rattle.mission_files.specs.Documents.{SaysScript}
+use Rattle.form_base.specs.mission_files.Documents.{SaysScript}
 use Rattle.document_explanations.specs.Scripts.{AsksExplainedScript, BreaksExplainedScript, long_explained_script}
 use Rattle.document_explanations.specs.Specifications.{AsksExplainedSpecification, BreaksExplainedSpecification, long_explained_specification}
 

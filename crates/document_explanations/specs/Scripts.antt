@@ -7,8 +7,8 @@ use Rattle.scram_doc.specs.declared.fault.DocFault.{DocFault}
 use Rattle.scram_doc.specs.Documents.{document}
 use Rattle.fault_script.specs.declared.rule.TheConstants as rule
 use Rattle.form_base.specs.Answers.{Answer, AnswersDocument, AnswersFile}
-use Rattle.mission_files.specs.Documents.{BreaksScript, SaysScript, long_script}
-use Rattle.mission_files.specs.Lines.{script_line}
+use Rattle.form_base.specs.mission_files.Documents.{BreaksScript, SaysScript, long_script}
+use Rattle.form_base.specs.mission_files.Lines.{script_line}
 use Rattle.document_explanations.specs.Explanations.{explanation}
 use Rattle.document_explanations.specs.declared.rules.DocumentKind.TheVariants.{Script}
 

@@ -3,7 +3,7 @@
 ghost use Rattle.std.specs.Prelude.{◌≡◌, ◌++◌, OnOk};
 ghost use Rattle.trace_text.specs.Names.{further_joined};
 ghost use Rattle.form_base.specs.Lines.{cycle_text, rule_text, specification_line};
-ghost use Rattle.mission_files.specs.Lines.{script_line};
+ghost use Rattle.form_base.specs.mission_files.Lines.{script_line};
 
 use crate::lines::Lines;
 use fault_script::ScriptFault;

@@ -5,7 +5,7 @@ ghost use Rattle.scram_types.specs.declared.limits.TheConstants.{MAX_SCRIPT_BYTE
 ghost use Rattle.form_base.specs.Loads.{IsOutOfMemory};
 ghost use Rattle.form_base.specs.Refusals.{answer_of};
 ghost use Rattle.form_base.specs.declared.status.TheConstants.{BROKEN_SCRIPT};
-ghost use Rattle.mission_files.specs.Documents.{SaysScript};
+ghost use Rattle.form_base.specs.mission_files.Documents.{SaysScript};
 ghost use Rattle.document_explanations.specs.Scripts.{BreaksExplainedScript, explained_script_text, long_explained_script};
 
 use crate::explanations::{BrokenDocument, add_explanation};

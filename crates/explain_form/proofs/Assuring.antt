@@ -14,7 +14,7 @@ use Rattle.coverage_check.proofs.Accepting.{accepts_iff_unrefused}
 use Rattle.coverage_check.proofs.Flights.{is_mission}
 use Rattle.document_explanations.specs.Scripts.{BreaksExplainedScript, long_explained_script}
 use Rattle.document_explanations.specs.Specifications.{BreaksExplainedSpecification, long_explained_specification}
-use Rattle.mission_files.specs.Documents.{SaysScript}
+use Rattle.form_base.specs.mission_files.Documents.{SaysScript}
 use Rattle.form_base.specs.declared.status.TheConstants.{ANSWERED}
 use Rattle.form_base.specs.Answers.{Gives}
 use Rattle.form_base.specs.Assurance.{IsAssuring, OfDocument}

@@ -7,7 +7,7 @@ use Rattle.coverage_check.specs.Acceptance.{Accepts, first_refusal}
 use Rattle.coverage_check.specs.Missions.{IsMission, mission_of}
 use Rattle.document_explanations.specs.Scripts.{AsksExplainedScript}
 use Rattle.document_explanations.specs.Specifications.{AsksExplainedSpecification}
-use Rattle.mission_files.specs.Documents.{SaysScript}
+use Rattle.form_base.specs.mission_files.Documents.{SaysScript}
 use Rattle.form_base.specs.declared.status.TheConstants.{UNREAD_FILE, UNWRITTEN_OUTPUT}
 use Rattle.form_base.specs.Answers.{Answer, Gives, WithoutFiles}
 use Rattle.form_base.specs.Assurance.{OfDocument, OfSpecification}

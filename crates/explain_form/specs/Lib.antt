@@ -2,3 +2,4 @@ pub mod Answers
 pub mod Laws
 pub mod Outsides
 pub mod Texts
+pub mod acceptance_breaks

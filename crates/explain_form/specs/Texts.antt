@@ -7,9 +7,9 @@ use Rattle.fault_script.specs.Assumption.{first_outside}
 use Rattle.coverage_check.specs.declared.shown.Shown.{Shown}
 use Rattle.form_base.specs.declared.status.TheConstants.{ANSWERED, NOT_ACCEPTED, UNASSUMED_SCRIPT}
 use Rattle.form_base.specs.Lines.{shown_line}
-use Rattle.mission_files.specs.Lines.{outside_line}
+use Rattle.form_base.specs.mission_files.Lines.{outside_line}
 use Rattle.spec_forms.specs.Lines.{accepted_line}
-use Rattle.acceptance_breaks.specs.Texts.{breaks_text}
+use Rattle.explain_form.specs.acceptance_breaks.Texts.{breaks_text}
 use Rattle.idle_parts.specs.Texts.{idle_text}
 use Rattle.explain_form.specs.Outsides.{outside_text}
 

@@ -5,13 +5,13 @@ ghost use Rattle.std.specs.Prelude.{◌≡◌, ◌++◌, IfOk, Some};
 ghost use Rattle.fault_script.specs.Assumption.{first_outside};
 ghost use Rattle.explain_form.specs.Texts.{accepted_text, refused_text, unassumed_text};
 
+use crate::acceptance_breaks::make_breaks;
 use crate::outsides::make_outside;
-use acceptance_breaks::make_breaks;
 use coverage_check::Shown;
 use fault_script::Outside;
 use form_base::lines::make_shown_line;
+use form_base::mission_files::make_outside_line;
 use idle_parts::make_idle;
-use mission_files::make_outside_line;
 use scram_types::{NoMemory, Script, Spec};
 use spec_forms::make_accepted_line;
 use std::alloc::Global;

@@ -5,3 +5,4 @@ pub mod Extremes
 pub mod Gaps
 pub mod Margins
 pub mod Spans
+pub mod Unfinished

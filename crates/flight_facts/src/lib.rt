@@ -1,5 +1,5 @@
 //! Facts about a flight, derived from its rows and reports: differences between environments, decisions and their
-//! causes, margins, gaps, extremes and spans.
+//! causes, margins, gaps, extremes, spans and unfinished reconfigurations.
 #![tactic(auto)]
 
 pub mod acts;
@@ -9,3 +9,4 @@ pub mod extremes;
 pub mod gaps;
 pub mod margins;
 pub mod spans;
+pub mod unfinished;

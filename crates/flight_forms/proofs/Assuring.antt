@@ -27,12 +27,12 @@ use Rattle.form_base.specs.Answers.{Gives, WithoutFiles}
 use Rattle.form_base.specs.Assurance.{IsAssuring, OfDocument}
 use Rattle.form_base.proofs.Assuring.{document_assures, not_zero, specification_assures, text_of_gives}
 use Rattle.flight_forms.specs.declared.runs.FlightText.TheVariants.{Summary, Trace}
-use Rattle.mission_files.specs.Answers.{FlightAnswers, ScriptAnswers}
+use Rattle.form_base.specs.mission_files.Answers.{FlightAnswers, ScriptAnswers}
 use Rattle.flight_forms.specs.Answers.{FlyAnswers, GenAnswers, IsReplayAnswer, ListAnswers, ReplayAnswers, ScheduleAnswers, replay_answer}
 use Rattle.flight_forms.specs.Assurance.{AssuresFlight, AssuresFly, AssuresGen, AssuresReplay, FlightsAreAssured, IsAssured}
-use Rattle.mission_files.specs.Documents.{BreaksScript, SaysScript, long_script}
+use Rattle.form_base.specs.mission_files.Documents.{BreaksScript, SaysScript, long_script}
 use Rattle.flight_forms.specs.Documents.{BreaksSchedule, SaysSchedule, long_schedule}
-use Rattle.mission_files.specs.Missions.{UnlessRefused, mission_refusal, refusal_by, script_refusal}
+use Rattle.form_base.specs.mission_files.Missions.{UnlessRefused, mission_refusal, refusal_by, script_refusal}
 use Rattle.flight_forms.specs.Texts.{flight_text, watch_text}
 use Rattle.bank_words.specs.declared.events.Event.{Event}
 

@@ -15,8 +15,8 @@ use Rattle.form_base.proofs.Endings.{given_prints, memory_prints, tells_other}
 use Rattle.form_base.specs.Refusals.{answer_of}
 use Rattle.flight_forms.specs.declared.replays.Replay.{Replay}
 use Rattle.flight_forms.specs.Answers.{IsReplayAnswer, replay_refusal}
-use Rattle.mission_files.proofs.MissionReading.{refused_settles, unless_none}
-use Rattle.mission_files.specs.Missions.{UnlessRefused, mission_refusal}
+use Rattle.form_base.proofs.mission_files.MissionReading.{refused_settles, unless_none}
+use Rattle.form_base.specs.mission_files.Missions.{UnlessRefused, mission_refusal}
 use Rattle.flight_forms.specs.Replays.{MakesReplay, GivesReplay}
 use Rattle.bank_words.specs.declared.events.Event.{Event}
 

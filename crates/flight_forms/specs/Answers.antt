@@ -17,10 +17,10 @@ use Rattle.form_base.specs.Answers.{Answer, Gives, WithoutFiles}
 use Rattle.form_base.specs.Refusals.{memory_line}
 use Rattle.form_base.specs.Specifications.{AsksSpecification}
 use Rattle.flight_forms.specs.declared.runs.FlightText.TheVariants.{Trace, Summary}
-use Rattle.mission_files.specs.Answers.{FlightAnswers, GivesFlight}
-use Rattle.mission_files.specs.Documents.{AsksScript}
+use Rattle.form_base.specs.mission_files.Answers.{FlightAnswers, GivesFlight}
+use Rattle.form_base.specs.mission_files.Documents.{AsksScript}
 use Rattle.flight_forms.specs.Documents.{AsksSchedule}
-use Rattle.mission_files.specs.Missions.{UnlessRefused, mission_refusal}
+use Rattle.form_base.specs.mission_files.Missions.{UnlessRefused, mission_refusal}
 use Rattle.flight_forms.specs.Texts.{flight_text, watch_text}
 use Rattle.bank_words.specs.declared.events.Event.{Event}
 

@@ -14,7 +14,7 @@ use Rattle.form_base.specs.Assurance.{IsAssuring, OfDocument, OfSpecification}
 use Rattle.form_base.specs.Answers.{WithoutFiles}
 use Rattle.flight_forms.specs.declared.runs.FlightText.TheVariants.{Trace, Summary}
 use Rattle.flight_forms.specs.Answers.{FlyAnswers, GenAnswers, IsGenerated, ReplayAnswers, RunAnswers, WatchAnswers}
-use Rattle.mission_files.specs.Documents.{SaysScript}
+use Rattle.form_base.specs.mission_files.Documents.{SaysScript}
 use Rattle.flight_forms.specs.Documents.{SaysSchedule}
 use Rattle.flight_forms.specs.Texts.{flight_text, watch_text}
 use Rattle.bank_words.specs.declared.events.Event.{Event}

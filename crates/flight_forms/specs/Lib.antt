@@ -5,3 +5,4 @@ pub mod Lines
 pub mod Replays
 pub mod Summaries
 pub mod Texts
+pub mod flights_form

@@ -10,7 +10,7 @@ use Rattle.form_base.specs.Loads.{IsOutOfMemory}
 use Rattle.form_base.specs.Refusals.{answer_of}
 use Rattle.flight_forms.specs.declared.replays.Replay.{Replay}
 use Rattle.flight_forms.specs.Answers.{IsReplayAnswer}
-use Rattle.mission_files.specs.Missions.{mission_refusal}
+use Rattle.form_base.specs.mission_files.Missions.{mission_refusal}
 
 -- The status and the text are those of a replay of the mission by its list of events.
 abbrev pub GivesReplay : Replay → ℕ → List ℕ → Type 0

@@ -6,10 +6,10 @@ ghost use Rattle.fault_script.specs.Fits.{Fits};
 
 use crate::runs::{FlightText, fly};
 use app_model::Boxes;
+use form_base::mission_files::make_mission;
 use form_base::printing::{print_refusal, print_text};
 use form_base::refusals::Refusal;
 use form_base::status::{ANSWERED, Status};
-use mission_files::make_mission;
 use mission_gen::{generate, write_mission};
 use scram_io::Sink;
 use scram_types::{NoMemory, Script, Spec};

@@ -12,11 +12,11 @@ ghost use Rattle.flight_forms.specs.declared.runs.FlightText.TheVariants.{Trace}
 use crate::runs::{FlightText, print_flight};
 use app_model::Boxes;
 use coverage_check::Mission;
+use form_base::mission_files::{MissionFiles, read_mission};
 use form_base::printing::print_refusal;
 use form_base::refusals::Refusal;
 use form_base::status::Status;
 use kernel_pair::{PairCore, UnitHalt, fly_on};
-use mission_files::{MissionFiles, read_mission};
 use scram_io::{Files, Sink};
 use scram_types::{Flown, NoMemory};
 use std::alloc::Global;

@@ -7,3 +7,5 @@ pub mod Loads
 pub mod Specifications
 pub mod Printing
 pub mod Texts
+pub mod mission_files
+pub mod trace_files

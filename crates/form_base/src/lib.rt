@@ -4,7 +4,9 @@
 
 pub mod lines;
 pub mod loads;
+pub mod mission_files;
 pub mod printing;
 pub mod refusals;
 pub mod specifications;
 pub mod status;
+pub mod trace_files;

@@ -1,6 +1,6 @@
 -- The possible choices from each configuration.
 use Rattle.scram_types.specs.Specification.{Parts}
-use Rattle.choice_forms.specs.Tables.{HasShares}
+use Rattle.spec_forms.specs.choice_forms.Tables.{HasShares}
 use Rattle.spec_forms.specs.Bounds.{AreAskedBounds}
 use Rattle.idle_parts.specs.declared.choices.Chosen.{Chosen}
 

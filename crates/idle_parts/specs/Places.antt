@@ -5,7 +5,7 @@ use Rattle.std.specs.Option.{option_map_or}
 use Rattle.scram_types.specs.Specification.{Parts, place_in}
 use Rattle.scram_types.specs.declared.specification.Conf.{Conf}
 use Rattle.scram_types.specs.declared.specification.Place.{Place}
-use Rattle.choice_forms.specs.Choosing.{is_placed_on}
+use Rattle.spec_forms.specs.choice_forms.Choosing.{is_placed_on}
 
 -- Whether there is a place, and its mode is `m`.
 abbrev pub is_in_mode : ℕ → Option Place → Bool

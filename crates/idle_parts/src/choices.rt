@@ -3,17 +3,17 @@
 ghost use Rattle.std.specs.Prelude.{◌≡◌, ◌<◌, IfOk, length};
 ghost use Rattle.scram_types.specs.Lookups.{conf_id};
 ghost use Rattle.scram_types.specs.Searches.{any_below};
-ghost use Rattle.choice_forms.specs.Tables.{HasShares};
+ghost use Rattle.spec_forms.specs.choice_forms.Tables.{HasShares};
 ghost use Rattle.coverage_check.specs.Timing.{asked_bounds};
 ghost use Rattle.cube_cover.specs.Shares.{AreShares, IsShare, is_ruled_by};
 ghost use Rattle.spec_forms.specs.Bounds.{AreAskedBounds};
 ghost use Rattle.idle_parts.specs.Chosen.{AreChoicesOf};
 ghost use Rattle.idle_parts.specs.Choices.{is_bound_idle, is_conf_idle, is_first_from, is_rule_idle, is_target_of_other};
 
-use choice_forms::find_shares;
 use coverage_check::is_asked;
 use cube_cover::Share;
 use scram_types::{Bound, ConfId, List, NoMemory, Spec};
+use spec_forms::choice_forms::find_shares;
 use spec_forms::find_asked;
 use std::alloc::Global;
 

@@ -2,11 +2,11 @@
 
 ghost use Rattle.std.specs.Prelude.{◌≡◌};
 ghost use Rattle.std.specs.List.{list_any};
-ghost use Rattle.choice_forms.specs.Choosing.{is_placed_on};
+ghost use Rattle.spec_forms.specs.choice_forms.Choosing.{is_placed_on};
 ghost use Rattle.idle_parts.specs.Places.{is_app_idle, is_app_placed, is_in_mode, is_mode_idle, is_mode_placed, is_proc_idle, is_proc_used};
 
-use choice_forms::is_placed_on;
 use scram_types::{AppId, Mode, Place, ProcId, Spec};
+use spec_forms::choice_forms::is_placed_on;
 
 // Returns `true` if no configuration places application `app` in mode `mode`.
 pub(crate) fn is_mode_idle(spec: &Spec, app: AppId, mode: Mode) -> bool

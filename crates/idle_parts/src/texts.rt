@@ -1,7 +1,7 @@
 //! The text of the idle parts of a specification.
 
 ghost use Rattle.std.specs.Prelude.{◌≡◌, ◌<◌, ◌≤◌, ◌++◌, IfOk, OnOk, length};
-ghost use Rattle.choice_forms.specs.Tables.{HasShares};
+ghost use Rattle.spec_forms.specs.choice_forms.Tables.{HasShares};
 ghost use Rattle.coverage_check.specs.Timing.{asked_bounds};
 ghost use Rattle.scram_types.specs.Specification.{IsDemand};
 ghost use Rattle.spec_forms.specs.Bounds.{AreAskedBounds};

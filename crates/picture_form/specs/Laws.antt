@@ -8,7 +8,7 @@ use Rattle.scram_types.specs.declared.rows.Report.{Report}
 use Rattle.scram_types.specs.declared.rows.Row.{Row}
 use Rattle.scram_types.specs.declared.specification.AppSpec.{AppSpec}
 use Rattle.trace_text.specs.Flights.{IsActShown, IsFlight}
-use Rattle.trace_files.specs.Traces.{SaysTrace}
+use Rattle.form_base.specs.trace_files.Traces.{SaysTrace}
 use Rattle.flight_facts.specs.Acts.{act_of}
 use Rattle.flight_facts.specs.Extremes.{extremes_of, quantity_of}
 use Rattle.flight_facts.specs.Spans.{are_alike}

@@ -4,7 +4,7 @@ ghost use Rattle.std.specs.Prelude.{◌≡◌, ◌<◌, ◌≤◌, ◌+◌, ◌*
 ghost use Rattle.scram_io.specs.Outside.{Prints};
 ghost use Rattle.form_base.specs.Endings.{Ends, IsTaken};
 ghost use Rattle.form_base.specs.Texts.{texts_below};
-ghost use Rattle.trace_files.specs.Looks.{ViewAnswers};
+ghost use Rattle.form_base.specs.trace_files.Looks.{ViewAnswers};
 ghost use Rattle.picture_form.specs.Curves.{curve_text, curve_line_text, point_text, points_text};
 ghost use Rattle.picture_form.specs.Picture.{altitude_text, body_text, curves_text, foot_text, front_text, grid_text, head_text, heading_text, lanes_and_foot, legend_line, legend_text, names_text, open_line, picture_text, quantity_name, quantity_text, quantity_unit, sheet_text, stable_spans, tick_line, tick_text, ticks_text, top_text};
 ghost use Rattle.picture_form.specs.Reconfigurations.{begin_text, reconfiguration_boxes};
@@ -22,10 +22,10 @@ use flight_facts::extremes::{Quantity, extremes_of};
 use flight_facts::spans::Lane;
 use form_base::printing::{print_refusal, status_after};
 use form_base::status::{ANSWERED, Status};
+use form_base::trace_files::{TraceFiles, read_flight};
 use scram_io::{Files, Sink, SinkFault};
 use scram_types::{Report, Row, Spec};
 use std::alloc::Global;
-use trace_files::{TraceFiles, read_flight};
 use trace_text::lines::Line;
 
 /// Prints the trace in a file as a picture.

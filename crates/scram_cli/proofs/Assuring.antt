@@ -5,14 +5,14 @@ use Rattle.form_base.specs.Assurance.{IsAssuring}
 use Rattle.form_base.proofs.Assuring.{not_zero, text_of_gives}
 use Rattle.explain_form.proofs.Assuring.{explain_assures, explain_script_assures}
 use Rattle.faults_form.proofs.Assuring.{faults_assure}
-use Rattle.fill_form.proofs.Assuring.{fill_assures}
-use Rattle.flights_form.proofs.Assuring.{flights_assure}
-use Rattle.choice_forms.proofs.Assuring.{choices_assure, choose_assures}
+use Rattle.spec_forms.proofs.fill_form.Assuring.{fill_assures}
+use Rattle.flight_forms.proofs.flights_form.Assuring.{flights_assure}
+use Rattle.spec_forms.proofs.choice_forms.Assuring.{choices_assure, choose_assures}
 use Rattle.spec_forms.proofs.Assuring.{bounds_assure, check_assures}
-use Rattle.trace_files.proofs.Viewing.{view_assures}
+use Rattle.form_base.proofs.trace_files.Viewing.{view_assures}
 use Rattle.trace_forms.proofs.Assuring.{props_assure}
-use Rattle.summary_form.specs.Summary.{summary_text}
-use Rattle.columns_form.specs.Table.{columns_text}
+use Rattle.trace_forms.specs.summary_form.Summary.{summary_text}
+use Rattle.trace_forms.specs.columns_form.Table.{columns_text}
 use Rattle.picture_form.specs.Picture.{picture_text}
 use Rattle.trace_props.specs.Missions.{ReconfigurationsAreAssured}
 use Rattle.flight_forms.specs.Assurance.{FlightsAreAssured}

@@ -22,10 +22,10 @@ use Rattle.form_base.specs.Answers.{Answer, AnswersBytes, AnswersDocument, Answe
 use Rattle.form_base.specs.Endings.{AreInTurn, AreThere, HasRoom, IsMemoryRefusal, StoppedIn, WentOut}
 use Rattle.form_base.specs.Specifications.{BreaksSpecification, SaysSpecification, long_specification}
 use Rattle.flight_forms.specs.declared.runs.FlightText.TheVariants.{Trace}
-use Rattle.mission_files.specs.Answers.{ScriptAnswers}
+use Rattle.form_base.specs.mission_files.Answers.{ScriptAnswers}
 use Rattle.flight_forms.specs.Answers.{RunAnswers}
-use Rattle.mission_files.specs.Documents.{AsksScript, BreaksScript, SaysScript, long_script}
-use Rattle.mission_files.specs.Missions.{UnlessRefused, refusal_by, script_refusal}
+use Rattle.form_base.specs.mission_files.Documents.{AsksScript, BreaksScript, SaysScript, long_script}
+use Rattle.form_base.specs.mission_files.Missions.{UnlessRefused, refusal_by, script_refusal}
 use Rattle.flight_forms.specs.Texts.{flight_text}
 use Rattle.scram_cli.specs.Laws.{EndsAnswered, HasRoomFor, HoldsMission, MissionsAreAnswered}
 

@@ -17,9 +17,9 @@ use Rattle.coverage_check.specs.declared.shown.Other.TheVariants as other
 use Rattle.trace_props.specs.declared.breaks.Property.TheVariants as property
 use Rattle.form_base.specs.Lines.{shown_line, specification_line}
 use Rattle.spec_forms.specs.Lines.{accepted_line}
-use Rattle.mission_files.specs.Lines.{outside_line, script_line}
+use Rattle.form_base.specs.mission_files.Lines.{outside_line, script_line}
 use Rattle.flight_forms.specs.Lines.{fly_line}
-use Rattle.trace_files.specs.Lines.{broken_trace_line}
+use Rattle.form_base.specs.trace_files.Lines.{broken_trace_line}
 use Rattle.trace_forms.specs.Lines.{broken_line, holds_line}
 
 abbrev conf : List ℕ → Conf

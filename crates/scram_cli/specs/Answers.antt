@@ -4,15 +4,15 @@ use Rattle.std.specs.Prelude.{ℕ, List, Option, Some, None, codes}
 use Rattle.form_base.specs.declared.status.TheConstants.{ANSWERED, BROKEN_USAGE}
 use Rattle.form_base.specs.Answers.{Answer, Gives, WithoutFiles}
 use Rattle.spec_forms.specs.Answers.{BoundsAnswers, CheckAnswers}
-use Rattle.trace_files.specs.Looks.{ViewAnswers}
+use Rattle.form_base.specs.trace_files.Looks.{ViewAnswers}
 use Rattle.explain_form.specs.Answers.{ExplainAnswers, ExplainScriptAnswers}
 use Rattle.faults_form.specs.Answers.{FaultsAnswers}
-use Rattle.fill_form.specs.Answers.{FillAnswers}
-use Rattle.flights_form.specs.Answers.{FlightsAnswers}
-use Rattle.choice_forms.specs.Answers.{ChoicesAnswers, ChooseAnswers}
+use Rattle.spec_forms.specs.fill_form.Answers.{FillAnswers}
+use Rattle.flight_forms.specs.flights_form.Answers.{FlightsAnswers}
+use Rattle.spec_forms.specs.choice_forms.Answers.{ChoicesAnswers, ChooseAnswers}
 use Rattle.trace_forms.specs.Answers.{PropsAnswers}
-use Rattle.summary_form.specs.Summary.{summary_text}
-use Rattle.columns_form.specs.Table.{columns_text}
+use Rattle.trace_forms.specs.summary_form.Summary.{summary_text}
+use Rattle.trace_forms.specs.columns_form.Table.{columns_text}
 use Rattle.picture_form.specs.Picture.{picture_text}
 use Rattle.flight_forms.specs.Answers.{FlyAnswers, GenAnswers, PairAnswers, ReplayAnswers, RunAnswers, WatchAnswers}
 use Rattle.scram_cli.specs.declared.forms.FlightForm.{FlightForm}

@@ -2,15 +2,15 @@
 use Rattle.std.specs.Prelude.{◌≡◌, ℕ, List, [], Option, Some, None}
 use Rattle.scram_io.specs.Outside.{History}
 use Rattle.spec_forms.specs.Answers.{AssuresBounds, AssuresCheck}
-use Rattle.trace_files.specs.Looks.{AssuresView}
+use Rattle.form_base.specs.trace_files.Looks.{AssuresView}
 use Rattle.explain_form.specs.Answers.{AssuresExplain, AssuresExplainScript}
 use Rattle.faults_form.specs.Answers.{AssuresFaults}
-use Rattle.fill_form.specs.Answers.{AssuresFill}
-use Rattle.flights_form.specs.Assurance.{AssuresFlights}
-use Rattle.choice_forms.specs.Answers.{AssuresChoices, AssuresChoose}
+use Rattle.spec_forms.specs.fill_form.Answers.{AssuresFill}
+use Rattle.flight_forms.specs.flights_form.Assurance.{AssuresFlights}
+use Rattle.spec_forms.specs.choice_forms.Answers.{AssuresChoices, AssuresChoose}
 use Rattle.trace_forms.specs.Answers.{AssuresProps}
-use Rattle.summary_form.specs.Summary.{summary_text}
-use Rattle.columns_form.specs.Table.{columns_text}
+use Rattle.trace_forms.specs.summary_form.Summary.{summary_text}
+use Rattle.trace_forms.specs.columns_form.Table.{columns_text}
 use Rattle.picture_form.specs.Picture.{picture_text}
 use Rattle.flight_forms.specs.Assurance.{AssuresFly, AssuresGen, AssuresReplay, AssuresRun, AssuresWatch}
 use Rattle.scram_cli.specs.declared.forms.FlightForm.{FlightForm}

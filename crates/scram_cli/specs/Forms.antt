@@ -2,8 +2,8 @@
 use Rattle.std.specs.Prelude.{ℕ, List, [], ◌∷◌, Option, Some, None, codes, option_and_then, option_map, if◌then◌else◌}
 use Rattle.std.specs.Option.{option_or}
 use Rattle.std.specs.Str.{bytes_eq}
-use Rattle.choice_forms.specs.declared.states.StateWord.{StateWord}
-use Rattle.choice_forms.specs.States.{state_in}
+use Rattle.spec_forms.specs.declared.choice_forms.states.StateWord.{StateWord}
+use Rattle.spec_forms.specs.choice_forms.States.{state_in}
 use Rattle.faults_form.specs.declared.counts.FaultCount.{FaultCount}
 use Rattle.faults_form.specs.Counts.{fault_count}
 use Rattle.kernel_pair.specs.declared.events.UnitHalt.{UnitHalt}

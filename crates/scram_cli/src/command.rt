@@ -15,29 +15,29 @@ ghost use Rattle.scram_cli.specs.Pages.{page_text};
 use crate::forms::{FlightForm, Form, Look, SpecificationForm, form_of};
 use crate::pages::{Page, page_text};
 use app_model::Boxes;
-use choice_forms::{Question, choices, choose};
-use columns_form::columns_form;
 use explain_form::{explain, explain_script};
 use faults_form::{FaultsQuestion, faults};
-use fill_form::fill;
+use flight_forms::flights_form::{ScriptsFiles, flights};
 use flight_forms::laws::flights_are_assured;
 use flight_forms::{
     PairFiles, ReplayFiles, fly_generated, pair_form, print_generated, replay_form, run, watch,
 };
-use flights_form::{ScriptsFiles, flights};
+use form_base::mission_files::MissionFiles;
 use form_base::printing::{print_refusal, print_text};
 use form_base::refusals::{Refusal, Refused};
 use form_base::status::{ANSWERED, Status, UNWRITTEN_OUTPUT};
-use mission_files::MissionFiles;
+use form_base::trace_files::TraceFiles;
 use picture_form::picture_form;
 use scram_io::{Files, Sink, SinkFault};
+use spec_forms::choice_forms::{Question, choices, choose};
+use spec_forms::fill_form::fill;
 use spec_forms::{bounds, check};
 use std::alloc::{AllocGlobal, Global};
 use std::sync::Wait;
 use std::thread::Threads;
-use summary_form::summary_form;
-use trace_files::TraceFiles;
+use trace_forms::columns_form::columns_form;
 use trace_forms::props_form;
+use trace_forms::summary_form::summary_form;
 use trace_props::missions::reconfigurations_are_assured;
 use trace_text::lines::Line;
 

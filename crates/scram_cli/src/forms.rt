@@ -4,9 +4,9 @@ ghost use Rattle.std.specs.Prelude.{◌≡◌, map, string_bytes, option_map};
 ghost use Rattle.scram_cli.specs.Forms.{choose_form, flight_of_three, flight_with_names, form_of, form_of_few, form_of_explained, form_of_four, form_of_look, form_of_number, form_of_one, form_of_six, form_of_three, form_of_two, look_of, mission_number, question_of, question_with_names, unit_halt, with_names};
 
 use crate::pages::Page;
-use choice_forms::states::{State, read_state};
 use faults_form::{FaultCount, fault_count};
 use kernel_pair::UnitHalt;
+use spec_forms::choice_forms::states::{State, read_state};
 use trace_text::numbers::read_number;
 
 /// The exclusive upper limit of a mission's number.

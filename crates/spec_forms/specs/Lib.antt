@@ -2,3 +2,5 @@ pub mod Answers
 pub mod Asked
 pub mod Bounds
 pub mod Lines
+pub mod fill_form
+pub mod choice_forms

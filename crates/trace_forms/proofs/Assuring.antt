@@ -10,8 +10,8 @@ use Rattle.form_base.specs.declared.status.TheConstants.{ANSWERED}
 use Rattle.form_base.specs.Answers.{Gives, WithoutFiles}
 use Rattle.form_base.specs.Assurance.{IsAssuring}
 use Rattle.form_base.proofs.Assuring.{document_assures, not_zero, specification_assures, text_of_gives}
-use Rattle.trace_files.specs.Traces.{BreaksTrace, SaysTrace, long_trace}
-use Rattle.trace_files.proofs.Viewing.{no_broken_trace}
+use Rattle.form_base.specs.trace_files.Traces.{BreaksTrace, SaysTrace, long_trace}
+use Rattle.form_base.proofs.trace_files.Viewing.{no_broken_trace}
 use Rattle.trace_forms.specs.Answers.{AssuresProps, IsJudgement, Judges, PropsAnswers, judged_answer}
 use Rattle.trace_forms.specs.Lines.{holds_line}
 

@@ -10,7 +10,7 @@ use Rattle.form_base.specs.declared.status.TheConstants.{ANSWERED, BROKEN_PROPER
 use Rattle.form_base.specs.Answers.{Answer, Gives, WithoutFiles}
 use Rattle.form_base.specs.Assurance.{OfDocument, OfSpecification}
 use Rattle.form_base.specs.Specifications.{AsksSpecification}
-use Rattle.trace_files.specs.Traces.{AsksTrace, SaysTrace}
+use Rattle.form_base.specs.trace_files.Traces.{AsksTrace, SaysTrace}
 use Rattle.trace_forms.specs.Lines.{broken_line, holds_line}
 
 -- The value is the first break of a property by a trace, or `None` if all properties hold for the trace.

@@ -5,7 +5,7 @@ ghost use Rattle.scram_types.specs.declared.rows.Flown.{Flown};
 ghost use Rattle.form_base.specs.Answers.{WithoutFiles};
 ghost use Rattle.form_base.specs.Endings.{Ends, IsTaken, Prepares};
 ghost use Rattle.form_base.specs.declared.status.TheConstants.{ANSWERED, BROKEN_PROPERTY};
-ghost use Rattle.trace_files.specs.Traces.{AsksTrace};
+ghost use Rattle.form_base.specs.trace_files.Traces.{AsksTrace};
 ghost use Rattle.trace_forms.specs.Answers.{IsJudgement, PropsAnswers};
 ghost use Rattle.trace_forms.specs.Verdicts.{GivesJudgement, HasVerdict};
 
@@ -15,10 +15,10 @@ use form_base::printing::{print_refusal, print_text};
 use form_base::refusals::Refusal;
 use form_base::specifications::Specification;
 use form_base::status::{ANSWERED, BROKEN_PROPERTY, Status};
+use form_base::trace_files::{Trace, TraceFiles};
 use scram_io::{Files, Sink};
 use scram_types::{Flown, Spec};
 use std::alloc::Global;
-use trace_files::{Trace, TraceFiles};
 use trace_props::props;
 use trace_text::lines::Line;
 

@@ -1,7 +1,7 @@
 use Rattle.std.proofs.Common.{[]}
 use Rattle.form_base.proofs.Reading.{settled}
 use Rattle.flight_forms.specs.Answers.{IsReplayAnswer, ListAnswers}
-use Rattle.mission_files.specs.Missions.{UnlessRefused, mission_refusal}
+use Rattle.form_base.specs.mission_files.Missions.{UnlessRefused, mission_refusal}
 use Rattle.flight_forms.specs.Replays.{GivesReplay}
 use Rattle.flight_forms.proofs.FileReading.{schedule_reads, schedule_unread}
 use Rattle.flight_forms.proofs.MissionReading.{replay_settles}

@@ -2,7 +2,7 @@ use Rattle.std.proofs.Common.{[], ◌∷◌}
 use Rattle.scram_types.specs.Specification.{Parts}
 use Rattle.form_base.proofs.SpecReading.{specification_reads, specification_unread}
 use Rattle.flight_forms.specs.Answers.{ScheduleAnswers}
-use Rattle.mission_files.specs.Documents.{AsksScript}
+use Rattle.form_base.specs.mission_files.Documents.{AsksScript}
 use Rattle.flight_forms.specs.Replays.{GivesReplay}
 use Rattle.flight_forms.proofs.replays.read_replay.Goals as goal
 

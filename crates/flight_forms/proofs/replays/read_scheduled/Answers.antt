@@ -1,7 +1,7 @@
 use Rattle.std.proofs.Common.{[], ◌∷◌}
 use Rattle.flight_forms.specs.Answers.{ScheduleAnswers}
 use Rattle.flight_forms.specs.Replays.{GivesReplay}
-use Rattle.mission_files.proofs.FileReading.{script_reads, script_unread}
+use Rattle.form_base.proofs.mission_files.FileReading.{script_reads, script_unread}
 use Rattle.flight_forms.proofs.replays.read_scheduled.Goals as goal
 
 pub returns-in-Ok : goal.returns-in-Ok

@@ -3,7 +3,7 @@ use Rattle.std.specs.Prelude.{Ok}
 use Rattle.scram_types.specs.declared.rows.Flown.{Flown}
 use Rattle.form_base.specs.Answers.{WithoutFiles}
 use Rattle.form_base.proofs.Reading.{settled}
-use Rattle.trace_files.proofs.FileReading.{trace_reads, trace_unread}
+use Rattle.form_base.proofs.trace_files.FileReading.{trace_reads, trace_unread}
 use Rattle.trace_forms.proofs.Judged.{judgement_settles}
 use Rattle.trace_forms.specs.Answers.{IsJudgement}
 use Rattle.trace_forms.specs.Verdicts.{GivesJudgement}

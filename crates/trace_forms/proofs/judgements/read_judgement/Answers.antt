@@ -3,7 +3,7 @@ use Rattle.scram_types.specs.Specification.{Parts}
 use Rattle.scram_types.specs.declared.rows.Flown.{Flown}
 use Rattle.form_base.specs.Answers.{WithoutFiles}
 use Rattle.form_base.proofs.SpecReading.{specification_reads, specification_unread}
-use Rattle.trace_files.specs.Traces.{AsksTrace}
+use Rattle.form_base.specs.trace_files.Traces.{AsksTrace}
 use Rattle.trace_forms.specs.Answers.{IsJudgement}
 use Rattle.trace_forms.specs.Verdicts.{GivesJudgement}
 use Rattle.trace_forms.proofs.judgements.read_judgement.Goals as goal

@@ -2,7 +2,7 @@ use Rattle.std.proofs.Common.{◌≡◌, Err, refl}
 use Rattle.fault_script.specs.Reading.{script_of}
 use Rattle.form_base.specs.Refusals.{answer_of}
 use Rattle.form_base.specs.declared.status.TheConstants.{BROKEN_SCRIPT}
-use Rattle.mission_files.specs.Lines.{script_line}
+use Rattle.form_base.specs.mission_files.Lines.{script_line}
 use Rattle.document_explanations.specs.Scripts.{BreaksExplainedScript, explained_script_text}
 use Rattle.document_explanations.proofs.Explained.{either}
 use Rattle.document_explanations.proofs.scripts.ExplainedScriptDocumentScript.read.Goals as goal

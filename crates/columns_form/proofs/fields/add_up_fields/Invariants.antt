@@ -1,8 +1,0 @@
-use Rattle.std.proofs.Common.{◌≡◌, ◌+◌, ◌*◌, ◌≤◌, ◌++◌, length, drop}
-use Rattle.columns_form.specs.Fields.{up_fields}
-use Rattle.columns_form.proofs.fields.add_up_fields.Given as goal
-
-abbrev pub invariant-loop-proc : goal.invariant-loop-proc
-invariant-loop-proc l =
-    (l.line ++ up_fields (drop l._proc-index l.spec.procs) l.left ≡ l.initial.line ++ up_fields l.spec.procs l.up)
-    × (length l.line ≤ length l.initial.line + 2 * l._proc-index)

@@ -1,9 +1,0 @@
-use Rattle.std.proofs.Common.{◌≡◌, ◌+◌, ◌*◌, ◌≤◌, ◌++◌, length}
-use Rattle.form_base.specs.Texts.{texts_below}
-use Rattle.columns_form.specs.Heads.{word_head}
-use Rattle.columns_form.proofs.heads.add_word_heads.Given as goal
-
-abbrev pub invariant-loop-i : goal.invariant-loop-i
-invariant-loop-i l =
-    (l.line ≡ l.initial.line ++ texts_below (word_head l.app) l.i)
-    × (length l.line ≤ length l.initial.line + 34 * l.i)

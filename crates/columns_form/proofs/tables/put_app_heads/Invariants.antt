@@ -1,7 +1,0 @@
-use Rattle.form_base.specs.Texts.{texts_below}
-use Rattle.scram_io.specs.Outside.{Printed}
-use Rattle.columns_form.specs.Table.{app_head_text}
-use Rattle.columns_form.proofs.tables.put_app_heads.Given as goal
-
-abbrev pub invariant-loop-a : goal.invariant-loop-a
-invariant-loop-a g l = Printed (g.K.Sink.state l.initial.out) (g.K.Sink.state l.out) (texts_below (app_head_text l.spec) l.a)

@@ -1,0 +1,102 @@
+//! A series of flights by an accepted specification and the scripts in a file.
+
+ghost use Rattle.std.specs.Prelude.{◌≤◌, ◌∷◌, [], IfOk, ℕ, List, length};
+ghost use Rattle.form_base.specs.Answers.{WithoutFiles};
+ghost use Rattle.form_base.specs.Endings.{Prepares, PreparesWithoutFiles};
+ghost use Rattle.flight_forms.specs.flights_form.Answers.{FlightsAnswers, ScriptsAnswers};
+ghost use Rattle.flight_forms.specs.flights_form.Printing.{GivesSeries};
+ghost use Rattle.flight_forms.specs.flights_form.Scripts.{AsksScripts};
+ghost use Rattle.flight_forms.specs.declared.flights_form.limits.TheConstants.{MAX_SCRIPTS_BYTES};
+
+use crate::flights_form::scripts::load_scripts;
+use coverage_check::{AcceptError, Accepted, accept};
+use form_base::lines::make_shown_line;
+use form_base::loads::load;
+use form_base::refusals::{Refusal, Refused};
+use form_base::specifications::Specification;
+use scram_io::Files;
+use scram_types::{List, Spec};
+use std::alloc::Global;
+
+/// The names of the two files for a series of flights: the file of a specification, and a file with a script on each
+/// line.
+#[derive(Clone, Copy)]
+pub struct ScriptsFiles<'a> {
+    pub specification: &'a str,
+    pub scripts: &'a str,
+}
+
+/// An accepted specification, and the bytes of a file with a script on each line.
+pub struct Series {
+    pub accepted: Accepted,
+    pub scripts: List<u8>,
+}
+
+// A derived drop is laid out in the proof of each function that drops the value, and this one is a call.
+impl Drop for Series {
+    fn drop(self) {
+        let Series {
+            accepted: _,
+            scripts: _,
+        } = self;
+    }
+}
+
+/// Reads the specification and the file of scripts, and checks that the specification is accepted.
+///
+/// # Errors
+///
+/// Returns a refusal if a file cannot be read or is too long, or if the specification breaks a rule or is not
+/// accepted. Returns the out-of-memory refusal if memory runs out.
+pub fn read_series<F: Files>(
+    alloc: Global,
+    named: ScriptsFiles<'_>,
+    files: &mut F,
+) -> Result<Series, Refusal>
+    ensures reads { Prepares (FlightsAnswers named.entry.specification.now named.entry.scripts.now) GivesSeries
+        (named.entry.specification.now ∷ named.entry.scripts.now ∷ []) (F.state files.old) (F.state files.new) result }
+    ensures few { IfOk result (λ series. length series.scripts ≤ MAX_SCRIPTS_BYTES) }
+{
+    match load(alloc, &Specification, named.specification, files) {
+        Ok(spec) => read_scripts(alloc, spec, named.scripts, files),
+        Err(refusal) => Err(refusal),
+    }
+}
+
+fn read_scripts<F: Files>(
+    alloc: Global,
+    spec: Spec,
+    scripts: &str,
+    files: &mut F,
+) -> Result<Series, Refusal>
+    ensures reads { Prepares (AsksScripts scripts.now (λ (bytes : List ℕ). WithoutFiles (ScriptsAnswers spec bytes))) GivesSeries (scripts.now ∷ [])
+        (F.state files.old) (F.state files.new) result }
+    ensures few { IfOk result (λ series. length series.scripts ≤ MAX_SCRIPTS_BYTES) }
+{
+    match load_scripts(alloc, scripts, files) {
+        Ok(scripts) => make_series(alloc, spec, scripts),
+        Err(refusal) => {
+            drop(spec);
+            Err(refusal)
+        }
+    }
+}
+
+fn make_series(alloc: Global, spec: Spec, scripts: List<u8>) -> Result<Series, Refusal>
+    requires { length scripts ≤ MAX_SCRIPTS_BYTES }
+    ensures prepares { PreparesWithoutFiles (ScriptsAnswers spec scripts) GivesSeries result }
+    ensures few { IfOk result (λ series. length series.scripts ≤ MAX_SCRIPTS_BYTES) }
+{
+    match accept(alloc, spec) {
+        Ok(accepted) => Ok(Series { accepted, scripts }),
+        Err(AcceptError::NotAccepted(spec, shown)) => {
+            let line = make_shown_line(&spec, &shown);
+            drop((spec, scripts));
+            Err(Refusal::new(Refused::Acceptance, line))
+        }
+        Err(AcceptError::NoMemory(spec)) => {
+            drop((spec, scripts));
+            Err(Refusal::out_of_memory())
+        }
+    }
+}

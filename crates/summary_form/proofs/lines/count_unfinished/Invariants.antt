@@ -1,6 +1,0 @@
-use Rattle.std.proofs.Common.{◌≡◌, ◌+◌, drop}
-use Rattle.summary_form.specs.Lines.{count_unfinished}
-use Rattle.summary_form.proofs.lines.count_unfinished.Given as goal
-
-abbrev pub invariant-loop-report : goal.invariant-loop-report
-invariant-loop-report l = l.count + count_unfinished (drop l.report-index l.reports) ≡ count_unfinished l.reports

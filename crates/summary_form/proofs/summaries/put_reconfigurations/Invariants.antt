@@ -1,7 +1,0 @@
-use Rattle.form_base.specs.Texts.{texts_below}
-use Rattle.scram_io.specs.Outside.{Printed}
-use Rattle.summary_form.specs.Summary.{reconfiguration_text}
-use Rattle.summary_form.proofs.summaries.put_reconfigurations.Given as goal
-
-abbrev pub invariant-loop-n : goal.invariant-loop-n
-invariant-loop-n g l = Printed (g.K.Sink.state l.initial.out) (g.K.Sink.state l.out) (texts_below (reconfiguration_text l.spec l.rows l.reports) l.n)
