@@ -7,9 +7,9 @@ ghost use Rattle.fault_script.specs.Fits.{Fits};
 ghost use Rattle.fault_script.specs.Reading.{script_of};
 ghost use Rattle.fault_script.specs.Texts.{change_data, data_with_restarts, data_without_restarts, halt_data, new_value_name, restart_data, script_data, script_text};
 
-use scram_doc::{Writes, write_list};
+use scram_doc::{Object, Writes};
 use scram_types::{Change, HaltAt, NoMemory, RestartAt, Script, Spec};
-use serde_json::{Value, json};
+use serde_json::Value;
 use std::alloc::{AllocError, Global};
 
 /// A writer of the items of a script's lists.
@@ -36,7 +36,11 @@ impl Writes<Change> for Writer<'_> {
     fn value(&self, alloc: Global, change: &Change) -> Result<Value, AllocError> {
         let factor = self.spec.factor_name(change.factor);
         let value = new_value_name(self.spec, change);
-        json!(in alloc; {"frame": change.frame, "factor": factor, "value": value})
+        let object = Object::new(alloc)
+            .count("frame", change.frame)?
+            .text("factor", factor)?
+            .text("value", value)?;
+        Ok(object.into_value())
     }
 }
 
@@ -45,7 +49,11 @@ impl Writes<HaltAt> for Writer<'_> {
 
     fn value(&self, alloc: Global, halt: &HaltAt) -> Result<Value, AllocError> {
         let proc = self.spec.proc_name(halt.proc);
-        json!(in alloc; {"processor": proc, "frame": halt.frame, "step": halt.step})
+        let object = Object::new(alloc)
+            .text("processor", proc)?
+            .count("frame", halt.frame)?
+            .count("step", u32::from(halt.step))?;
+        Ok(object.into_value())
     }
 }
 
@@ -54,7 +62,10 @@ impl Writes<RestartAt> for Writer<'_> {
 
     fn value(&self, alloc: Global, restart: &RestartAt) -> Result<Value, AllocError> {
         let proc = self.spec.proc_name(restart.proc);
-        json!(in alloc; {"processor": proc, "frame": restart.frame})
+        let object = Object::new(alloc)
+            .text("processor", proc)?
+            .count("frame", restart.frame)?;
+        Ok(object.into_value())
     }
 }
 
@@ -62,19 +73,25 @@ fn make_without_restarts(alloc: Global, spec: &Spec, script: &Script) -> Result<
     ensures { IfOk result (λ v. view v ≡ data_without_restarts spec.now script.now) }
 {
     let writer = Writer { spec };
-    let changes = write_list(alloc, &writer, script.changes.items())?;
-    let halts = write_list(alloc, &writer, script.halts.items())?;
-    json!(in alloc; {"scram": 1, "frames": script.frames, "changes": changes, "halts": halts})
+    let object = Object::new(alloc)
+        .count("scram", 1)?
+        .count("frames", script.frames)?
+        .list("changes", &writer, script.changes.items())?
+        .list("halts", &writer, script.halts.items())?;
+    Ok(object.into_value())
 }
 
 fn make_with_restarts(alloc: Global, spec: &Spec, script: &Script) -> Result<Value, AllocError>
     ensures { IfOk result (λ v. view v ≡ data_with_restarts spec.now script.now) }
 {
     let writer = Writer { spec };
-    let changes = write_list(alloc, &writer, script.changes.items())?;
-    let halts = write_list(alloc, &writer, script.halts.items())?;
-    let restarts = write_list(alloc, &writer, script.restarts.items())?;
-    json!(in alloc; {"scram": 2, "frames": script.frames, "changes": changes, "halts": halts, "restarts": restarts})
+    let object = Object::new(alloc)
+        .count("scram", 2)?
+        .count("frames", script.frames)?
+        .list("changes", &writer, script.changes.items())?
+        .list("halts", &writer, script.halts.items())?
+        .list("restarts", &writer, script.restarts.items())?;
+    Ok(object.into_value())
 }
 
 fn make_script(alloc: Global, spec: &Spec, script: &Script) -> Result<Value, AllocError>

@@ -6,5 +6,6 @@ pub mod Lists
 pub mod Members
 pub mod Names
 pub mod Numbering
+pub mod Objects
 pub mod Paths
 pub mod Values

@@ -1,11 +1,9 @@
 //! The canonical values of lists.
 
-ghost use Rattle.std.specs.Prelude.{◌≡◌, map, IfOk, OnOk};
-ghost use Rattle.serde_json.specs.Data.{put};
-ghost use Rattle.serde_json.specs.View.{members_view, view};
-ghost use Rattle.scram_doc.specs.Canonical.{list_data};
+ghost use Rattle.std.specs.Prelude.{◌≡◌, map, IfOk};
+ghost use Rattle.serde_json.specs.View.{view};
 
-use serde_json::{Map, Value};
+use serde_json::Value;
 use std::alloc::{AllocError, Global};
 
 /// A writer of the items of a list as JSON values.
@@ -36,20 +34,4 @@ pub fn write_list<T, W: Writes<T>>(
         serde_json::push(&mut values, value)?;
     }
     Ok(values)
-}
-
-/// Sets the member `name` of an object to the list of the values that are written for the items. Returns an error if
-/// memory runs out.
-pub fn put_list<T, W: Writes<T>>(
-    members: &mut Map<String, Value>,
-    alloc: Global,
-    name: &str,
-    writer: &W,
-    items: &[T],
-) -> Result<(), AllocError>
-    ensures { OnOk result (members_view members.new.entries ≡ put name.now (list_data (W.written writer.now) items.now) (members_view members.old.entries)) }
-{
-    let values = write_list(alloc, writer, items)?;
-    serde_json::put(members, alloc, name, Value::Array(values))?;
-    Ok(())
 }

@@ -1,21 +1,22 @@
 //! Writing specifications as JSON documents.
 
-ghost use Rattle.std.specs.Prelude.{◌≡◌, ◌≤◌, [], Ok, Some, length, map, IfOk, OnOk};
+ghost use Rattle.std.specs.Prelude.{◌≡◌, ◌≤◌, [], Some, length, map, IfOk};
 ghost use Rattle.serde_json.specs.Data.{put};
 ghost use Rattle.std.specs.Str.{IsUtf8};
 ghost use Rattle.serde_json.specs.Read.{read};
-ghost use Rattle.serde_json.specs.View.{members_view, view};
+ghost use Rattle.serde_json.specs.View.{view};
+ghost use Rattle.scram_doc.specs.Objects.{members_of};
 ghost use Rattle.spec_text.specs.Texts.{app_data, assumption_data, bound_data, choice_data, conf_data, demand_data, factor_data, goal_data, invariant_data, mode_data, name_of_app_mode, names_data, need_data, on_app_data, on_data, place_data, places_data, precondition_data, proc_data, set_data, spec_data, spec_text, want_data, with_asked, with_condition, with_demands, with_limits, with_named, with_table, with_version};
 
 use crate::values::{name_of_app_mode, name_of_value, name_of_variable, policy_name, source_name};
 use kind_table::{kind_name, mode_name};
-use scram_doc::{Naming, Writes, put_list, write_list};
+use scram_doc::{Naming, Object, Writes};
 use scram_types::bits::is_in;
 use scram_types::{
     AppId, AppSpec, Bound, Choice, Conf, Demand, Factor, Goal, Invariant, KindId, Mode, ModeSpec,
     Modes, Name, NoMemory, Place, Policy, Precondition, Proc, Spec, Want,
 };
-use serde_json::{Map, Value, json};
+use serde_json::{Value, json};
 use spec_members::names::ByName;
 use std::alloc::{AllocError, Global};
 
@@ -36,7 +37,10 @@ impl Writes<Proc> for Writer<'_> {
 
     fn value(&self, alloc: Global, proc: &Proc) -> Result<Value, AllocError> {
         let name = proc.name.as_str();
-        json!(in alloc; {"capacity": proc.capacity, "name": name})
+        let object = Object::new(alloc)
+            .count("capacity", proc.capacity)?
+            .text("name", name)?;
+        Ok(object.into_value())
     }
 }
 
@@ -45,13 +49,13 @@ impl Writes<ModeSpec> for ModeWriter {
 
     fn value(&self, alloc: Global, listed: &ModeSpec) -> Result<Value, AllocError> {
         let mode = mode_name(self.kind, listed.mode).unwrap_or("");
-        json!(in alloc; {
-            "halt": listed.halt,
-            "init": listed.init,
-            "load": listed.load,
-            "mode": mode,
-            "prepare": listed.prepare
-        })
+        let object = Object::new(alloc)
+            .count("halt", u32::from(listed.halt))?
+            .count("init", u32::from(listed.init))?
+            .count("load", listed.load)?
+            .text("mode", mode)?
+            .count("prepare", u32::from(listed.prepare))?;
+        Ok(object.into_value())
     }
 }
 
@@ -70,10 +74,12 @@ impl Writes<AppSpec> for Writer<'_> {
 
     fn value(&self, alloc: Global, app: &AppSpec) -> Result<Value, AllocError> {
         let kind = kind_name(app.kind).unwrap_or("");
-        let modes = write_list(alloc, &ModeWriter { kind: app.kind }, app.modes.items())?;
-        let name = app.name.as_str();
-        let needs = write_list(alloc, self, app.needs.items())?;
-        json!(in alloc; {"kind": kind, "modes": modes, "name": name, "needs": needs})
+        let object = Object::new(alloc)
+            .text("kind", kind)?
+            .list("modes", &ModeWriter { kind: app.kind }, app.modes.items())?
+            .text("name", app.name.as_str())?
+            .list("needs", self, app.needs.items())?;
+        Ok(object.into_value())
     }
 }
 
@@ -83,7 +89,11 @@ fn make_place(alloc: Global, spec: &Spec, app: AppId, place: &Place) -> Result<V
     let name = spec.app_name(app);
     let mode = name_of_app_mode(spec.apps.items(), app, place.mode);
     let on = spec.proc_name(place.proc);
-    json!(in alloc; {"app": name, "mode": mode, "on": on})
+    let object = Object::new(alloc)
+        .text("app", name)?
+        .text("mode", mode)?
+        .text("on", on)?;
+    Ok(object.into_value())
 }
 
 fn make_places(
@@ -109,8 +119,10 @@ impl Writes<Conf> for Writer<'_> {
     fn value(&self, alloc: Global, conf: &Conf) -> Result<Value, AllocError> {
         let spec = self.spec;
         let places = make_places(alloc, spec, &conf.places)?;
-        let name = conf.name.as_str();
-        json!(in alloc; {"apps": places, "name": name})
+        let object = Object::new(alloc)
+            .values("apps", places)?
+            .text("name", conf.name.as_str())?;
+        Ok(object.into_value())
     }
 }
 
@@ -129,9 +141,10 @@ impl Writes<Factor> for Writer<'_> {
     ghost written = { λ _. factor_data };
 
     fn value(&self, alloc: Global, factor: &Factor) -> Result<Value, AllocError> {
-        let name = factor.name.as_str();
-        let values = write_list(alloc, self, factor.values.items())?;
-        json!(in alloc; {"name": name, "values": values})
+        let object = Object::new(alloc)
+            .text("name", factor.name.as_str())?
+            .list("values", self, factor.values.items())?;
+        Ok(object.into_value())
     }
 }
 
@@ -142,7 +155,10 @@ impl Writes<Want> for Writer<'_> {
         let spec = self.spec;
         let factor = spec.factor_name(want.factor);
         let value = name_of_value(spec, *want);
-        json!(in alloc; {"factor": factor, "value": value})
+        let object = Object::new(alloc)
+            .text("factor", factor)?
+            .text("value", value)?;
+        Ok(object.into_value())
     }
 }
 
@@ -166,20 +182,19 @@ fn make_names<T, N: Naming<T>>(
     Ok(values)
 }
 
-/// Writes a member with this name, which holds the names of the items whose numbers are in a set.
+/// Sets the member `name` of an object to the names of the items whose numbers are in a set.
 fn put_set<T, N: Naming<T>>(
-    members: &mut Map<String, Value>,
+    object: Object,
     alloc: Global,
     name: &str,
     items: &[T],
     set: u16,
-) -> Result<(), AllocError>
+) -> Result<Object, AllocError>
     requires { length items.now ≤ 12 }
-    ensures { OnOk result (members_view members.new.entries ≡ put name.now (set_data N.spelling items.now set) (members_view members.old.entries)) }
+    ensures { IfOk result (λ o. members_of o ≡ put name.now (set_data N.spelling items.now set) (members_of object)) }
 {
     let values = make_names::<T, N>(alloc, items, set)?;
-    serde_json::put(members, alloc, name, Value::Array(values))?;
-    Ok(())
+    object.values(name, values)
 }
 
 impl Writes<Choice> for Writer<'_> {
@@ -191,8 +206,12 @@ impl Writes<Choice> for Writer<'_> {
         let to = spec.conf_name(rule.to);
         let procs = spec.procs.items();
         let up = make_names::<Proc, ByName>(alloc, procs, u16::from(rule.up))?;
-        let wants = write_list(alloc, self, rule.wants.items())?;
-        json!(in alloc; {"from": from, "to": to, "up": up, "when": wants})
+        let object = Object::new(alloc)
+            .text("from", from)?
+            .text("to", to)?
+            .values("up", up)?
+            .list("when", self, rule.wants.items())?;
+        Ok(object.into_value())
     }
 }
 
@@ -203,7 +222,11 @@ impl Writes<Bound> for Writer<'_> {
         let spec = self.spec;
         let from = spec.conf_name(bound.from);
         let to = spec.conf_name(bound.to);
-        json!(in alloc; {"frames": bound.frames, "from": from, "to": to})
+        let object = Object::new(alloc)
+            .count("frames", bound.frames)?
+            .text("from", from)?
+            .text("to", to)?;
+        Ok(object.into_value())
     }
 }
 
@@ -216,13 +239,13 @@ impl Writes<Invariant> for Writer<'_> {
         let app = spec.app_name(inv.app);
         let from = source_name(spec, inv.from);
         let variable = name_of_variable(apps, inv.app, inv.variable);
-        json!(in alloc; {
-            "app": app,
-            "from": from,
-            "greatest": inv.greatest,
-            "least": inv.least,
-            "variable": variable
-        })
+        let object = Object::new(alloc)
+            .text("app", app)?
+            .text("from", from)?
+            .integer("greatest", &inv.greatest)?
+            .integer("least", &inv.least)?
+            .text("variable", variable)?;
+        Ok(object.into_value())
     }
 }
 
@@ -235,13 +258,13 @@ impl Writes<Precondition> for Writer<'_> {
         let app = spec.app_name(pre.app);
         let conf = spec.conf_name(pre.conf);
         let variable = name_of_variable(apps, pre.app, pre.variable);
-        json!(in alloc; {
-            "app": app,
-            "configuration": conf,
-            "greatest": pre.greatest,
-            "least": pre.least,
-            "variable": variable
-        })
+        let object = Object::new(alloc)
+            .text("app", app)?
+            .text("configuration", conf)?
+            .integer("greatest", &pre.greatest)?
+            .integer("least", &pre.least)?
+            .text("variable", variable)?;
+        Ok(object.into_value())
     }
 }
 
@@ -268,8 +291,10 @@ fn make_on_app(alloc: Global, spec: &Spec, app: AppId, modes: &Modes) -> Result<
     ensures { IfOk result (λ v. view v ≡ on_app_data spec.now app.0 modes.now) }
 {
     let name = spec.app_name(app);
-    let modes = write_list(alloc, &OnWriter { spec, app }, modes.as_slice())?;
-    json!(in alloc; {"app": name, "modes": modes})
+    let object = Object::new(alloc)
+        .text("app", name)?
+        .list("modes", &OnWriter { spec, app }, modes.as_slice())?;
+    Ok(object.into_value())
 }
 
 fn make_on(alloc: Global, spec: &Spec, on: &[Option<Modes>; 8]) -> Result<Vec<Value>, AllocError>
@@ -285,41 +310,38 @@ fn make_on(alloc: Global, spec: &Spec, on: &[Option<Modes>; 8]) -> Result<Vec<Va
     Ok(values)
 }
 
-/// Writes the members of a demand that contain the environments and configurations to which the demand applies.
-fn put_condition(
-    members: &mut Map<String, Value>,
+/// Sets the members of a demand that contain the environments and configurations to which the demand applies.
+fn with_condition(
+    object: Object,
     alloc: Global,
     spec: &Spec,
     demand: &Demand,
-) -> Result<(), AllocError>
-    ensures { OnOk result (members_view members.new.entries ≡ with_condition spec.now demand.now (members_view members.old.entries)) }
+) -> Result<Object, AllocError>
+    ensures { IfOk result (λ o. members_of o ≡ with_condition spec.now demand.now (members_of object)) }
 {
     let confs = spec.confs.items();
-    put_set::<Conf, ByName>(members, alloc, "from", confs, demand.from)?;
-    let writer = Writer { spec };
-    put_list(members, alloc, "when", &writer, demand.wants.items())?;
     let procs = spec.procs.items();
-    put_set::<Proc, ByName>(members, alloc, "up", procs, u16::from(demand.up))?;
-    put_set::<Proc, ByName>(members, alloc, "down", procs, u16::from(demand.down))?;
-    Ok(())
+    let object = put_set::<Conf, ByName>(object, alloc, "from", confs, demand.from)?;
+    let object = object.list("when", &Writer { spec }, demand.wants.items())?;
+    let object = put_set::<Proc, ByName>(object, alloc, "up", procs, u16::from(demand.up))?;
+    put_set::<Proc, ByName>(object, alloc, "down", procs, u16::from(demand.down))
 }
 
-/// Writes the members of a demand that contain its requirements on the chosen configuration.
-fn put_asked(
-    members: &mut Map<String, Value>,
+/// Sets the members of a demand that contain its requirements on the chosen configuration.
+fn with_asked(
+    object: Object,
     alloc: Global,
     spec: &Spec,
     demand: &Demand,
-) -> Result<(), AllocError>
-    ensures { OnOk result (members_view members.new.entries ≡ with_asked spec.now demand.now (members_view members.old.entries)) }
+) -> Result<Object, AllocError>
+    ensures { IfOk result (λ o. members_of o ≡ with_asked spec.now demand.now (members_of object)) }
 {
     let confs = spec.confs.items();
-    put_set::<Conf, ByName>(members, alloc, "to", confs, demand.to)?;
-    let on = make_on(alloc, spec, &demand.on)?;
-    serde_json::put(members, alloc, "on", Value::Array(on))?;
     let apps = spec.apps.items();
-    put_set::<AppSpec, ByName>(members, alloc, "off", apps, u16::from(demand.off))?;
-    Ok(())
+    let on = make_on(alloc, spec, &demand.on)?;
+    let object = put_set::<Conf, ByName>(object, alloc, "to", confs, demand.to)?;
+    let object = object.values("on", on)?;
+    put_set::<AppSpec, ByName>(object, alloc, "off", apps, u16::from(demand.off))
 }
 
 impl Writes<Demand> for Writer<'_> {
@@ -327,142 +349,107 @@ impl Writes<Demand> for Writer<'_> {
 
     fn value(&self, alloc: Global, demand: &Demand) -> Result<Value, AllocError> {
         let spec = self.spec;
-        let name = demand.name.as_str();
-        let mut members = Map::new(alloc);
-        put_condition(&mut members, alloc, spec, demand)?;
-        put_asked(&mut members, alloc, spec, demand)?;
-        serde_json::put(&mut members, alloc, "name", json!(in alloc; name)?)?;
-        Ok(Value::Object(members))
+        let object = with_condition(Object::new(alloc), alloc, spec, demand)?;
+        let object = with_asked(object, alloc, spec, demand)?.text("name", demand.name.as_str())?;
+        Ok(object.into_value())
     }
 }
 
 fn make_goal(alloc: Global, goal: &Goal) -> Result<Value, AllocError>
     ensures { IfOk result (λ v. view v ≡ goal_data goal.now) }
 {
-    json!(in alloc; {"altitude": goal.altitude, "heading": goal.heading})
+    let object = Object::new(alloc)
+        .integer("altitude", &goal.altitude)?
+        .integer("heading", &goal.heading)?;
+    Ok(object.into_value())
 }
 
 fn make_assumption(alloc: Global, spec: &Spec) -> Result<Value, AllocError>
     ensures { IfOk result (λ v. view v ≡ assumption_data spec.now) }
 {
-    json!(in alloc; {"changes": spec.changes, "halts": spec.halts, "window": spec.window})
+    let object = Object::new(alloc)
+        .count("changes", u32::from(spec.changes))?
+        .count("halts", u32::from(spec.halts))?
+        .count("window", spec.window)?;
+    Ok(object.into_value())
 }
 
-/// Writes the members to which the other members refer by name: processors, applications, configurations and factors.
-fn put_named(members: &mut Map<String, Value>, alloc: Global, spec: &Spec) -> Result<(), AllocError>
-    ensures { OnOk result (members_view members.new.entries ≡ with_named spec.now (members_view members.old.entries)) }
+/// Sets the members to which the other members refer by name: processors, applications, configurations and factors.
+fn with_named(object: Object, spec: &Spec) -> Result<Object, AllocError>
+    ensures { IfOk result (λ o. members_of o ≡ with_named spec.now (members_of object)) }
 {
     let writer = Writer { spec };
-    put_list(members, alloc, "processors", &writer, spec.procs.items())?;
-    put_list(members, alloc, "apps", &writer, spec.apps.items())?;
-    put_list(
-        members,
-        alloc,
-        "configurations",
-        &writer,
-        spec.confs.items(),
-    )?;
-    put_list(members, alloc, "factors", &writer, spec.factors.items())?;
-    Ok(())
+    object
+        .list("processors", &writer, spec.procs.items())?
+        .list("apps", &writer, spec.apps.items())?
+        .list("configurations", &writer, spec.confs.items())?
+        .list("factors", &writer, spec.factors.items())
 }
 
-/// Writes the members that hold the choice table, the bounds, the start and the goal.
-fn put_table(members: &mut Map<String, Value>, alloc: Global, spec: &Spec) -> Result<(), AllocError>
-    ensures { OnOk result (members_view members.new.entries ≡ with_table spec.now (members_view members.old.entries)) }
+/// Sets the members that hold the choice table, the bounds, the start and the goal.
+fn with_table(object: Object, alloc: Global, spec: &Spec) -> Result<Object, AllocError>
+    ensures { IfOk result (λ o. members_of o ≡ with_table spec.now (members_of object)) }
 {
     let writer = Writer { spec };
-    put_list(members, alloc, "rules", &writer, spec.rules.items())?;
-    put_list(members, alloc, "bounds", &writer, spec.bounds.items())?;
-    let start = spec.conf_name(spec.start);
-    serde_json::put(members, alloc, "start", json!(in alloc; start)?)?;
-    serde_json::put(members, alloc, "goal", make_goal(alloc, &spec.goal)?)?;
-    Ok(())
+    let goal = make_goal(alloc, &spec.goal)?;
+    object
+        .list("rules", &writer, spec.rules.items())?
+        .list("bounds", &writer, spec.bounds.items())?
+        .text("start", spec.conf_name(spec.start))?
+        .value("goal", goal)
 }
 
-/// Writes the members that hold the invariants, the preconditions and the failure assumption.
-fn put_limits(
-    members: &mut Map<String, Value>,
-    alloc: Global,
-    spec: &Spec,
-) -> Result<(), AllocError>
-    ensures { OnOk result (members_view members.new.entries ≡ with_limits spec.now (members_view members.old.entries)) }
+/// Sets the members that hold the invariants, the preconditions and the failure assumption.
+fn with_limits(object: Object, alloc: Global, spec: &Spec) -> Result<Object, AllocError>
+    ensures { IfOk result (λ o. members_of o ≡ with_limits spec.now (members_of object)) }
 {
     let writer = Writer { spec };
-    put_list(
-        members,
-        alloc,
-        "invariants",
-        &writer,
-        spec.invariants.items(),
-    )?;
-    put_list(
-        members,
-        alloc,
-        "preconditions",
-        &writer,
-        spec.preconditions.items(),
-    )?;
-    serde_json::put(members, alloc, "assumption", make_assumption(alloc, spec)?)?;
-    Ok(())
+    let assumption = make_assumption(alloc, spec)?;
+    object
+        .list("invariants", &writer, spec.invariants.items())?
+        .list("preconditions", &writer, spec.preconditions.items())?
+        .value("assumption", assumption)
 }
 
-/// Writes the member `scram` of a specification without demands, and the member `policy` unless the policy is to
+/// Sets the member `scram` of a specification without demands, and the member `policy` unless the policy is to
 /// retarget.
-fn put_policy(
-    members: &mut Map<String, Value>,
-    alloc: Global,
-    spec: &Spec,
-) -> Result<(), AllocError>
-    ensures { OnOk result (members_view members.new.entries ≡ with_version [] spec.now.policy spec.now (members_view members.old.entries)) }
+fn with_policy(object: Object, spec: &Spec) -> Result<Object, AllocError>
+    ensures { IfOk result (λ o. members_of o ≡ with_version [] spec.now.policy spec.now (members_of object)) }
 {
     match spec.policy {
-        Policy::Retarget => serde_json::put(members, alloc, "scram", json!(in alloc; 1)?),
-        Policy::Settle => {
-            serde_json::put(members, alloc, "policy", json!(in alloc; "settle")?)?;
-            serde_json::put(members, alloc, "scram", json!(in alloc; 2)?)
-        }
+        Policy::Retarget => object.count("scram", 1),
+        Policy::Settle => object.text("policy", "settle")?.count("scram", 2),
     }
 }
 
-/// Writes the members `demands`, `policy` and `scram` of a specification with demands.
-fn put_demands(
-    members: &mut Map<String, Value>,
-    alloc: Global,
-    spec: &Spec,
-) -> Result<(), AllocError>
-    ensures { OnOk result (members_view members.new.entries ≡ with_demands spec.now.demands spec.now.policy spec.now (members_view members.old.entries)) }
+/// Sets the members `demands`, `policy` and `scram` of a specification with demands.
+fn with_demands(object: Object, spec: &Spec) -> Result<Object, AllocError>
+    ensures { IfOk result (λ o. members_of o ≡ with_demands spec.now.demands spec.now.policy spec.now (members_of object)) }
 {
-    let writer = Writer { spec };
-    put_list(members, alloc, "demands", &writer, spec.demands.items())?;
-    let policy = policy_name(spec.policy);
-    serde_json::put(members, alloc, "policy", json!(in alloc; policy)?)?;
-    serde_json::put(members, alloc, "scram", json!(in alloc; 3)?)
+    object
+        .list("demands", &Writer { spec }, spec.demands.items())?
+        .text("policy", policy_name(spec.policy))?
+        .count("scram", 3)
 }
 
-/// Writes the member `scram`, which holds the version, and the members `policy` and `demands` if the version has
-/// them.
-fn put_version(
-    members: &mut Map<String, Value>,
-    alloc: Global,
-    spec: &Spec,
-) -> Result<(), AllocError>
-    ensures { OnOk result (members_view members.new.entries ≡ with_version spec.now.demands spec.now.policy spec.now (members_view members.old.entries)) }
+/// Sets the member `scram`, which holds the version, and the members `policy` and `demands` if the version has them.
+fn with_version(object: Object, spec: &Spec) -> Result<Object, AllocError>
+    ensures { IfOk result (λ o. members_of o ≡ with_version spec.now.demands spec.now.policy spec.now (members_of object)) }
 {
     match spec.demands.items() {
-        [] => put_policy(members, alloc, spec),
-        [_first, _rest @ ..] => put_demands(members, alloc, spec),
+        [] => with_policy(object, spec),
+        [_first, _rest @ ..] => with_demands(object, spec),
     }
 }
 
 fn make_spec(alloc: Global, spec: &Spec) -> Result<Value, AllocError>
     ensures { IfOk result (λ v. view v ≡ spec_data spec.now) }
 {
-    let mut members = Map::new(alloc);
-    put_named(&mut members, alloc, spec)?;
-    put_table(&mut members, alloc, spec)?;
-    put_limits(&mut members, alloc, spec)?;
-    put_version(&mut members, alloc, spec)?;
-    Ok(Value::Object(members))
+    let object = with_named(Object::new(alloc), spec)?;
+    let object = with_table(object, alloc, spec)?;
+    let object = with_limits(object, alloc, spec)?;
+    let object = with_version(object, spec)?;
+    Ok(object.into_value())
 }
 
 /// Returns the canonical text of a specification, which is compact JSON. With demands it is of version 3. Without

@@ -1,5 +1,0 @@
-use Rattle.test_words.specs.Actors.{ActorsFit}
-use Rattle.test_words.proofs.rounds.fly_rounds.Given as goal
-
-abbrev pub invariant-loop-round : goal.invariant-loop-round
-invariant-loop-round g l = ActorsFit l.words l.mission l.actors

@@ -1,9 +1,0 @@
-use Rattle.test_words.specs.Actors.{ActorsFit}
-use Rattle.test_words.proofs.rounds.make_round.Given as goal
-
-abbrev pub invariant-loop-name : goal.invariant-loop-name
-invariant-loop-name g l = record {
-  next : (goal.iterator-loop-name g).can_next l.name-iterator;
-  finite : (goal.iterator-loop-name g).is_finite l.name-iterator;
-  fit : ActorsFit l.words l.mission l.actors;
-}
