@@ -8,7 +8,7 @@ use Rattle.serde_json.specs.Events.{items_len}
 use Rattle.serde_json.specs.Find.{as_array, as_object}
 use Rattle.scram_doc.specs.declared.rule.TheConstants.{FURTHER_MEMBER, WRONG_LENGTH}
 use Rattle.spec_members.specs.Versions.{has_demands, has_policy, has_version}
-use Rattle.document_explanations.specs.Objects.{Member, member_named, members_of}
+use Rattle.document_explanations.specs.Objects.{Member, member_named, known_members}
 use Rattle.document_explanations.specs.Paths.{value_at, wanted_at}
 use Rattle.document_explanations.specs.Values.{value_text}
 use Rattle.document_explanations.specs.Wants.{listed}
@@ -28,7 +28,7 @@ is_version_of d versions.Second = has_version 2 d
 
 -- Whether the table of `object` has a member with this name for the version of document `d`.
 abbrev pub is_known : Data → Object → List ℕ → Bool
-is_known d object name = option_map_or (λ (m : Member). is_version_of d m.versions) (member_named (members_of object) name) false
+is_known d object name = option_map_or (λ (m : Member). is_version_of d m.versions) (member_named (known_members object) name) false
 
 -- The names of those members that the table of `object` does not have for the version of document `d`, in byte order.
 abbrev pub further_names : Data → Object → Members → List (List ℕ)

@@ -6,13 +6,13 @@ use Rattle.serde_json.specs.Data.{Data}
 use Rattle.spec_members.specs.Versions.{first_members, has_demands, has_policy, members_count}
 use Rattle.fault_script.specs.Versions.{member_count, version_of}
 use Rattle.document_explanations.specs.Found.{cut, is_version_of}
-use Rattle.document_explanations.specs.Objects.{Member, members_of}
+use Rattle.document_explanations.specs.Objects.{Member, known_members}
 use Rattle.document_explanations.specs.declared.objects.Object.{Object}
 use Rattle.document_explanations.specs.declared.objects.Object.TheVariants as object
 
 -- The names of the members that the table of an object has for the version of a document.
 abbrev pub names_of : Data → Object → List (List ℕ)
-names_of d object = map (λ (m : Member). m.name) (filter (λ (m : Member). is_version_of d m.versions) (members_of object))
+names_of d object = map (λ (m : Member). m.name) (filter (λ (m : Member). is_version_of d m.versions) (known_members object))
 
 -- The table of a specification has the members that the reader of specifications expects for the version of a
 -- document, in order. For a specification and for a script, the table's number of members is the number that the

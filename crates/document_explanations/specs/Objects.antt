@@ -67,9 +67,9 @@ interval_members =
     has (codes "greatest") interval_end ∷
     []
 
--- The members of an object, in the order in which they are read.
-abbrev pub members_of : Object → List Member
-members_of object.Specification =
+-- The members that an object may have, in the order in which they are read.
+abbrev pub known_members : Object → List Member
+known_members object.Specification =
     has (codes "scram") (wanted.Number number.SpecificationVersion) ∷
     has (codes "processors") (objects 1 MAX_PROCESSORS object.Processor) ∷
     has (codes "apps") (objects 1 MAX_APPLICATIONS object.Application) ∷
@@ -85,63 +85,63 @@ members_of object.Specification =
     later (codes "policy") versions.SecondOn (wanted.Text text.Policy) ∷
     later (codes "demands") versions.Third (objects 0 MAX_DEMANDS object.Demand) ∷
     []
-members_of object.Processor =
+known_members object.Processor =
     has (codes "name") (wanted.Text text.Name) ∷
     has (codes "capacity") (whole 0 MAX_LOAD) ∷
     []
-members_of object.Application =
+known_members object.Application =
     has (codes "name") (wanted.Text text.Name) ∷
     has (codes "kind") (wanted.Text text.Kind) ∷
     has (codes "needs") (texts MAX_APPLICATIONS text.Application) ∷
     has (codes "modes") (objects 1 MAX_MODES object.Mode) ∷
     []
-members_of object.Mode =
+known_members object.Mode =
     has (codes "mode") (wanted.Text text.Mode) ∷
     has (codes "load") (whole 0 MAX_LOAD) ∷
     has (codes "halt") (whole 1 MAX_PHASE) ∷
     has (codes "prepare") (whole 1 MAX_PHASE) ∷
     has (codes "init") (whole 1 MAX_PHASE) ∷
     []
-members_of object.Configuration =
+known_members object.Configuration =
     has (codes "name") (wanted.Text text.Name) ∷
     has (codes "apps") (objects 0 MAX_APPLICATIONS object.Place) ∷
     []
-members_of object.Place =
+known_members object.Place =
     has (codes "app") (wanted.Text text.Application) ∷
     has (codes "mode") (wanted.Text text.Mode) ∷
     has (codes "on") (wanted.Text text.Processor) ∷
     []
-members_of object.Factor =
+known_members object.Factor =
     has (codes "name") (wanted.Text text.Name) ∷
     has (codes "values") (list MIN_VALUES MAX_VALUES (element.Text text.Name)) ∷
     []
-members_of object.Rule =
+known_members object.Rule =
     has (codes "from") (wanted.Text text.ConfigurationOrAny) ∷
     has (codes "when") (objects 0 MAX_FACTORS object.RequiredValue) ∷
     has (codes "up") (texts MAX_PROCESSORS text.Processor) ∷
     has (codes "to") (wanted.Text text.Configuration) ∷
     []
-members_of object.RequiredValue =
+known_members object.RequiredValue =
     has (codes "factor") (wanted.Text text.Factor) ∷
     has (codes "value") (wanted.Text text.Value) ∷
     []
-members_of object.Bound =
+known_members object.Bound =
     has (codes "from") (wanted.Text text.Configuration) ∷
     has (codes "to") (wanted.Text text.Configuration) ∷
     has (codes "frames") (whole 1 MAX_BOUND) ∷
     []
-members_of object.Goal =
+known_members object.Goal =
     has (codes "altitude") (signed (pos 0) MAX_ALTITUDE) ∷
     has (codes "heading") (signed (pos 0) MAX_HEADING) ∷
     []
-members_of object.Invariant = has (codes "from") (wanted.Text text.ConfigurationOrAny) ∷ interval_members
-members_of object.Precondition = has (codes "configuration") (wanted.Text text.Configuration) ∷ interval_members
-members_of object.Assumption =
+known_members object.Invariant = has (codes "from") (wanted.Text text.ConfigurationOrAny) ∷ interval_members
+known_members object.Precondition = has (codes "configuration") (wanted.Text text.Configuration) ∷ interval_members
+known_members object.Assumption =
     has (codes "halts") (whole 0 MAX_ASSUMED_HALTS) ∷
     has (codes "changes") (whole 0 MAX_ASSUMED_CHANGES) ∷
     has (codes "window") (whole 1 MAX_WINDOW) ∷
     []
-members_of object.Demand =
+known_members object.Demand =
     has (codes "name") (wanted.Text text.Name) ∷
     has (codes "from") (texts MAX_CONFIGURATIONS text.Configuration) ∷
     has (codes "when") (objects 0 MAX_FACTORS object.RequiredValue) ∷
@@ -151,28 +151,28 @@ members_of object.Demand =
     has (codes "on") (objects 0 MAX_APPLICATIONS object.RequiredApplication) ∷
     has (codes "off") (texts MAX_APPLICATIONS text.Application) ∷
     []
-members_of object.RequiredApplication =
+known_members object.RequiredApplication =
     has (codes "app") (wanted.Text text.Application) ∷
     has (codes "modes") (texts MAX_MODES text.Mode) ∷
     []
-members_of object.Script =
+known_members object.Script =
     has (codes "scram") (wanted.Number number.ScriptVersion) ∷
     has (codes "frames") (whole 0 MAX_FRAMES) ∷
     has (codes "changes") (objects 0 MAX_CHANGES object.Change) ∷
     has (codes "halts") (wanted.List extent.Halts (element.Object object.Halt)) ∷
     later (codes "restarts") versions.Second (objects 0 MAX_PROCESSORS object.Restart) ∷
     []
-members_of object.Change =
+known_members object.Change =
     has (codes "frame") (wanted.Number (number.Frame 1)) ∷
     has (codes "factor") (wanted.Text text.ScriptFactor) ∷
     has (codes "value") (wanted.Text text.ScriptFactor) ∷
     []
-members_of object.Halt =
+known_members object.Halt =
     has (codes "processor") (wanted.Text text.ScriptProcessor) ∷
     has (codes "frame") (wanted.Number (number.Frame 0)) ∷
     has (codes "step") (wanted.Number number.Step) ∷
     []
-members_of object.Restart =
+known_members object.Restart =
     has (codes "processor") (wanted.Text text.ScriptProcessor) ∷
     has (codes "frame") (wanted.Number (number.Frame 2)) ∷
     []

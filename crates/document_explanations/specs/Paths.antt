@@ -7,7 +7,7 @@ use Rattle.serde_json.specs.Find.{at, get}
 use Rattle.scram_doc.specs.declared.rule.TheConstants.{MISSING_MEMBER}
 use Rattle.trace_text.specs.Pieces.{pieces_of}
 use Rattle.trace_text.specs.Spelling.{spelled_number}
-use Rattle.document_explanations.specs.Objects.{Member, member_named, members_of}
+use Rattle.document_explanations.specs.Objects.{Member, member_named, known_members}
 use Rattle.document_explanations.specs.Rules.{root_of}
 use Rattle.document_explanations.specs.declared.objects.Element.{Element}
 use Rattle.document_explanations.specs.declared.objects.Element.TheVariants as element
@@ -38,7 +38,7 @@ wanted_element (element.Text text) = wanted.Text text
 -- The expected value one level below an expected value, or `None` if there is no such level. All elements of a list
 -- have the same expected value.
 abbrev pub wanted_below : Wanted → List ℕ → Option Wanted
-wanted_below (wanted.Object object) level = option_map (λ (member : Member). member.wanted) (member_named (members_of object) level)
+wanted_below (wanted.Object object) level = option_map (λ (member : Member). member.wanted) (member_named (known_members object) level)
 wanted_below (wanted.List length element) level = Some (wanted_element element)
 wanted_below (wanted.Number number) level = None
 wanted_below (wanted.Text text) level = None

@@ -9,7 +9,7 @@ use Rattle.kind_table.specs.Kinds.{Kind, Variable, kinds}
 use Rattle.fault_script.specs.Times.{words}
 use Rattle.fault_script.specs.Versions.{halts_limit}
 use Rattle.fault_script.specs.declared.version.Version.TheVariants.{First, Second}
-use Rattle.document_explanations.specs.Objects.{Member, members_of}
+use Rattle.document_explanations.specs.Objects.{Member, known_members}
 use Rattle.document_explanations.specs.declared.objects.Length.{Length}
 use Rattle.document_explanations.specs.declared.objects.Length.TheVariants as extent
 use Rattle.document_explanations.specs.declared.objects.Number.{Number}
@@ -131,7 +131,7 @@ text_text spec text.ScriptProcessor = listed (map name_of_proc (script_procs spe
 -- The text that describes an expected value. `spec` is the specification that a script is for, or `None` if there is
 -- none.
 abbrev pub wanted_text : Option Parts → Wanted → List ℕ
-wanted_text spec (wanted.Object object) = listed (map member_wanted (members_of object))
+wanted_text spec (wanted.Object object) = listed (map member_wanted (known_members object))
 wanted_text spec (wanted.List length element) = length_wanted length
 wanted_text spec (wanted.Number number) = number_text spec number
 wanted_text spec (wanted.Text text) = text_text spec text

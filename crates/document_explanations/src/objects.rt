@@ -1,7 +1,7 @@
 //! The objects of specifications and scripts. Each object has a table of its members with their expected values.
 
 ghost use Rattle.std.specs.Prelude.{◌≡◌, map, option_map};
-ghost use Rattle.document_explanations.specs.Objects.{member_named, member_read, members_of};
+ghost use Rattle.document_explanations.specs.Objects.{member_named, member_read, known_members};
 
 use scram_types::limits::{
     MAX_ALTITUDE, MAX_APPLICATIONS, MAX_ASSUMED_CHANGES, MAX_ASSUMED_HALTS, MAX_BOUND, MAX_BOUNDS,
@@ -370,9 +370,9 @@ const RESTART: &[Member] = &[
     member!("frame", Wanted::Number(Number::Frame { least: 2 })),
 ];
 
-/// Returns the members of an object, in the order in which they are read.
-pub fn members_of(object: Object) -> &'static [Member]
-    ensures { map member_read result.now ≡ members_of object }
+/// Returns the members that an object may have, in the order in which they are read.
+pub fn known_members(object: Object) -> &'static [Member]
+    ensures { map member_read result.now ≡ known_members object }
 {
     match object {
         Object::Specification => SPECIFICATION,
@@ -400,9 +400,9 @@ pub fn members_of(object: Object) -> &'static [Member]
 
 /// Returns the member of `object` with the name `name`, or `None` if there is none.
 pub fn find_member(object: Object, name: &str) -> Option<Member>
-    ensures { option_map member_read result ≡ member_named (members_of object) name.now }
+    ensures { option_map member_read result ≡ member_named (known_members object) name.now }
 {
-    for member in members_of(object) {
+    for member in known_members(object) {
         if member.name == name {
             return Some(*member);
         }

@@ -7,7 +7,7 @@ use crate::lines::Lines;
 use crate::listed::{
     FactorText, KindText, MemberText, ModesText, ProcText, VariablesText, add_listed, kinds,
 };
-use crate::objects::{Length, Member, Number, Text, Wanted, members_of};
+use crate::objects::{Length, Member, Number, Text, Wanted, known_members};
 use kind_table::table::Kind;
 use scram_types::limits::MAX_PROCESSORS;
 use scram_types::{Factor, NoMemory, Proc, Spec};
@@ -22,7 +22,7 @@ pub fn add_wanted(lines: &mut Lines, spec: Option<&Spec>, wanted: Wanted) -> Res
     ensures { OnOk result (lines.new ≡ lines.old ++ wanted_text (option_map (λ s. s.now) spec.entry) wanted) }
 {
     match wanted {
-        Wanted::Object(object) => add_listed::<Member, MemberText>(lines, members_of(object)),
+        Wanted::Object(object) => add_listed::<Member, MemberText>(lines, known_members(object)),
         Wanted::List { length, element: _ } => add_length(lines, length),
         Wanted::Number(number) => add_number(lines, spec, &number),
         Wanted::Text(text) => add_text(lines, spec, text),

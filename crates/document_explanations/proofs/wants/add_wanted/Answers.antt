@@ -4,4 +4,4 @@ use Rattle.document_explanations.proofs.Listing.{listed_read}
 use Rattle.document_explanations.proofs.wants.add_wanted.Goals as goal
 
 pub returns-in-Object : goal.returns-in-Object
-returns-in-Object c = rw (c.in-Object.is) (rw (listed_read member_wanted member_read c.members_of.result.now _ c.members_of.ensures) at c.add_listed.ensures)
+returns-in-Object c = rw (c.in-Object.is) (rw (listed_read member_wanted member_read c.known_members.result.now _ c.known_members.ensures) at c.add_listed.ensures)

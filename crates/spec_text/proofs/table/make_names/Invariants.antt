@@ -1,7 +1,7 @@
 use Rattle.std.proofs.Common.{◌≡◌, ◌++◌, map, drop}
 use Rattle.serde_json.specs.View.{view}
 use Rattle.spec_text.specs.Texts.{names_data}
-use Rattle.spec_text.proofs.writing.make_names.Given as goal
+use Rattle.spec_text.proofs.table.make_names.Given as goal
 
 abbrev pub invariant-loop-n : goal.invariant-loop-n
 invariant-loop-n g l =

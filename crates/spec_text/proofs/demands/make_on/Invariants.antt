@@ -1,7 +1,7 @@
 use Rattle.std.proofs.Common.{◌≡◌, ◌++◌, map, drop}
 use Rattle.serde_json.specs.View.{view}
 use Rattle.spec_text.specs.Texts.{on_data}
-use Rattle.spec_text.proofs.writing.make_on.Given as goal
+use Rattle.spec_text.proofs.demands.make_on.Given as goal
 
 abbrev pub invariant-loop-app : goal.invariant-loop-app
 invariant-loop-app l =
