@@ -1,5 +1,5 @@
 use Rattle.std.proofs.Common.{◌≡◌, ◌<◌}
-use Rattle.test_drafts.proofs.beside.fly_all.Given as goal
+use Rattle.test_missions.proofs.drafts.beside.fly_all.Given as goal
 
 abbrev pub invariant-loop-frame : goal.invariant-loop-frame
 invariant-loop-frame g l = record {

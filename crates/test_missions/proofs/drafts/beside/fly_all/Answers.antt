@@ -1,6 +1,6 @@
 use Rattle.std.proofs.Common.{◌≡◌, suc, ap, arith}
 use Rattle.frame_model.specs.declared.systems.Sys.{Sys}
-use Rattle.test_drafts.proofs.beside.fly_all.Goals as goal
+use Rattle.test_missions.proofs.drafts.beside.fly_all.Goals as goal
 
 pub loop-frame-preserved : goal.loop-frame-preserved
 loop-frame-preserved g c =
