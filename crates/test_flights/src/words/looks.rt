@@ -13,7 +13,7 @@ use word_table::{Seat, Words};
 /// Starts the next frame of the seat's processor, reads the image of the first processor, and prints the areas in the
 /// image. If the processor has halted or has flown all frames, prints only that it does not wait. If the frame is not
 /// released, prints only this fact.
-#[tactic(auto, using(crate::words::proofs::Looking::waits_at, word_deck::proofs::Steps::looks))]
+#[tactic(auto, using(crate::proofs::words::Looking::waits_at, word_deck::proofs::Steps::looks))]
 pub fn look(rt: &HostRuntime, words: &Words, seat: &mut Seat) -> io::Result<()>
     requires seat { IsSeatOf words.now.table seat.old }
     requires begin { steps_of (seat_place seat.old) ≡ 0 }
