@@ -2,4 +2,3 @@ pub mod Answers
 pub mod Laws
 pub mod Outsides
 pub mod Texts
-pub mod acceptance_breaks

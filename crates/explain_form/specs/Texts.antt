@@ -9,7 +9,7 @@ use Rattle.form_base.specs.declared.status.TheConstants.{ANSWERED, NOT_ACCEPTED,
 use Rattle.form_base.specs.Lines.{shown_line}
 use Rattle.form_base.specs.mission_files.Lines.{outside_line}
 use Rattle.spec_forms.specs.Lines.{accepted_line}
-use Rattle.explain_form.specs.acceptance_breaks.Texts.{breaks_text}
+use Rattle.acceptance_breaks.specs.Texts.{breaks_text}
 use Rattle.idle_parts.specs.Texts.{idle_text}
 use Rattle.explain_form.specs.Outsides.{outside_text}
 

@@ -5,8 +5,8 @@ ghost use Rattle.std.specs.Prelude.{◌≡◌, ◌++◌, IfOk, Some};
 ghost use Rattle.fault_script.specs.Assumption.{first_outside};
 ghost use Rattle.explain_form.specs.Texts.{accepted_text, refused_text, unassumed_text};
 
-use crate::acceptance_breaks::make_breaks;
 use crate::outsides::make_outside;
+use acceptance_breaks::make_breaks;
 use coverage_check::Shown;
 use fault_script::Outside;
 use form_base::lines::make_shown_line;

@@ -2,7 +2,6 @@
 //! specification. The output of the form is the answer to the bytes of the files that the command's words name.
 #![tactic(auto)]
 
-pub mod acceptance_breaks;
 mod explanations;
 mod forms;
 pub mod laws;

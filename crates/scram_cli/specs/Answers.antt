@@ -7,7 +7,7 @@ use Rattle.spec_forms.specs.Answers.{BoundsAnswers, CheckAnswers}
 use Rattle.form_base.specs.trace_files.Looks.{ViewAnswers}
 use Rattle.explain_form.specs.Answers.{ExplainAnswers, ExplainScriptAnswers}
 use Rattle.faults_form.specs.Answers.{FaultsAnswers}
-use Rattle.spec_forms.specs.fill_form.Answers.{FillAnswers}
+use Rattle.fill_form.specs.Answers.{FillAnswers}
 use Rattle.flight_forms.specs.flights_form.Answers.{FlightsAnswers}
 use Rattle.spec_forms.specs.choice_forms.Answers.{ChoicesAnswers, ChooseAnswers}
 use Rattle.trace_forms.specs.Answers.{PropsAnswers}

@@ -17,6 +17,7 @@ use crate::pages::{Page, page_text};
 use app_model::Boxes;
 use explain_form::{explain, explain_script};
 use faults_form::{FaultsQuestion, faults};
+use fill_form::fill;
 use flight_forms::flights_form::{ScriptsFiles, flights};
 use flight_forms::laws::flights_are_assured;
 use flight_forms::{
@@ -30,7 +31,6 @@ use form_base::trace_files::TraceFiles;
 use picture_form::picture_form;
 use scram_io::{Files, Sink, SinkFault};
 use spec_forms::choice_forms::{Question, choices, choose};
-use spec_forms::fill_form::fill;
 use spec_forms::{bounds, check};
 use std::alloc::{AllocGlobal, Global};
 use std::sync::Wait;

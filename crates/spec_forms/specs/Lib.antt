@@ -2,5 +2,4 @@ pub mod Answers
 pub mod Asked
 pub mod Bounds
 pub mod Lines
-pub mod fill_form
 pub mod choice_forms

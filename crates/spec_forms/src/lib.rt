@@ -1,12 +1,11 @@
-//! The forms that answer a question about a specification: `check` and `bounds`, `fill` in [`fill_form`], `choices` and
-//! `choose` in [`choice_forms`]. The output of a form depends only on the command's words and on the bytes of the file
-//! that the words name.
+//! The forms that answer a question about a specification: `check` and `bounds`, and `choices` and `choose` in
+//! [`choice_forms`]. The output of a form depends only on the command's words and on the bytes of the file that the
+//! words name.
 #![tactic(auto)]
 
 mod acceptance;
 mod bound_pairs;
 pub mod choice_forms;
-pub mod fill_form;
 mod lines;
 
 pub use acceptance::check;

@@ -1,7 +1,0 @@
-use Rattle.std.proofs.Common.{◌≡◌, ◌-◌, length}
-use Rattle.scram_types.specs.Searches.{least_from}
-use Rattle.explain_form.specs.acceptance_breaks.Lines.{first_off_missed, is_off_missed}
-use Rattle.explain_form.proofs.acceptance_breaks.demand_lines.first_off_missed.Given as goal
-
-abbrev pub invariant-loop-a : goal.invariant-loop-a
-invariant-loop-a l = least_from (is_off_missed l.spec l.demand l.c) l.a (length l.spec.apps - l.a) ≡ first_off_missed l.spec l.demand l.c

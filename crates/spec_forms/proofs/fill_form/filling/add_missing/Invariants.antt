@@ -1,6 +1,0 @@
-use Rattle.std.proofs.Common.{◌≡◌, ◌++◌}
-use Rattle.spec_forms.specs.fill_form.Filling.{bounds_below, missing_from}
-use Rattle.spec_forms.proofs.fill_form.filling.add_missing.Given as goal
-
-abbrev pub invariant-loop-i : goal.invariant-loop-i
-invariant-loop-i l = l.bounds.items ≡ l.initial.bounds.items ++ bounds_below (missing_from l.spec) l.i

@@ -1,8 +1,0 @@
-use Rattle.std.proofs.Common.{◌∙◌, arith, length, sym}
-use Rattle.scram_types.proofs.Searches.{first_is}
-use Rattle.spec_forms.specs.fill_form.Refusing.{long_refusal_of}
-use Rattle.spec_forms.proofs.fill_form.refusing.refuse_long.Goals as goal
-
-pub returns-then-is_some : goal.returns-then-is_some
-returns-then-is_some c = first_is (long_refusal_of c.args.spec.now) (length c.args.spec.now.confs) c.loop-i.i c.refuse_long_of-shown.result c.loop-i.invariant c.refuse_long_of-shown.ensures
-    (sym c.is_some.ensures ∙ c.if-is_some.true) (omega arith)
