@@ -52,8 +52,8 @@ pub const HELP: &str = concat!(
     "docs/GUIDE.md tells how to write a mission, docs/FORMATS.md what each line means.\n",
 );
 
-/// The text of the page of the version and the toolchain.
-pub const VERSION: &str = "scram 1.0.0, proved with rattle-kit-13f logic dac8208d650f15bf\n";
+/// The text of the page of the version and of the logic in which the program is proved.
+pub const VERSION: &str = "scram 1.0.0, proved with Rattle logic dac8208d650f15bf\n";
 
 /// Returns the text of a page.
 pub fn page_text(page: Page) -> &'static str
