@@ -18,7 +18,10 @@ mod writers;
 pub use document::parse;
 pub use elements::{Elements, Lengths, read_items, read_list};
 pub use fault::{DocError, DocFault};
-pub use members::{field, no_more_than, object, required};
+pub use members::{
+    exactly_five, exactly_four, exactly_three, exactly_two, field, no_more_than, object, required,
+    required_four,
+};
 pub use name::name_of;
 pub use numbered::{NamedElements, Naming, Numbered, Numbers, read_named_items, read_named_list};
 pub use objects::Object;
