@@ -16,7 +16,7 @@ use scram_types::{Flown, NoMemory, ProcId, Row, Script, Spec};
 use std::alloc::Global;
 
 /// An event that is not the next of its actor, with the actor's next event, if there is one.
-#[derive(Clone, Copy, Debug)]
+#[derive(Clone, Copy)]
 pub struct Illegal {
     pub given: Event,
     pub next: Option<Event>,

@@ -13,7 +13,7 @@ use scram_types::{Change, Env, ProcId, Script, Spec};
 
 /// A walk along the frames of a script, which visits each change once. It contains its current frame and the
 /// environment of that frame.
-#[derive(Clone, Copy, Debug)]
+#[derive(Clone, Copy)]
 pub struct Walk {
     pub frame: u32,
     pub env: Env,

@@ -9,7 +9,7 @@ use scram_types::{ConfId, KMode, Spec};
 
 /// The phase of a mode in a frame, with the configuration of the phase. The number is the index of the frame in the
 /// phase, counted from 0.
-#[derive(Clone, Copy, Debug, PartialEq, Eq)]
+#[derive(Clone, Copy, PartialEq, Eq)]
 pub enum Phase {
     /// The configuration is to run.
     Running(ConfId),
@@ -20,7 +20,7 @@ pub enum Phase {
 
 /// A phase, with the frame of the phase in which the turn of each application begins. That frame is the application's
 /// offset while a configuration halts or initialises, and 0 in the other phases.
-#[derive(Clone, Copy, Debug)]
+#[derive(Clone, Copy)]
 pub(crate) struct Stage {
     pub(crate) phase: Phase,
     pub(crate) offsets: [u16; 8],

@@ -20,7 +20,7 @@ pub const START_WORLD: World = World {
 /// configuration before frame 0. `keepers` contains for each application the processor whose image contains its area.
 /// `up` contains the processors that were up and had not halted by the end of the preceding frame, as bits. `settled`
 /// is `true` if the preceding frame was past the phases of a reconfiguration and its row ran the target.
-#[derive(Clone, Copy, Debug)]
+#[derive(Clone, Copy)]
 pub struct Sys {
     pub frame: u32,
     pub mode: KMode,

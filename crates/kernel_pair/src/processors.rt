@@ -16,14 +16,14 @@ use scram_types::{HaltAt, ProcId};
 
 /// The state of a processor between two of its frames. The processor is at the beginning of a frame (`Before`) or has
 /// halted in a frame (`Halted`).
-#[derive(Clone, Copy, Debug, PartialEq, Eq)]
+#[derive(Clone, Copy, PartialEq, Eq)]
 pub enum Stand {
     Before(u32),
     Halted(u32),
 }
 
 /// A processor: its state between two frames, its mark, its end word and its two banks.
-#[derive(Clone, Copy, Debug)]
+#[derive(Clone, Copy)]
 pub struct ProcessorState {
     pub stand: Stand,
     pub mark: u64,

@@ -6,7 +6,7 @@ use crate::units::UnitState;
 use scram_types::ProcId;
 
 /// The processors and the units of a pair.
-#[derive(Clone, Copy, Debug)]
+#[derive(Clone, Copy)]
 pub struct PairState {
     pub procs: [ProcessorState; 8],
     pub units: [UnitState; 2],

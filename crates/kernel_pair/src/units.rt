@@ -5,7 +5,7 @@ use crate::processors::ProcessorState;
 /// A unit: its frame, the number of steps made in the frame, and the frame of its halt if it has halted. It also has
 /// its release word, its ready word, its 20 kernel words, and the marks and the words of the images that it has
 /// noted.
-#[derive(Clone, Copy, Debug)]
+#[derive(Clone, Copy)]
 pub struct UnitState {
     pub frame: u32,
     pub step: u8,

@@ -18,7 +18,7 @@ use scram_types::{Flown, NoMemory, ProcId, Script, Spec};
 use std::alloc::Global;
 
 /// The reason why a list of events was not flown as a schedule to the end of the flight.
-#[derive(Clone, Copy, Debug)]
+#[derive(Clone, Copy)]
 pub enum ReplayError {
     /// The event at this index, counted from 0, is the first event of the list that is not the next of its actor.
     /// `next` is the actor's next event, or `None` if it has none.

@@ -20,7 +20,7 @@ const HALT_FRAMES: u64 = 20_000;
 const HALT_STEPS: u64 = 32;
 
 /// A form of the command's words. `N` is the type of the names of files and configurations in the form.
-#[derive(Debug, Drop)]
+#[derive(Drop)]
 pub enum Form<N> {
     /// A form about flights.
     Flight {
@@ -43,7 +43,7 @@ pub enum Form<N> {
 }
 
 /// A form about flights.
-#[derive(Debug, Drop)]
+#[derive(Drop)]
 pub enum FlightForm<N> {
     /// Flies the mission of a specification and a script, and prints the trace of the flight.
     Run {
@@ -90,7 +90,7 @@ pub enum FlightForm<N> {
 }
 
 /// A question about a specification.
-#[derive(Debug, Drop)]
+#[derive(Drop)]
 pub enum SpecificationForm<N> {
     /// Prints whether the specification is accepted.
     Check {
@@ -128,7 +128,7 @@ pub enum SpecificationForm<N> {
 }
 
 /// A look at a trace.
-#[derive(Clone, Copy, Debug, PartialEq, Eq)]
+#[derive(Clone, Copy, PartialEq, Eq)]
 pub enum Look {
     /// A judgement by the properties of reconfigurations.
     Props,

@@ -8,7 +8,7 @@ use arrayvec::ArrayString;
 use std::fmt;
 
 /// A name: 1 to 16 bytes, each a lower-case letter, a digit or `_`, of which the first is a letter.
-#[derive(Debug, Drop)]
+#[derive(Drop)]
 pub struct Name {
     text: ArrayString<16>,
 }

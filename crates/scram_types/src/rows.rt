@@ -21,7 +21,7 @@ pub struct World {
 }
 
 /// The goal of the mission: `altitude` in feet, 0 to 40,000, and `heading` in tenths of a degree, 0 to 3,599.
-#[derive(Clone, Copy, Debug, PartialEq, Eq)]
+#[derive(Clone, Copy, PartialEq, Eq)]
 pub struct Goal {
     pub altitude: i64,
     pub heading: i64,
@@ -38,7 +38,7 @@ pub struct Env {
 
 /// One frame of a trace: the frame's environment and kernel mode, the act and the area of each application, and the
 /// world at the end of the frame. Past the last application the acts are `Off` and the areas are zeros.
-#[derive(Clone, Copy, Debug, PartialEq, Eq)]
+#[derive(Clone, Copy, PartialEq, Eq)]
 pub struct Row {
     pub frame: u32,
     pub env: Env,
@@ -50,7 +50,7 @@ pub struct Row {
 
 /// A reconfiguration, with the frames in which it began and ended. If the script ended first, `to` is `None` and
 /// `end` is the number of frames.
-#[derive(Clone, Copy, Debug, PartialEq, Eq)]
+#[derive(Clone, Copy, PartialEq, Eq)]
 pub struct Report {
     pub from: ConfId,
     pub to: Option<ConfId>,

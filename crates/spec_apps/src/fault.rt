@@ -9,7 +9,7 @@ use scram_types::{AppId, Name};
 
 /// The first rule that a document breaks, with the path of the value that breaks it. `cycle` is a cycle of needs, or
 /// is empty if there is none. `names` contains the names of the applications in `cycle`, in order.
-#[derive(Debug, Drop)]
+#[derive(Drop)]
 pub struct SpecFault {
     pub rule: u8,
     pub path: Path,
@@ -18,7 +18,7 @@ pub struct SpecFault {
 }
 
 /// The reason why a specification was not read.
-#[derive(Debug, Drop)]
+#[derive(Drop)]
 pub enum SpecError {
     /// The document breaks a rule.
     Fault(SpecFault),

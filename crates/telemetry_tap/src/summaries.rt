@@ -10,7 +10,7 @@ use scram_types::ConfId;
 pub const NONE_RUNNING: u8 = 255;
 
 /// A summary of a flight after some of its frames.
-#[derive(Clone, Copy, Debug, PartialEq, Eq)]
+#[derive(Clone, Copy, PartialEq, Eq)]
 pub struct Summary {
     /// The number of frames that have ended, 0 to 20,000.
     pub frames: u32,

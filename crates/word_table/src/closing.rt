@@ -19,7 +19,7 @@ use std::alloc::Global;
 
 /// The last stored marks of the processors, and the images that the marks name. The entries after the last processor
 /// are zero.
-#[derive(Clone, Copy, Debug)]
+#[derive(Clone, Copy)]
 pub struct LastWords {
     pub images: [Image; 8],
     pub marks: [u64; 8],

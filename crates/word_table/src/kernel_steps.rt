@@ -13,7 +13,7 @@ use fail_stop::words::{bank_index, end_index, kernel_index, mark_index};
 use scram_types::{Image, ProcId};
 
 /// The mark that a processor has committed by the end of a frame, and whether the processor has halted.
-#[derive(Clone, Copy, Debug)]
+#[derive(Clone, Copy)]
 pub struct Marked {
     pub halted: bool,
     pub mark: u64,

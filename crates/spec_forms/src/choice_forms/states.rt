@@ -10,7 +10,7 @@ use scram_types::Name;
 pub const MAX_STATE_WORDS: usize = 14;
 
 /// A word of a state.
-#[derive(Debug, Drop)]
+#[derive(Drop)]
 pub enum StateWord {
     /// `FACTOR=VALUE`: the factor has this value.
     Value { factor: Name, value: Name },
@@ -28,7 +28,7 @@ impl Default for StateWord {
 }
 
 /// A state, which is a list of at most [`MAX_STATE_WORDS`] words.
-#[derive(Debug, Drop)]
+#[derive(Drop)]
 pub struct State {
     words: ArrayVec<StateWord, MAX_STATE_WORDS>,
 }
