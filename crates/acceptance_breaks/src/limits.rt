@@ -10,7 +10,7 @@ use scram_types::{AppId, Invariant, Precondition, Spec};
 
 /// The interval that an invariant or a precondition specifies for a variable of an application, and the interval that
 /// it needs. `item` is the number of the invariant or precondition.
-#[derive(Clone, Copy, PartialEq, Eq)]
+#[derive(Clone, Copy)]
 pub struct Limits {
     pub item: u32,
     pub app: AppId,

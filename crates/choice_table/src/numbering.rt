@@ -10,7 +10,7 @@ use crate::environments::count_down;
 use scram_types::{Env, Spec};
 
 /// An environment and its number.
-#[derive(Clone, Copy, PartialEq, Eq)]
+#[derive(Clone, Copy)]
 pub struct Numbered {
     pub number: u32,
     pub env: Env,

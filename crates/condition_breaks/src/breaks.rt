@@ -6,7 +6,7 @@ use scram_types::{AppId, ConfId, Env, ProcId};
 
 /// A place at which a condition of acceptance does not hold. The places of one condition are in the lexicographic
 /// order of the numbers in their fields, from left to right.
-#[derive(Clone, Copy, PartialEq, Eq)]
+#[derive(Clone, Copy)]
 pub enum Break {
     /// In a configuration, an application is on and an application that it needs is off.
     NeedOff(ConfId, AppId, AppId),
@@ -36,7 +36,7 @@ pub enum Break {
 }
 
 /// A way from a configuration to one of its possible targets, or to itself.
-#[derive(Clone, Copy, PartialEq, Eq)]
+#[derive(Clone, Copy)]
 pub struct Way {
     pub from: ConfId,
     pub to: ConfId,
@@ -45,7 +45,7 @@ pub struct Way {
 /// A place of A11: an invariant that does not contain every range that it has to contain. `invariant` is the number
 /// of the invariant, and `way` is the first way with such a range that is not contained. `needed` is the smallest
 /// interval that contains all ranges that the invariant has to contain.
-#[derive(Clone, Copy, PartialEq, Eq)]
+#[derive(Clone, Copy)]
 pub struct Unheld {
     pub invariant: u32,
     pub way: Way,

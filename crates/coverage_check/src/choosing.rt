@@ -15,7 +15,7 @@ use scram_types::{ConfId, Env, Spec};
 
 /// A condition on a configuration in each environment in scope. A5 requires that a rule fits, A6 that the target can
 /// run, and A7 that the table chooses no other configuration from the target.
-#[derive(Clone, Copy, PartialEq, Eq)]
+#[derive(Clone, Copy)]
 pub enum Requirement {
     HasRule,
     CanRun,

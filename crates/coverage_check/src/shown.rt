@@ -5,7 +5,7 @@ use scram_types::{AppId, ConfId, Env, ProcId};
 /// The reason why a specification is not accepted: the number of the first condition that does not hold, 1 to 13, and
 /// the place where the condition is broken. `conf` and `env` are `None` if the condition is not broken at a
 /// particular configuration or in a particular environment.
-#[derive(Clone, Copy, PartialEq, Eq)]
+#[derive(Clone, Copy)]
 pub struct Shown {
     pub condition: u8,
     pub conf: Option<ConfId>,
@@ -14,7 +14,7 @@ pub struct Shown {
 }
 
 /// The further part of the place at which a condition is broken, besides the configuration and the environment.
-#[derive(Clone, Copy, PartialEq, Eq)]
+#[derive(Clone, Copy)]
 pub enum Other {
     Nothing,
     App(AppId),

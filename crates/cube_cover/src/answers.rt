@@ -3,7 +3,7 @@
 use scram_types::Env;
 
 /// The outcome of a configuration's choices over all environments in scope.
-#[derive(Clone, Copy, Debug, PartialEq, Eq)]
+#[derive(Clone, Copy, Debug)]
 pub struct Cover {
     /// The set of possible targets: bit `j` is set if configuration `j` is chosen in some environment in scope.
     pub targets: u16,

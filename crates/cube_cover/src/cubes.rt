@@ -17,7 +17,7 @@ use scram_types::{Choice, ConfId, Demand, Env, Place, Spec, Want};
 /// A set of environments, given by a set of digits for each place. Bit `4 * x + d` is set if digit `d` is open at
 /// place `x`. Places 0 to 5 are the factors, whose digits are their values. Place `6 + p` is processor `p`, with
 /// digit 0 if the processor is up and 1 if it is down.
-#[derive(Clone, Copy, PartialEq, Eq)]
+#[derive(Clone, Copy)]
 pub(crate) struct Cube {
     pub(crate) bits: u64,
 }

@@ -18,7 +18,7 @@ use std::alloc::Global;
 
 /// A share of the environments in scope. `count` is the number of environments in the share, and `first` is the first
 /// of them, by number, or `None` if the share is empty.
-#[derive(Clone, Copy, PartialEq, Eq)]
+#[derive(Clone, Copy)]
 pub struct Share {
     pub count: u32,
     pub first: Option<Env>,

@@ -11,7 +11,7 @@ use scram_types::{AppId, ConfId, Spec};
 /// The timetable of a configuration, in frames. `halt` and `init` hold the offset of each application from the
 /// beginning of the halt and of the init phase, or 0 if the application is off. `h`, `p` and `i` are the lengths of
 /// the halt, prepare and init phases, or 0 if no application is on.
-#[derive(Clone, Copy, PartialEq, Eq)]
+#[derive(Clone, Copy)]
 pub struct Times {
     pub halt: [u16; 8],
     pub init: [u16; 8],
@@ -22,7 +22,7 @@ pub struct Times {
 
 /// A phase of a reconfiguration. Dependents halt before the applications that they need, and initialise after them.
 /// All applications prepare at once.
-#[derive(Clone, Copy, PartialEq, Eq)]
+#[derive(Clone, Copy)]
 pub enum Phase {
     Halt,
     Prepare,

@@ -2,7 +2,7 @@
 
 /// The place of a processor: its frame and the number of steps that it has made in the frame, or the frame in which
 /// it has halted.
-#[derive(Clone, Copy, PartialEq, Eq)]
+#[derive(Clone, Copy)]
 pub enum Place {
     At(u32, u32),
     Halted(u32),

@@ -11,7 +11,7 @@ use scram_types::{FactorId, ProcId};
 pub const MAX_FAULTS: usize = 3;
 
 /// A kind of fault.
-#[derive(Clone, Copy, PartialEq, Eq)]
+#[derive(Clone, Copy)]
 pub enum FaultKind {
     /// A change of a factor to a value, which is given by its index among the factor's values.
     Change { factor: FactorId, value: u8 },
@@ -30,7 +30,7 @@ impl Default for FaultKind {
 }
 
 /// A fault, with the frame in which it comes.
-#[derive(Clone, Copy, Default, PartialEq, Eq)]
+#[derive(Clone, Copy, Default)]
 pub struct Fault {
     pub frame: u32,
     pub kind: FaultKind,

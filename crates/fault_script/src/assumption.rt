@@ -12,14 +12,14 @@ use scram_types::{ProcId, Script, Spec};
 
 /// The way in which a script leaves the failure assumption: too many processors are down, or the environment changes
 /// too often.
-#[derive(Clone, Copy, PartialEq, Eq)]
+#[derive(Clone, Copy)]
 pub enum OutsideKind {
     Halts,
     Changes,
 }
 
 /// The first frame with which a script leaves the failure assumption, and the way in which it does.
-#[derive(Clone, Copy, PartialEq, Eq)]
+#[derive(Clone, Copy)]
 pub struct Outside {
     pub frame: u32,
     pub kind: OutsideKind,

@@ -10,7 +10,7 @@ use scram_types::{HaltAt, Script, Spec};
 /// The input of a frame: the values of the factors in it, and three sets of processors, as bits. `early` contains the
 /// processors that halt in the frame before their mark, and `late` those that halt in it after their mark. `back`
 /// contains those that restart in the frame and are up again from this frame on.
-#[derive(Clone, Copy, PartialEq, Eq)]
+#[derive(Clone, Copy)]
 pub struct Input {
     pub factors: [u8; 6],
     pub early: u8,

@@ -6,7 +6,7 @@ use scram_doc::field;
 use serde_json::Value;
 
 /// The versions of the script document. Only the second version has restarts.
-#[derive(Clone, Copy, PartialEq, Eq)]
+#[derive(Clone, Copy)]
 pub enum Version {
     First,
     Second,

@@ -4,7 +4,7 @@ ghost use Rattle.std.specs.Prelude.{◌≡◌, ◌≤◌};
 ghost use Rattle.faults_form.specs.Counts.{fault_count, number};
 
 /// The number of faults in each script of a family.
-#[derive(Clone, Copy, PartialEq, Eq)]
+#[derive(Clone, Copy)]
 pub enum FaultCount {
     One,
     Two,

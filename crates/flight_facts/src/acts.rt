@@ -6,7 +6,7 @@ ghost use Rattle.flight_facts.specs.Acts.{act_word, count_acts, mode_of_act, pro
 use scram_types::{Act, Mode, ProcId, Row, Spec};
 
 /// The first word of an act in a trace, which names what an application did in a frame.
-#[derive(Clone, Copy, PartialEq, Eq)]
+#[derive(Clone, Copy)]
 pub enum ActWord {
     Ran,
     Halting,

@@ -8,7 +8,7 @@ use scram_types::{Row, World};
 use trace_text::lines::Line;
 
 /// A quantity of the aircraft that a row contains.
-#[derive(Clone, Copy, PartialEq, Eq)]
+#[derive(Clone, Copy)]
 pub enum Quantity {
     /// The altitude, in feet.
     Altitude,
@@ -21,7 +21,7 @@ pub enum Quantity {
 }
 
 /// The minimum and the maximum of a sequence of numbers.
-#[derive(Clone, Copy, PartialEq, Eq)]
+#[derive(Clone, Copy)]
 pub struct Extremes {
     pub least: i64,
     pub greatest: i64,

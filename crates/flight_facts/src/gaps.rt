@@ -10,7 +10,7 @@ use trace_text::lines::Line;
 
 /// Consecutive rows in which an application neither ran nor was off: the number of rows, and the index of the first
 /// of them.
-#[derive(Clone, Copy, PartialEq, Eq)]
+#[derive(Clone, Copy)]
 pub struct Gap {
     pub frames: u32,
     pub at: u32,

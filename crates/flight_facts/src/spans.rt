@@ -10,7 +10,7 @@ use scram_types::{Act, ConfId, KMode, ProcId, Row};
 
 /// The part of each row that a lane shows: the stable configuration, the value of a factor, whether a processor is up,
 /// or the act of an application.
-#[derive(Clone, Copy, PartialEq, Eq)]
+#[derive(Clone, Copy)]
 pub enum Lane {
     Configuration,
     /// The factor of this number, below 6.

@@ -25,7 +25,7 @@ use trace_text::put_trace;
 use word_deck::WordFlight;
 
 /// The kind of text that is printed for a flight.
-#[derive(Clone, Copy, PartialEq, Eq)]
+#[derive(Clone, Copy)]
 pub enum FlightText {
     /// The whole trace of the flight.
     Trace,

@@ -9,7 +9,7 @@ use std::alloc::Global;
 use trace_text::lines::Line;
 
 /// A kind of refusal.
-#[derive(Clone, Copy, PartialEq, Eq)]
+#[derive(Clone, Copy)]
 pub enum Refused {
     /// The command's words match no form of the command.
     Usage,

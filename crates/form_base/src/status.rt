@@ -1,7 +1,7 @@
 //! The statuses of the command.
 
 /// The status with which the command ends. Its code is one of the constants below.
-#[derive(Clone, Copy, PartialEq, Eq)]
+#[derive(Clone, Copy)]
 pub struct Status {
     pub code: u8,
 }

@@ -9,7 +9,7 @@ use scram_types::{ConfId, KMode, Spec};
 
 /// The phase of a mode in a frame, with the configuration of the phase. The number is the index of the frame in the
 /// phase, counted from 0.
-#[derive(Clone, Copy, PartialEq, Eq)]
+#[derive(Clone, Copy)]
 pub enum Phase {
     /// The configuration is to run.
     Running(ConfId),

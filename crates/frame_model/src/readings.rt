@@ -8,7 +8,7 @@ use scram_types::{Act, ConfId, NoMemory, Report, Row, Spec};
 use std::alloc::Global;
 
 /// The state of reading reconfigurations after the rows so far.
-#[derive(Clone, Copy, PartialEq, Eq)]
+#[derive(Clone, Copy)]
 pub enum Reading {
     /// Each row since the end of the last reconfiguration runs this configuration.
     Steady(ConfId),

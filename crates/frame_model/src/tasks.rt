@@ -11,7 +11,7 @@ use scram_types::{AppId, ConfId, KMode, Mode, Order, Place, ProcId, Spec};
 
 /// An application's order in a frame, with its mode and its processor. An application that is off has the order `Off`,
 /// mode 0 and no processor.
-#[derive(Clone, Copy, PartialEq, Eq)]
+#[derive(Clone, Copy)]
 pub struct Task {
     pub order: Order,
     pub mode: Mode,

@@ -6,7 +6,7 @@ ghost use Rattle.idle_parts.specs.Lines.{idle_line, part_word};
 use trace_text::lines::Line;
 
 // A kind of part of a specification.
-#[derive(Clone, Copy, PartialEq, Eq)]
+#[derive(Clone, Copy)]
 pub(crate) enum PartKind {
     Rule,
     Conf,

@@ -5,7 +5,7 @@ use scram_types::ProcId;
 /// The halt of unit 0 or 1 in a frame, after `step` of the unit's steps in the frame. The unit does not halt if the
 /// flight has no such frame or the frame has fewer steps. It does not halt either if these steps include the last note
 /// of the flight.
-#[derive(Clone, Copy, PartialEq, Eq)]
+#[derive(Clone, Copy)]
 pub struct UnitHalt {
     pub unit: u8,
     pub frame: u32,

@@ -16,7 +16,7 @@ use scram_types::{HaltAt, ProcId};
 
 /// The state of a processor between two of its frames. The processor is at the beginning of a frame (`Before`) or has
 /// halted in a frame (`Halted`).
-#[derive(Clone, Copy, PartialEq, Eq)]
+#[derive(Clone, Copy)]
 pub enum Stand {
     Before(u32),
     Halted(u32),

@@ -8,7 +8,7 @@ use flight_facts::spans::Lane;
 use scram_types::{Row, Spec};
 
 /// The numbers of rows, factors, processors and applications, which determine all positions in a picture.
-#[derive(Clone, Copy, PartialEq, Eq)]
+#[derive(Clone, Copy)]
 pub struct Sheet {
     pub rows: u32,
     pub factors: u8,

@@ -16,7 +16,7 @@ use trace_text::lines::Line;
 use trace_text::row_lines::name_of_mode;
 
 /// A lane, with the y-coordinate of its top in pixels.
-#[derive(Clone, Copy, PartialEq, Eq)]
+#[derive(Clone, Copy)]
 pub struct Strip {
     pub lane: Lane,
     pub y: u64,
@@ -24,7 +24,7 @@ pub struct Strip {
 
 /// Consecutive rows of a lane that are drawn as one box. `y` is the y-coordinate of the lane's top in pixels, `first`
 /// is the index of the first row, and `rows` is the number of rows.
-#[derive(Clone, Copy, PartialEq, Eq)]
+#[derive(Clone, Copy)]
 pub struct Span {
     pub lane: Lane,
     pub y: u64,

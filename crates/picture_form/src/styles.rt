@@ -4,7 +4,7 @@ ghost use Rattle.std.specs.Prelude.{◌≡◌};
 ghost use Rattle.picture_form.specs.Styles.{part_text};
 
 /// A part of the document that is the same in every picture.
-#[derive(Clone, Copy, PartialEq, Eq)]
+#[derive(Clone, Copy)]
 pub enum Part {
     /// The styles, which set the colours of the classes.
     Style,

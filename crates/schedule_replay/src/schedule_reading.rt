@@ -16,14 +16,14 @@ use trace_text::pieces::split_once;
 
 /// The fault of a schedule: the number of the first line that breaks a rule, counted from 1, and the number of the
 /// first rule that the line breaks. If the schedule is too long, the line is 0 and the rule is 5.
-#[derive(Clone, Copy, PartialEq, Eq)]
+#[derive(Clone, Copy)]
 pub struct ScheduleFault {
     pub line: u32,
     pub rule: u8,
 }
 
 /// The reason why bytes were not read as a schedule.
-#[derive(Clone, Copy, PartialEq, Eq)]
+#[derive(Clone, Copy)]
 pub enum ScheduleError {
     Fault(ScheduleFault),
     NoMemory,

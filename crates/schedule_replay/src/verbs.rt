@@ -4,7 +4,7 @@ ghost use Rattle.std.specs.Prelude.{◌≡◌, bytes_eq};
 ghost use Rattle.schedule_replay.specs.Verbs.{verb_named, word_count};
 
 /// The kind of an event, which the first word of its line names.
-#[derive(Clone, Copy, PartialEq, Eq)]
+#[derive(Clone, Copy)]
 pub enum Verb {
     Start,
     Look,

@@ -128,7 +128,7 @@ pub enum SpecificationForm<N> {
 }
 
 /// A look at a trace.
-#[derive(Clone, Copy, PartialEq, Eq)]
+#[derive(Clone, Copy)]
 pub enum Look {
     /// A judgement by the properties of reconfigurations.
     Props,

@@ -4,7 +4,7 @@ ghost use Rattle.std.specs.Prelude.{◌≡◌};
 ghost use Rattle.scram_cli.specs.Pages.{page_text};
 
 /// A page about the command.
-#[derive(Clone, Copy, PartialEq, Eq)]
+#[derive(Clone, Copy)]
 pub enum Page {
     /// The forms and the statuses, one on each line.
     Help,

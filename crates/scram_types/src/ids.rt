@@ -13,7 +13,7 @@ pub struct ProcId(pub u8);
 pub struct ConfId(pub u8);
 
 /// An environment factor, as an index into the specification's factors.
-#[derive(Clone, Copy, PartialEq, Eq)]
+#[derive(Clone, Copy, Debug, PartialEq, Eq)]
 pub struct FactorId(pub u8);
 
 /// A kind of application: 0 autopilot, 1 flight control, 2 power monitor, 3 navigator, 4 data link, 5 task.

@@ -3,7 +3,7 @@
 use std::alloc::{AllocError, AllocFailed};
 
 /// The error of an allocation that failed. It is a separate error everywhere and is never merged with another error.
-#[derive(Clone, Copy, Debug, PartialEq, Eq)]
+#[derive(Clone, Copy, Debug)]
 pub struct NoMemory;
 
 impl From<AllocError> for NoMemory {

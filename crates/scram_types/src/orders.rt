@@ -22,7 +22,7 @@ pub enum KMode {
 
 /// The kernel's order to an application in a frame. In `Halt`, `Prepare` and `Init` the first number is the frame of
 /// the phase, counted from 0, and the second number is the phase's length in frames, 1 to 16.
-#[derive(Clone, Copy, PartialEq, Eq)]
+#[derive(Clone, Copy, Debug, PartialEq, Eq)]
 pub enum Order {
     Run,
     Halt(u8, u8),

@@ -8,7 +8,7 @@ ghost use Rattle.scram_types.specs.Ranges.{clamp_in, limit};
 use crate::numbers::clamped;
 
 /// The whole numbers from `-below` to `above`, inclusive. Each range contains 0.
-#[derive(Clone, Copy, PartialEq, Eq)]
+#[derive(Clone, Copy)]
 pub struct Range {
     pub below: u32,
     pub above: u32,

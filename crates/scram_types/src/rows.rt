@@ -21,7 +21,7 @@ pub struct World {
 }
 
 /// The goal of the mission: `altitude` in feet, 0 to 40,000, and `heading` in tenths of a degree, 0 to 3,599.
-#[derive(Clone, Copy, PartialEq, Eq)]
+#[derive(Clone, Copy, Debug, PartialEq, Eq)]
 pub struct Goal {
     pub altitude: i64,
     pub heading: i64,

@@ -5,7 +5,7 @@ use crate::lists::List;
 
 /// A change of a factor: from frame `frame` on, the factor has this value, given as an index into the factor's
 /// values.
-#[derive(Clone, Copy, PartialEq, Eq)]
+#[derive(Clone, Copy)]
 pub struct Change {
     pub frame: u32,
     pub factor: FactorId,
@@ -14,7 +14,7 @@ pub struct Change {
 
 /// A halt of a processor in a frame: after `step` stores if `step` is at most `W`, or after the processor's mark if
 /// `step` is `W + 1`. `W` is eight times the number of applications.
-#[derive(Clone, Copy, PartialEq, Eq)]
+#[derive(Clone, Copy)]
 pub struct HaltAt {
     pub proc: ProcId,
     pub frame: u32,
@@ -22,7 +22,7 @@ pub struct HaltAt {
 }
 
 /// A restart: the processor, which was halted before, is up again from this frame on.
-#[derive(Clone, Copy, PartialEq, Eq)]
+#[derive(Clone, Copy)]
 pub struct RestartAt {
     pub proc: ProcId,
     pub frame: u32,

@@ -19,7 +19,7 @@ pub struct Proc {
 
 /// The costs of a mode of an application: its load, 0 to 1,000,000 load units, and the lengths of its halt, prepare
 /// and init phases, 1 to 16 frames each.
-#[derive(Clone, Copy, PartialEq, Eq)]
+#[derive(Clone, Copy)]
 pub struct ModeSpec {
     pub mode: Mode,
     pub load: u32,
@@ -52,7 +52,7 @@ impl Drop for AppSpec {
 }
 
 /// The mode and the processor of an application in a configuration in which it is on.
-#[derive(Clone, Copy, PartialEq, Eq)]
+#[derive(Clone, Copy)]
 pub struct Place {
     pub mode: Mode,
     pub proc: ProcId,
@@ -80,7 +80,7 @@ impl Drop for Factor {
 }
 
 /// A requirement that a factor has a value, given as an index into the factor's values.
-#[derive(Clone, Copy, PartialEq, Eq)]
+#[derive(Clone, Copy)]
 pub struct Want {
     pub factor: FactorId,
     pub value: u8,
@@ -108,7 +108,7 @@ impl Drop for Choice {
 }
 
 /// The maximum length of a reconfiguration from configuration `from` to configuration `to`: 1 to 1,000 frames.
-#[derive(Clone, Copy, PartialEq, Eq)]
+#[derive(Clone, Copy)]
 pub struct Bound {
     pub from: ConfId,
     pub to: ConfId,
@@ -117,7 +117,7 @@ pub struct Bound {
 
 /// An invariant: while a reconfiguration leaves `from` (`None` for any configuration), this variable of this
 /// application lies between `least` and `greatest`, both within 1,000,000,000 of 0.
-#[derive(Clone, Copy, PartialEq, Eq)]
+#[derive(Clone, Copy)]
 pub struct Invariant {
     pub from: Option<ConfId>,
     pub app: AppId,
@@ -128,7 +128,7 @@ pub struct Invariant {
 
 /// A precondition: when a configuration begins to run, this variable of this application lies between `least` and
 /// `greatest`, both within 1,000,000,000 of 0.
-#[derive(Clone, Copy, PartialEq, Eq)]
+#[derive(Clone, Copy)]
 pub struct Precondition {
     pub conf: ConfId,
     pub app: AppId,
@@ -139,7 +139,7 @@ pub struct Precondition {
 
 /// The policy for a failure during a reconfiguration. `Retarget` chooses a new target at each change; `Settle` keeps
 /// the target as long as it can run.
-#[derive(Clone, Copy, PartialEq, Eq)]
+#[derive(Clone, Copy)]
 pub enum Policy {
     Retarget,
     Settle,

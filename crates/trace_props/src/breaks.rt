@@ -5,7 +5,7 @@ ghost use Rattle.trace_props.specs.Breaks.{property_number};
 ghost use Rattle.trace_props.specs.Judging.{broken_at, comes_before, earlier};
 
 /// One of the six properties of a flight.
-#[derive(Clone, Copy, PartialEq, Eq)]
+#[derive(Clone, Copy)]
 pub enum Property {
     /// The reports are exactly the reconfigurations that are read off the rows.
     Sp1,
@@ -42,7 +42,7 @@ impl Property {
 }
 
 /// A property that does not hold, with a frame in which it is broken.
-#[derive(Clone, Copy, PartialEq, Eq)]
+#[derive(Clone, Copy)]
 pub struct Broken {
     pub property: Property,
     pub frame: u32,

@@ -6,7 +6,7 @@ ghost use Rattle.trace_props.specs.Judging.{compare, difference, is_same_report,
 use scram_types::{ConfId, Report};
 
 /// The agreement of the reports with the reconfigurations that have been read so far.
-#[derive(Clone, Copy, PartialEq, Eq)]
+#[derive(Clone, Copy)]
 pub(crate) enum Agreement {
     /// Each reconfiguration that has been read equals the report at its index. The field is the number of these
     /// reconfigurations.

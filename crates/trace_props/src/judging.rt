@@ -40,7 +40,7 @@ pub fn holds_where_unbroken()
 {}
 
 /// The judgement of the reconfigurations that have been read so far.
-#[derive(Clone, Copy, PartialEq, Eq)]
+#[derive(Clone, Copy)]
 pub(crate) struct Judgement {
     /// The agreement of the reports with the reconfigurations that have been read.
     pub agreement: Agreement,

@@ -13,14 +13,14 @@ use scram_types::limits::MAX_PHASE;
 use scram_types::{Act, Area, ProcId, Spec};
 
 /// The act and the area of an application in a frame.
-#[derive(Clone, Copy, PartialEq, Eq)]
+#[derive(Clone, Copy)]
 pub struct Done {
     pub act: Act,
     pub area: Area,
 }
 
 /// A phase whose frames are numbered in the acts of an application.
-#[derive(Clone, Copy, PartialEq, Eq)]
+#[derive(Clone, Copy)]
 pub enum Phase {
     Halting,
     Preparing,

@@ -18,7 +18,7 @@ use scram_types::{Report, Row, Spec};
 use std::alloc::Global;
 
 /// The lines that may come next.
-#[derive(Clone, Copy, PartialEq, Eq)]
+#[derive(Clone, Copy)]
 pub enum Expected {
     /// The first line of a row, the line of a reconfiguration, or the end line.
     Rows,
@@ -31,7 +31,7 @@ pub enum Expected {
 }
 
 /// The reason why a line was not accepted.
-#[derive(Clone, Copy, PartialEq, Eq)]
+#[derive(Clone, Copy)]
 pub enum Stop {
     /// The first rule that the line breaks.
     Rule(u8),

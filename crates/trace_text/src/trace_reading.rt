@@ -13,14 +13,14 @@ use std::alloc::Global;
 
 /// The number of the first line that breaks a rule, counted from 1, and the number of the first rule that the line
 /// breaks, 1 to 9. A trace that is too long breaks rule 9 at line 0.
-#[derive(Clone, Copy, PartialEq, Eq)]
+#[derive(Clone, Copy)]
 pub struct TraceFault {
     pub line: u32,
     pub rule: u8,
 }
 
 /// The error of reading bytes as a trace.
-#[derive(Clone, Copy, PartialEq, Eq)]
+#[derive(Clone, Copy)]
 pub enum TraceError {
     Fault(TraceFault),
     NoMemory,

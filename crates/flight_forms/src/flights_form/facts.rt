@@ -10,14 +10,14 @@ use flight_facts::unfinished::count_unfinished;
 use scram_types::{AppId, ConfId, Report, Row, Spec};
 
 /// The longest gap of an application.
-#[derive(Clone, Copy, PartialEq, Eq)]
+#[derive(Clone, Copy)]
 pub struct AppGap {
     pub app: AppId,
     pub gap: Gap,
 }
 
 /// The margin of a finished reconfiguration: its bound minus the number of frames that the reconfiguration took.
-#[derive(Clone, Copy, PartialEq, Eq)]
+#[derive(Clone, Copy)]
 pub struct Margin {
     pub frames: i64,
     pub report: Report,
@@ -25,7 +25,7 @@ pub struct Margin {
 
 /// The facts of a flight: the numbers of frames, reconfigurations and unfinished reconfigurations, the longest gap,
 /// and the minimum margin.
-#[derive(Clone, Copy, PartialEq, Eq)]
+#[derive(Clone, Copy)]
 pub struct FlightFacts {
     pub frames: u32,
     pub reconfigurations: u32,

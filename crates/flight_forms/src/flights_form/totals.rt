@@ -6,21 +6,21 @@ ghost use Rattle.flight_forms.specs.flights_form.Totals.{gap_in_flight, greater_
 use crate::flights_form::outcomes::Outcome;
 
 /// The minimum margin of all flights, in frames, and the first flight that has this margin.
-#[derive(Clone, Copy, PartialEq, Eq)]
+#[derive(Clone, Copy)]
 pub struct FlightMargin {
     pub frames: i64,
     pub flight: u32,
 }
 
 /// The longest gap of all flights, in frames, and the first flight that has a gap of this length.
-#[derive(Clone, Copy, PartialEq, Eq)]
+#[derive(Clone, Copy)]
 pub struct FlightGap {
     pub frames: u32,
     pub flight: u32,
 }
 
 /// The totals of some lines: the numbers of lines and of refused lines, the minimum margin and the longest gap.
-#[derive(Clone, Copy, PartialEq, Eq)]
+#[derive(Clone, Copy)]
 pub struct Totals {
     pub lines: u32,
     pub refused: u32,
