@@ -3,7 +3,7 @@ use Rattle.spec_apps.proofs.applications.AppsNamedElementsAppSpecByName.read.Goa
 pub returns-clause-fits : goal.returns-clause-fits
 returns-clause-fits c = rw (c.of-2.ensures) (record {
   name = c.in_ok-name-2.ensures.fresh;
-  kind = c.in_ok-kind-2.ensures.built;
-  count = record { enough = c.in_ok-modes-2.ensures.least; few = c.in_ok-modes-2.ensures.most };
-  modes = c.in_ok-modes-2.ensures.fits;
+  kind = c.in_ok-kind.ensures.built;
+  count = record { enough = c.in_ok-modes.ensures.least; few = c.in_ok-modes.ensures.most };
+  modes = c.in_ok-modes.ensures.fits;
 })

@@ -6,7 +6,7 @@ use Rattle.spec_apps.proofs.applications.ModesElementsModeSpec.read.Goals as goa
 pub returns-clause-fits : goal.returns-clause-fits
 returns-clause-fits c =
     let listed = c.in_ok-mode-2.ensures.of_kind in
-    let load = c.in_ok-load-2.ensures.end in
+    let load = c.in_ok-load.ensures.end in
     let of_kind = λ (below : c.args.self.now.kind.0 < 6). (all_names_agree.each c.args.self.now.kind.0 below).mode_number listed.text c.in_ok-mode-2.mode.0 listed.there in
     record {
       new = c.in_ok-mode-2.ensures.new;
@@ -14,8 +14,8 @@ returns-clause-fits c =
         on = (of_kind below).first;
         of_kind = (of_kind below).last;
         load = omega (arith, load);
-        halt = record { least = c.in_ok-halt-2.ensures.least; most = c.in_ok-halt-2.ensures.most };
-        prepare = record { least = c.in_ok-prepare-2.ensures.least; most = c.in_ok-prepare-2.ensures.most };
-        init = record { least = c.in_ok-init-2.ensures.least; most = c.in_ok-init-2.ensures.most };
+        halt = record { least = c.in_ok-halt.ensures.least; most = c.in_ok-halt.ensures.most };
+        prepare = record { least = c.in_ok-prepare.ensures.least; most = c.in_ok-prepare.ensures.most };
+        init = record { least = c.in_ok-init.ensures.least; most = c.in_ok-init.ensures.most };
       };
     }
