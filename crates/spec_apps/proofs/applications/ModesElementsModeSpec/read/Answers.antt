@@ -1,4 +1,4 @@
-use Rattle.std.proofs.Common.{◌<◌, arith}
+use Rattle.std.proofs.Common.{◌<◌, arith, refl, rules}
 use Rattle.kind_table.proofs.Spelling.{all_names_agree}
 use Rattle.spec_apps.proofs.applications.ModesElementsModeSpec.read.Goals as goal
 
@@ -19,3 +19,82 @@ returns-clause-fits c =
         init = record { least = c.in_ok-init.ensures.least; most = c.in_ok-init.ensures.most };
       };
     }
+
+pub returns-in_err-mode-clause-value : goal.returns-in_err-mode-clause-value
+returns-in_err-mode-clause-value c = rw (← c.in_err-mode.ensures) (search rules)
+
+pub returns-in_err-mode-2-clause-value : goal.returns-in_err-mode-2-clause-value
+returns-in_err-mode-2-clause-value c =
+    rw (
+      ← c.in_ok-mode.ensures,
+      ← c.member.ensures,
+      ← c.in_err-mode-2.ensures.value,
+    ) (search rules)
+
+pub returns-in_err-load-clause-value : goal.returns-in_err-load-clause-value
+returns-in_err-load-clause-value c =
+    rw (
+      ← c.in_ok-mode.ensures,
+      ← c.member.ensures,
+      ← c.in_ok-mode-2.ensures.value,
+      ← c.member-2.ensures,
+      ← c.in_err-load.ensures.value,
+    ) (search rules)
+
+pub returns-in_err-halt-clause-value : goal.returns-in_err-halt-clause-value
+returns-in_err-halt-clause-value c =
+    rw (
+      ← c.in_ok-mode.ensures,
+      ← c.member.ensures,
+      ← c.in_ok-mode-2.ensures.value,
+      ← c.member-2.ensures,
+      ← c.in_ok-load.ensures.value,
+      ← c.member-3.ensures,
+      ← c.in_err-halt.ensures.value,
+    ) (search rules)
+
+pub returns-in_err-prepare-clause-value : goal.returns-in_err-prepare-clause-value
+returns-in_err-prepare-clause-value c =
+    rw (
+      ← c.in_ok-mode.ensures,
+      ← c.member.ensures,
+      ← c.in_ok-mode-2.ensures.value,
+      ← c.member-2.ensures,
+      ← c.in_ok-load.ensures.value,
+      ← c.member-3.ensures,
+      ← c.in_ok-halt.ensures.value,
+      ← c.member-4.ensures,
+      ← c.in_err-prepare.ensures.value,
+    ) (search rules)
+
+pub returns-in_err-init-clause-value : goal.returns-in_err-init-clause-value
+returns-in_err-init-clause-value c =
+    rw (
+      ← c.in_ok-mode.ensures,
+      ← c.member.ensures,
+      ← c.in_ok-mode-2.ensures.value,
+      ← c.member-2.ensures,
+      ← c.in_ok-load.ensures.value,
+      ← c.member-3.ensures,
+      ← c.in_ok-halt.ensures.value,
+      ← c.member-4.ensures,
+      ← c.in_ok-prepare.ensures.value,
+      ← c.member-5.ensures,
+      ← c.in_err-init.ensures.value,
+    ) (search rules)
+
+pub returns-clause-value : goal.returns-clause-value
+returns-clause-value c =
+    rw (
+      ← c.in_ok-mode.ensures,
+      ← c.member.ensures,
+      ← c.in_ok-mode-2.ensures.value,
+      ← c.member-2.ensures,
+      ← c.in_ok-load.ensures.value,
+      ← c.member-3.ensures,
+      ← c.in_ok-halt.ensures.value,
+      ← c.member-4.ensures,
+      ← c.in_ok-prepare.ensures.value,
+      ← c.member-5.ensures,
+      ← c.in_ok-init.ensures.value,
+    ) refl
