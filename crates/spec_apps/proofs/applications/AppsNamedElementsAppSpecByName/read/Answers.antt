@@ -1,4 +1,6 @@
-use Rattle.std.proofs.Common.{rules}
+use Rattle.std.proofs.Common.{rules, arith, ◌∷◌}
+use Rattle.std.specs.Prelude.{codes}
+use Rattle.std.proofs.lemmas.List.{length-append}
 use Rattle.spec_apps.proofs.applications.AppsNamedElementsAppSpecByName.read.Goals as goal
 
 pub returns-clause-fits : goal.returns-clause-fits
@@ -65,3 +67,21 @@ returns-clause-value c =
       ← c.member-3.ensures,
       ← c.in_ok-check_text_list.ensures,
     ) (search rules)
+
+pub check_text_list-requires : goal.check_text_list-requires
+check_text_list-requires c =
+    let long = length-append c.args.at.now (46 ∷ codes "needs") in
+    let short = c.requires.room in
+    record { room = rw (c.member-3.ensures) (omega (arith, long, short)) }
+
+pub read_list-requires-clause-room : goal.read_list-requires-clause-room
+read_list-requires-clause-room c =
+    let long = length-append c.args.at.now (46 ∷ codes "modes") in
+    let short = c.requires.room in
+    rw (c.member-at.ensures) (omega (arith, long, short))
+
+pub read_list-requires-clause-path : goal.read_list-requires-clause-path
+read_list-requires-clause-path c =
+    let long = length-append c.args.at.now (46 ∷ codes "modes") in
+    let short = c.requires.room in
+    rw (c.member-at.ensures) (omega (arith, long, short))
