@@ -172,7 +172,8 @@ pub joined_fits : (names own : Names) (rest : Rest) → names ≡ own → AreNam
 joined_fits names own rest same named fits =
     subst (λ (z : Names). IsSpec (with_rest z rest)) same
     (spec_fits (with_rest names rest) (subst (λ (z : Names). AreNames z.procs z.apps z.confs z.factors) (sym same) named)
-    fits.few_rules fits.rules fits.few_bounds fits.bounds fits.start fits.goal fits.few_invariants fits.invariants fits.few_preconditions fits.preconditions fits.assumed fits.few_demands fits.demands)
+    fits.table.few_rules fits.table.rules fits.table.few_bounds fits.table.bounds fits.table.start fits.table.goal
+    fits.limits.few_invariants fits.limits.invariants fits.limits.few_preconditions fits.limits.preconditions fits.limits.assumed fits.few_demands fits.demands)
 
 spec_writable : (spec : Parts) → AreNames spec.procs spec.apps spec.confs spec.factors
     → AllAfter (λ _. FitsChoice spec.procs spec.confs spec.factors) spec.rules
@@ -196,4 +197,4 @@ pub joined_writable : (names own : Names) (rest : Rest) → names ≡ own → Ar
 joined_writable names own rest same named fits =
     subst (λ (z : Names). IsWritable (with_rest z rest)) same
     (spec_writable (with_rest names rest) (subst (λ (z : Names). AreNames z.procs z.apps z.confs z.factors) (sym same) named)
-    fits.rules fits.bounds fits.invariants fits.preconditions fits.demands)
+    fits.table.rules fits.table.bounds fits.limits.invariants fits.limits.preconditions fits.demands)

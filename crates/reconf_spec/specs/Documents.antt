@@ -22,10 +22,12 @@ use Rattle.scram_doc.specs.Chain.{chain}
 use Rattle.scram_doc.specs.Faults.{broken}
 use Rattle.scram_doc.specs.Documents.{parsed}
 use Rattle.scram_doc.specs.Paths.{member_path}
-use Rattle.scram_doc.specs.Members.{object_at, required_at, no_more_than}
+use Rattle.scram_doc.specs.Members.{exactly_three_at, exactly_two_at}
 use Rattle.scram_doc.specs.Values.{text_at, int_at, whole_at}
 use Rattle.reconf_spec.specs.declared.documents.Assumption.{Assumption}
+use Rattle.reconf_spec.specs.declared.documents.LimitParts.{LimitParts}
 use Rattle.reconf_spec.specs.declared.documents.Rest.{Rest}
+use Rattle.reconf_spec.specs.declared.documents.TableParts.{TableParts}
 use Rattle.spec_members.specs.declared.rule.TheConstants.{UNKNOWN_VERSION, TOO_LONG, UNKNOWN_POLICY}
 use Rattle.spec_members.specs.Members.{member_in}
 use Rattle.spec_members.specs.Versions.{has_demands, has_policy, members_tested}
@@ -42,26 +44,19 @@ use Rattle.spec_table.specs.Vocabulary.{Names}
 -- The goal of the mission that the value at a path encodes, or the first broken rule.
 abbrev pub read_goal : List ℕ → Data → Result Goal DocFault
 read_goal at d =
-    chain (object_at at d) (λ (_ : ⊤).
-    chain (required_at (codes "altitude") at d) (λ (altitude : Data).
-    chain (required_at (codes "heading") at d) (λ (heading : Data).
-    chain (no_more_than 2 at d) (λ (_ : ⊤).
-    chain (int_at (pos 0) (pos 40000) (member_path at (codes "altitude")) altitude) (λ (altitude : ℤ).
-    chain (int_at (pos 0) (pos 3599) (member_path at (codes "heading")) heading) (λ (heading : ℤ).
-    Ok (record { altitude = altitude; heading = heading })))))))
+    chain (exactly_two_at (codes "altitude") (codes "heading") at d) (λ (m : Data × Data).
+    chain (int_at (pos 0) (pos 40000) (member_path at (codes "altitude")) m.0) (λ (altitude : ℤ).
+    chain (int_at (pos 0) (pos 3599) (member_path at (codes "heading")) m.1) (λ (heading : ℤ).
+    Ok (record { altitude = altitude; heading = heading }))))
 
 -- The failure assumption that the value at a path encodes, or the first broken rule.
 abbrev pub read_assumption : List ℕ → Data → Result Assumption DocFault
 read_assumption at d =
-    chain (object_at at d) (λ (_ : ⊤).
-    chain (required_at (codes "halts") at d) (λ (halts : Data).
-    chain (required_at (codes "changes") at d) (λ (changes : Data).
-    chain (required_at (codes "window") at d) (λ (window : Data).
-    chain (no_more_than 3 at d) (λ (_ : ⊤).
-    chain (whole_at 0 9 (member_path at (codes "halts")) halts) (λ (halts : ℕ).
-    chain (whole_at 0 17 (member_path at (codes "changes")) changes) (λ (changes : ℕ).
-    chain (whole_at 1 1001 (member_path at (codes "window")) window) (λ (window : ℕ).
-    Ok (record { halts = halts; changes = changes; window = window })))))))))
+    chain (exactly_three_at (codes "halts") (codes "changes") (codes "window") at d) (λ (m : Data × Data × Data).
+    chain (whole_at 0 9 (member_path at (codes "halts")) m.0) (λ (halts : ℕ).
+    chain (whole_at 0 17 (member_path at (codes "changes")) m.1) (λ (changes : ℕ).
+    chain (whole_at 1 1001 (member_path at (codes "window")) m.2) (λ (window : ℕ).
+    Ok (record { halts = halts; changes = changes; window = window })))))
 
 -- The policy that `text` names, or the fault of an unknown policy at the path `at`.
 abbrev pub policy_named : List ℕ → List ℕ → Result Policy DocFault
@@ -111,49 +106,45 @@ with_rest names rest = record {
   apps = names.apps;
   confs = names.confs;
   factors = names.factors;
-  rules = rest.rules;
-  bounds = rest.bounds;
-  start = rest.start;
-  goal = rest.goal;
-  invariants = rest.invariants;
-  preconditions = rest.preconditions;
+  rules = rest.table.rules;
+  bounds = rest.table.bounds;
+  start = rest.table.start;
+  goal = rest.table.goal;
+  invariants = rest.limits.invariants;
+  preconditions = rest.limits.preconditions;
   policy = rest.policy;
   demands = rest.demands;
-  halts = rest.assumed.halts;
-  changes = rest.assumed.changes;
-  window = rest.assumed.window;
+  halts = rest.limits.assumed.halts;
+  changes = rest.limits.assumed.changes;
+  window = rest.limits.assumed.window;
 }
+
+-- The choice table, the bounds, the start and the goal of a document, or the first broken rule.
+abbrev pub table_parts_in : Names → Data → Result TableParts DocFault
+table_parts_in names d =
+    chain (member_in (codes "rules") (read_choices names.procs names.confs names.factors) d) (λ (rules : List Choice).
+    chain (member_in (codes "bounds") (read_bounds names.confs) d) (λ (bounds : List Bound).
+    chain (member_in (codes "start") (read_conf_id names.confs) d) (λ (start : ConfId).
+    chain (member_in (codes "goal") read_goal d) (λ (goal : Goal).
+    Ok (record { rules = rules; bounds = bounds; start = start; goal = goal })))))
+
+-- The invariants, the preconditions and the failure assumption of a document, or the first broken rule.
+abbrev pub limit_parts_in : Names → Data → Result LimitParts DocFault
+limit_parts_in names d =
+    chain (member_in (codes "invariants") (read_invariants names.apps names.confs) d) (λ (invariants : List Invariant).
+    chain (member_in (codes "preconditions") (read_preconditions names.apps names.confs) d) (λ (preconditions : List Precondition).
+    chain (member_in (codes "assumption") read_assumption d) (λ (assumed : Assumption).
+    Ok (record { invariants = invariants; preconditions = preconditions; assumed = assumed }))))
 
 -- The specification that a document encodes, or the first broken rule. Its processors, applications, configurations
 -- and factors are given, and its other members are read.
 abbrev pub rest_in : Names → Data → Result Parts DocFault
 rest_in names d =
-    chain (member_in (codes "rules") (read_choices names.procs names.confs names.factors) d) (λ (rules : List Choice).
-    chain (member_in (codes "bounds") (read_bounds names.confs) d) (λ (bounds : List Bound).
-    chain (member_in (codes "start") (read_conf_id names.confs) d) (λ (start : ConfId).
-    chain (member_in (codes "goal") read_goal d) (λ (goal : Goal).
-    chain (member_in (codes "invariants") (read_invariants names.apps names.confs) d) (λ (invariants : List Invariant).
-    chain (member_in (codes "preconditions") (read_preconditions names.apps names.confs) d) (λ (preconditions : List Precondition).
-    chain (member_in (codes "assumption") read_assumption d) (λ (assumed : Assumption).
+    chain (table_parts_in names d) (λ (table : TableParts).
+    chain (limit_parts_in names d) (λ (limits : LimitParts).
     chain (policy_in d) (λ (policy : Policy).
     chain (demands_in names d) (λ (demands : List Demand).
-    Ok (record {
-      procs = names.procs;
-      apps = names.apps;
-      confs = names.confs;
-      factors = names.factors;
-      rules = rules;
-      bounds = bounds;
-      start = start;
-      goal = goal;
-      invariants = invariants;
-      preconditions = preconditions;
-      policy = policy;
-      demands = demands;
-      halts = assumed.halts;
-      changes = assumed.changes;
-      window = assumed.window;
-    }))))))))))
+    Ok (with_rest names (record { table = table; limits = limits; policy = policy; demands = demands }))))))
 
 -- The specification that a document encodes, or the first broken rule.
 abbrev pub spec_in : Data → Result Parts DocFault

@@ -3,15 +3,15 @@
 ghost use Rattle.std.specs.Prelude.{◌≡◌, ◌≤◌, length, IfOk};
 ghost use Rattle.serde_json.specs.View.{view};
 ghost use Rattle.scram_types.specs.Specification.{IsGoal};
-ghost use Rattle.reconf_spec.specs.Kept.{FitsAssumption, FitsRest};
+ghost use Rattle.reconf_spec.specs.Kept.{FitsAssumption, FitsLimitParts, FitsRest, FitsTableParts};
 ghost use Rattle.reconf_spec.specs.Writable.{IsWritable};
 ghost use Rattle.scram_doc.specs.Faults.{Answers};
-ghost use Rattle.reconf_spec.specs.Documents.{read_goal, read_assumption, read_policy, policy_in, demands_in, check_version, rest_in, with_rest};
+ghost use Rattle.reconf_spec.specs.Documents.{read_goal, read_assumption, read_policy, policy_in, demands_in, check_version, limit_parts_in, rest_in, table_parts_in, with_rest};
 ghost use Rattle.scram_doc.specs.Lists.{AllAfter};
 ghost use Rattle.spec_members.specs.Found.{AreMembers};
 ghost use Rattle.spec_table.specs.Facts.{IsNewDemand};
 
-use scram_doc::{DocError, DocFault, Path, int_in, no_more_than, object, required, text, whole_in};
+use scram_doc::{DocError, DocFault, Path, exactly_three, exactly_two, int_in, text, whole_in};
 use scram_types::limits::{
     MAX_ALTITUDE, MAX_ASSUMED_CHANGES, MAX_ASSUMED_HALTS, MAX_HEADING, MAX_WINDOW,
 };
@@ -33,10 +33,7 @@ fn read_goal(v: &Value, at: &Path) -> Result<Goal, DocFault>
     ensures value { result ≡ read_goal at.now (view v.now) }
     ensures fits { IfOk result (λ goal. IsGoal goal) }
 {
-    object(v, at)?;
-    let altitude = required(v, "altitude", at)?;
-    let heading = required(v, "heading", at)?;
-    no_more_than(v, 2, at)?;
+    let (altitude, heading) = exactly_two(v, ("altitude", "heading"), at)?;
     let altitude = int_in(altitude, 0, MAX_ALTITUDE, &at.member("altitude"))?;
     let heading = int_in(heading, 0, MAX_HEADING, &at.member("heading"))?;
     Ok(Goal { altitude, heading })
@@ -55,11 +52,7 @@ fn read_assumption(v: &Value, at: &Path) -> Result<Assumption, DocFault>
     ensures value { result ≡ read_assumption at.now (view v.now) }
     ensures fits { IfOk result (λ assumed. FitsAssumption assumed) }
 {
-    object(v, at)?;
-    let halts = required(v, "halts", at)?;
-    let changes = required(v, "changes", at)?;
-    let window = required(v, "window", at)?;
-    no_more_than(v, 3, at)?;
+    let (halts, changes, window) = exactly_three(v, ("halts", "changes", "window"), at)?;
     let halts = whole_in(
         halts,
         0,
@@ -128,16 +121,69 @@ fn read_demands_of(
     }
 }
 
-/// The part of a document that follows its processors, applications, configurations and factors.
+/// The choice table, the bounds, the start and the goal of a document.
 #[derive(Drop)]
-struct Rest {
+struct TableParts {
     rules: List<Choice>,
     bounds: List<Bound>,
     start: ConfId,
     goal: Goal,
+}
+
+fn read_table_parts(
+    alloc: Global,
+    vocabulary: &Vocabulary,
+    members: &Members<'_>,
+) -> Result<TableParts, DocError>
+    requires members { AreMembers members.now }
+    ensures value { Answers (table_parts_in vocabulary.now (view members.now.document.now)) (λ parts. parts) result }
+    ensures fits { IfOk result (FitsTableParts vocabulary.now.procs vocabulary.now.confs vocabulary.now.factors) }
+{
+    let root = Path::root();
+    let rules = read_choices(alloc, vocabulary, members)?;
+    let bounds = read_bounds(alloc, vocabulary, members)?;
+    let start = read_conf_id(&vocabulary.confs, members.start, &root.member("start"))?;
+    let goal = read_goal(members.goal, &root.member("goal"))?;
+    Ok(TableParts {
+        rules: List::of(rules),
+        bounds: List::of(bounds),
+        start,
+        goal,
+    })
+}
+
+/// The invariants, the preconditions and the failure assumption of a document.
+#[derive(Drop)]
+struct LimitParts {
     invariants: List<Invariant>,
     preconditions: List<Precondition>,
     assumed: Assumption,
+}
+
+fn read_limit_parts(
+    alloc: Global,
+    vocabulary: &Vocabulary,
+    members: &Members<'_>,
+) -> Result<LimitParts, DocError>
+    requires members { AreMembers members.now }
+    ensures value { Answers (limit_parts_in vocabulary.now (view members.now.document.now)) (λ parts. parts) result }
+    ensures fits { IfOk result (FitsLimitParts vocabulary.now.apps vocabulary.now.confs) }
+{
+    let invariants = read_invariants(alloc, vocabulary, members)?;
+    let preconditions = read_preconditions(alloc, vocabulary, members)?;
+    let assumed = read_assumption(members.assumption, &Path::root().member("assumption"))?;
+    Ok(LimitParts {
+        invariants: List::of(invariants),
+        preconditions: List::of(preconditions),
+        assumed,
+    })
+}
+
+/// The part of a document that follows its processors, applications, configurations and factors.
+#[derive(Drop)]
+struct Rest {
+    table: TableParts,
+    limits: LimitParts,
     policy: Policy,
     demands: List<Demand>,
 }
@@ -151,24 +197,13 @@ fn read_after_names(
     ensures value { Answers (rest_in vocabulary.now (view members.now.document.now)) (with_rest vocabulary.now) result }
     ensures fits { IfOk result (FitsRest vocabulary.now.procs vocabulary.now.apps vocabulary.now.confs vocabulary.now.factors) }
 {
-    let root = Path::root();
-    let rules = read_choices(alloc, vocabulary, members)?;
-    let bounds = read_bounds(alloc, vocabulary, members)?;
-    let start = read_conf_id(&vocabulary.confs, members.start, &root.member("start"))?;
-    let goal = read_goal(members.goal, &root.member("goal"))?;
-    let invariants = read_invariants(alloc, vocabulary, members)?;
-    let preconditions = read_preconditions(alloc, vocabulary, members)?;
-    let assumed = read_assumption(members.assumption, &root.member("assumption"))?;
+    let table = read_table_parts(alloc, vocabulary, members)?;
+    let limits = read_limit_parts(alloc, vocabulary, members)?;
     let policy = read_policy_of(members)?;
     let demands = read_demands_of(alloc, vocabulary, members)?;
     Ok(Rest {
-        rules: List::of(rules),
-        bounds: List::of(bounds),
-        start,
-        goal,
-        invariants: List::of(invariants),
-        preconditions: List::of(preconditions),
-        assumed,
+        table,
+        limits,
         policy,
         demands: List::of(demands),
     })
@@ -180,22 +215,24 @@ fn join(vocabulary: Vocabulary, rest: Rest) -> Spec
     ensures value { result ≡ with_rest vocabulary rest }
     ensures writable { IsWritable result }
 {
+    let table = rest.table;
+    let limits = rest.limits;
     Spec {
         procs: List::of(vocabulary.procs.into_items()),
         apps: List::of(vocabulary.apps.into_items()),
         confs: List::of(vocabulary.confs.into_items()),
         factors: List::of(vocabulary.factors.into_items()),
-        rules: rest.rules,
-        bounds: rest.bounds,
-        start: rest.start,
-        goal: rest.goal,
-        invariants: rest.invariants,
-        preconditions: rest.preconditions,
+        rules: table.rules,
+        bounds: table.bounds,
+        start: table.start,
+        goal: table.goal,
+        invariants: limits.invariants,
+        preconditions: limits.preconditions,
         policy: rest.policy,
         demands: rest.demands,
-        halts: rest.assumed.halts,
-        changes: rest.assumed.changes,
-        window: rest.assumed.window,
+        halts: limits.assumed.halts,
+        changes: limits.assumed.changes,
+        window: limits.assumed.window,
     }
 }
 

@@ -9,7 +9,7 @@ use Rattle.scram_doc.specs.declared.fault.DocFault.{DocFault}
 use Rattle.scram_doc.specs.Chain.{chain}
 use Rattle.scram_doc.specs.Faults.{broken, or_broken}
 use Rattle.scram_doc.specs.Paths.{member_path}
-use Rattle.scram_doc.specs.Members.{object_at, required_at, no_more_than}
+use Rattle.scram_doc.specs.Members.{exactly_five_at, exactly_four_at}
 use Rattle.scram_doc.specs.Values.{list_at, text_at, whole_at}
 use Rattle.spec_members.specs.declared.rule.TheConstants.{UNKNOWN_KIND, MODE_TWICE}
 use Rattle.scram_doc.specs.Lists.{elements_at, folded_from}
@@ -29,19 +29,14 @@ read_phase at d = whole_at 1 17 at d
 -- among the modes `done`.
 abbrev pub read_mode : ℕ → List ℕ → List ModeSpec → Data → Result ModeSpec DocFault
 read_mode kind at done d =
-    chain (object_at at d) (λ (_ : ⊤).
-    chain (required_at (codes "mode") at d) (λ (mode : Data).
-    chain (required_at (codes "load") at d) (λ (load : Data).
-    chain (required_at (codes "halt") at d) (λ (halt : Data).
-    chain (required_at (codes "prepare") at d) (λ (prepare : Data).
-    chain (required_at (codes "init") at d) (λ (init : Data).
-    chain (no_more_than 5 at d) (λ (_ : ⊤).
-    chain (read_new_mode kind done (member_path at (codes "mode")) mode) (λ (mode : ℕ).
-    chain (whole_at 0 1000001 (member_path at (codes "load")) load) (λ (load : ℕ).
-    chain (read_phase (member_path at (codes "halt")) halt) (λ (halt : ℕ).
-    chain (read_phase (member_path at (codes "prepare")) prepare) (λ (prepare : ℕ).
-    chain (read_phase (member_path at (codes "init")) init) (λ (init : ℕ).
-    Ok (record { mode = record { 0 = mode }; load = load; halt = halt; prepare = prepare; init = init })))))))))))))
+    chain (exactly_five_at (codes "mode") (codes "load") (codes "halt") (codes "prepare") (codes "init") at d)
+    (λ (m : Data × Data × Data × Data × Data).
+    chain (read_new_mode kind done (member_path at (codes "mode")) m.0) (λ (mode : ℕ).
+    chain (whole_at 0 1000001 (member_path at (codes "load")) m.1) (λ (load : ℕ).
+    chain (read_phase (member_path at (codes "halt")) m.2) (λ (halt : ℕ).
+    chain (read_phase (member_path at (codes "prepare")) m.3) (λ (prepare : ℕ).
+    chain (read_phase (member_path at (codes "init")) m.4) (λ (init : ℕ).
+    Ok (record { mode = record { 0 = mode }; load = load; halt = halt; prepare = prepare; init = init })))))))
 
 -- The 1 to 3 modes that an application lists, or the first broken rule.
 abbrev pub read_modes : ℕ → List ℕ → Data → Result (List ModeSpec) DocFault
@@ -63,14 +58,10 @@ check_text_list at d = chain (list_at 0 8 at d) (λ (ds : Items). folded_from ch
 -- application of `done` may have its name.
 abbrev pub read_app : List ℕ → List AppSpec → Data → Result AppSpec DocFault
 read_app at done d =
-    chain (object_at at d) (λ (_ : ⊤).
-    chain (required_at (codes "name") at d) (λ (name : Data).
-    chain (required_at (codes "kind") at d) (λ (kind : Data).
-    chain (required_at (codes "needs") at d) (λ (needs : Data).
-    chain (required_at (codes "modes") at d) (λ (modes : Data).
-    chain (no_more_than 4 at d) (λ (_ : ⊤).
-    chain (read_new_name name_of_app done (member_path at (codes "name")) name) (λ (name : List ℕ).
-    chain (read_kind (member_path at (codes "kind")) kind) (λ (kind : ℕ).
-    chain (check_text_list (member_path at (codes "needs")) needs) (λ (_ : ⊤).
-    chain (read_modes kind (member_path at (codes "modes")) modes) (λ (modes : List ModeSpec).
-    Ok (record { name = name; kind = record { 0 = kind }; needs = []; modes = modes; rank = 0 })))))))))))
+    chain (exactly_four_at (codes "name") (codes "kind") (codes "needs") (codes "modes") at d)
+    (λ (m : Data × Data × Data × Data).
+    chain (read_new_name name_of_app done (member_path at (codes "name")) m.0) (λ (name : List ℕ).
+    chain (read_kind (member_path at (codes "kind")) m.1) (λ (kind : ℕ).
+    chain (check_text_list (member_path at (codes "needs")) m.2) (λ (_ : ⊤).
+    chain (read_modes kind (member_path at (codes "modes")) m.3) (λ (modes : List ModeSpec).
+    Ok (record { name = name; kind = record { 0 = kind }; needs = []; modes = modes; rank = 0 }))))))

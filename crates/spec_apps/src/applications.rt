@@ -12,8 +12,8 @@ ghost use Rattle.spec_apps.specs.Facts.{IsNewMode, IsNewApp};
 
 use kind_table::{kind_named, mode_named};
 use scram_doc::{
-    DocError, DocFault, Elements, Lengths, NamedElements, Numbered, Path, list, no_more_than,
-    object, read_list, required, text, whole_in,
+    DocError, DocFault, Elements, Lengths, NamedElements, Numbered, Path, exactly_five,
+    exactly_four, list, read_list, text, whole_in,
 };
 use scram_types::limits::{MAX_APPLICATIONS, MAX_LOAD, MAX_MODES, MAX_PHASE};
 use scram_types::{AppSpec, KindId, List, Mode, ModeSpec};
@@ -75,13 +75,8 @@ impl Elements<ModeSpec> for Modes {
         v: &Value,
         at: &Path,
     ) -> Result<ModeSpec, DocError> {
-        object(v, at)?;
-        let mode = required(v, "mode", at)?;
-        let load = required(v, "load", at)?;
-        let halt = required(v, "halt", at)?;
-        let prepare = required(v, "prepare", at)?;
-        let init = required(v, "init", at)?;
-        no_more_than(v, 5, at)?;
+        let names = ("mode", "load", "halt", "prepare", "init");
+        let (mode, load, halt, prepare, init) = exactly_five(v, names, at)?;
         let mode = read_new_mode(self.kind, done, mode, &at.member("mode"))?;
         let load = whole_in(load, 0, MAX_LOAD + 1, &at.member("load"))?;
         let halt = read_phase(halt, &at.member("halt"))?;
@@ -138,12 +133,8 @@ impl NamedElements<AppSpec, ByName> for Apps {
         v: &Value,
         at: &Path,
     ) -> Result<AppSpec, DocError> {
-        object(v, at)?;
-        let name = required(v, "name", at)?;
-        let kind = required(v, "kind", at)?;
-        let needs = required(v, "needs", at)?;
-        let modes = required(v, "modes", at)?;
-        no_more_than(v, 4, at)?;
+        let names = ("name", "kind", "needs", "modes");
+        let (name, kind, needs, modes) = exactly_four(v, names, at)?;
         let name = read_new_name(done, name, &at.member("name"))?;
         let kind = read_kind(kind, &at.member("kind"))?;
         check_text_list(needs, &at.member("needs"))?;

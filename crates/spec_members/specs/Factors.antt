@@ -1,11 +1,11 @@
 -- How environment factors are read.
-use Rattle.std.specs.Prelude.{ℕ, List, codes, Result, Ok, ⊤}
+use Rattle.std.specs.Prelude.{ℕ, List, codes, Result, Ok}
 use Rattle.serde_json.specs.Data.{Data}
 use Rattle.scram_types.specs.declared.specification.Factor.{Factor}
 use Rattle.scram_doc.specs.declared.fault.DocFault.{DocFault}
 use Rattle.scram_doc.specs.Chain.{chain}
 use Rattle.scram_doc.specs.Paths.{member_path}
-use Rattle.scram_doc.specs.Members.{object_at, required_at, no_more_than}
+use Rattle.scram_doc.specs.Members.{exactly_two_at}
 use Rattle.scram_doc.specs.Lists.{elements_at}
 use Rattle.scram_doc.specs.Numbering.{itself}
 use Rattle.spec_members.specs.Names.{read_new_name, name_of_factor}
@@ -19,13 +19,10 @@ read_value_name at done d = read_new_name itself done at d
 -- The factor has 2 to 4 values.
 abbrev pub read_factor : List ℕ → List Factor → Data → Result Factor DocFault
 read_factor at done d =
-    chain (object_at at d) (λ (_ : ⊤).
-    chain (required_at (codes "name") at d) (λ (name : Data).
-    chain (required_at (codes "values") at d) (λ (values : Data).
-    chain (no_more_than 2 at d) (λ (_ : ⊤).
-    chain (read_new_name name_of_factor done (member_path at (codes "name")) name) (λ (name : List ℕ).
-    chain (elements_at read_value_name 2 4 (member_path at (codes "values")) values) (λ (values : List (List ℕ)).
-    Ok (record { name = name; values = values })))))))
+    chain (exactly_two_at (codes "name") (codes "values") at d) (λ (m : Data × Data).
+    chain (read_new_name name_of_factor done (member_path at (codes "name")) m.0) (λ (name : List ℕ).
+    chain (elements_at read_value_name 2 4 (member_path at (codes "values")) m.1) (λ (values : List (List ℕ)).
+    Ok (record { name = name; values = values }))))
 
 -- The 0 to 6 factors of a document, or the first broken rule.
 abbrev pub read_factors : List ℕ → Data → Result (List Factor) DocFault

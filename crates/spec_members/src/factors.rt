@@ -11,10 +11,7 @@ ghost use Rattle.spec_members.specs.Found.{AreMembers};
 
 use crate::members::Members;
 use crate::names::{ByName, read_new_name};
-use scram_doc::{
-    DocError, Lengths, NamedElements, Numbered, Path, no_more_than, object, read_named_list,
-    required,
-};
+use scram_doc::{DocError, Lengths, NamedElements, Numbered, Path, exactly_two, read_named_list};
 use scram_types::limits::{MAX_FACTORS, MAX_VALUES, MIN_VALUES};
 use scram_types::{Factor, List, Name};
 use serde_json::Value;
@@ -60,10 +57,7 @@ impl NamedElements<Factor, ByName> for Factors {
         v: &Value,
         at: &Path,
     ) -> Result<Factor, DocError> {
-        object(v, at)?;
-        let name = required(v, "name", at)?;
-        let values = required(v, "values", at)?;
-        no_more_than(v, 2, at)?;
+        let (name, values) = exactly_two(v, ("name", "values"), at)?;
         let name = read_new_name(done, name, &at.member("name"))?;
         let at = at.member("values");
         let values = read_named_list(

@@ -12,8 +12,7 @@ ghost use Rattle.spec_members.specs.Found.{AreMembers};
 use crate::members::Members;
 use crate::names::{ByName, read_new_name};
 use scram_doc::{
-    DocError, Lengths, NamedElements, Numbered, Path, no_more_than, object, read_named_list,
-    required, whole_in,
+    DocError, Lengths, NamedElements, Numbered, Path, exactly_two, read_named_list, whole_in,
 };
 use scram_types::Proc;
 use scram_types::limits::{MAX_LOAD, MAX_PROCESSORS};
@@ -38,10 +37,7 @@ impl NamedElements<Proc, ByName> for Procs {
         v: &Value,
         at: &Path,
     ) -> Result<Proc, DocError> {
-        object(v, at)?;
-        let name = required(v, "name", at)?;
-        let capacity = required(v, "capacity", at)?;
-        no_more_than(v, 2, at)?;
+        let (name, capacity) = exactly_two(v, ("name", "capacity"), at)?;
         let name = read_new_name(done, name, &at.member("name"))?;
         let capacity = whole_in(capacity, 0, MAX_LOAD + 1, &at.member("capacity"))?;
         Ok(Proc { name, capacity })
