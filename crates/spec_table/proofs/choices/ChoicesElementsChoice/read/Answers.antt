@@ -5,7 +5,7 @@ pub returns-clause-fits : goal.returns-clause-fits
 returns-clause-fits c = rw (c.of.ensures) (record {
   from = search rules;
   few = search rules;
-  wants = c.in_ok-wants-2.ensures.fits;
+  wants = c.in_ok-wants.ensures.fits;
   up = search rules;
   to = search rules;
 })
