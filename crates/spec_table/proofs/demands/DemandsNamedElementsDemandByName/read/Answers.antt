@@ -9,3 +9,6 @@ returns-clause-fits c = rw (c.of.ensures) (record {
   wants = c.in_ok-wants.ensures.fits;
   asked = c.in_ok-up.ensures.fits;
 })
+
+pub read_confs_set-requires-clause-few : goal.read_confs_set-requires-clause-few
+read_confs_set-requires-clause-few c = c.vocabulary.invariant.confs_count.few
