@@ -13,7 +13,7 @@ use Rattle.scram_doc.specs.declared.fault.DocFault.{DocFault}
 use Rattle.scram_doc.specs.Lists.{elements_at, elements_from}
 use Rattle.scram_doc.specs.Documents.{parsed}
 use Rattle.scram_doc.specs.Faults.{Answers}
-use Rattle.scram_doc.specs.Members.{required_at, no_more_than, object_at}
+use Rattle.scram_doc.specs.Members.{exactly_three_at, exactly_two_at}
 use Rattle.scram_doc.specs.Values.{list_at, text_at, whole_at}
 use Rattle.scram_doc.specs.Paths.{item_path, member_path}
 use Rattle.scram_types.specs.declared.ids.FactorId.{FactorId}
@@ -25,12 +25,6 @@ use Rattle.scram_types.specs.declared.specification.Factor.{Factor}
 use Rattle.scram_types.specs.declared.specification.Proc.{Proc}
 use Rattle.scram_types.specs.Scripts.{ScriptParts}
 use Rattle.scram_types.specs.Specification.{Each, Parts}
-use Rattle.scram_doc.specs.declared.fault.DocError.{DocError}
-use Rattle.scram_doc.specs.Documents.{parsed}
-use Rattle.scram_doc.specs.Faults.{Answers}
-use Rattle.scram_doc.specs.Members.{required_at, no_more_than, object_at}
-use Rattle.scram_doc.specs.Values.{list_at, text_at, whole_at}
-use Rattle.scram_doc.specs.Paths.{item_path, member_path}
 use Rattle.fault_script.specs.declared.rule.TheConstants.{OUT_OF_ORDER, WRONG_RESTART}
 use Rattle.fault_script.specs.declared.version.Version.{Version}
 use Rattle.fault_script.specs.declared.version.Version.TheVariants.{First, Second}
@@ -75,11 +69,7 @@ change_values_ok spec frames at df dx dv c e =
 
 change_at_ok : (spec : Parts) (frames : ℕ) (at : List ℕ) (d : Data) (c : Change) → read_change spec frames at d ≡ Ok c → IsChange spec frames c
 change_at_ok spec frames at d c e =
-    chain_ok (object_at at d) _ c e (λ _ _ e1.
-    chain_ok (required_at (codes "frame") at d) _ c e1 (λ df _ e2.
-    chain_ok (required_at (codes "factor") at d) _ c e2 (λ dx _ e3.
-    chain_ok (required_at (codes "value") at d) _ c e3 (λ dv _ e4.
-    chain_ok (no_more_than 3 at d) _ c e4 (λ _ _ e5. change_values_ok spec frames at df dx dv c e5)))))
+    chain_ok (exactly_three_at (codes "frame") (codes "factor") (codes "value") at d) _ c e (λ m _ rest. change_values_ok spec frames at m.0 m.1 m.2 c rest)
 
 comes_after_ok : (a b c d : ℕ) → comes_after a b c d ≡ true → Before a b c d
 comes_after_ok a b c d e = elim (or_cases (nat_lt a c) (a == c && nat_lt b d) e) [
@@ -153,11 +143,7 @@ make_is_halt spec frames at dp df ds h e =
 
 halt_at_ok : (spec : Parts) (frames : ℕ) (at : List ℕ) (d : Data) (h : HaltAt) → read_halt spec frames at d ≡ Ok h → IsHalt spec frames h
 halt_at_ok spec frames at d h e =
-    chain_ok (object_at at d) _ h e (λ _ _ e1.
-    chain_ok (required_at (codes "processor") at d) _ h e1 (λ dp _ e2.
-    chain_ok (required_at (codes "frame") at d) _ h e2 (λ df _ e3.
-    chain_ok (required_at (codes "step") at d) _ h e3 (λ ds _ e4.
-    chain_ok (no_more_than 3 at d) _ h e4 (λ _ _ e5. make_is_halt spec frames at dp df ds h e5)))))
+    chain_ok (exactly_three_at (codes "processor") (codes "frame") (codes "step") at d) _ h e (λ m _ rest. make_is_halt spec frames at m.0 m.1 m.2 h rest)
 
 pub record GoodHalts (spec : Parts) (frames : ℕ) (halts : List HaltAt) : Type 0 where
   pub each : Each (IsHalt spec frames) halts
@@ -195,10 +181,7 @@ make_is_restart spec frames at dp df r e =
 
 restart_at_ok : (spec : Parts) (frames : ℕ) (at : List ℕ) (d : Data) (r : RestartAt) → read_restart spec frames at d ≡ Ok r → IsRestart spec frames r
 restart_at_ok spec frames at d r e =
-    chain_ok (object_at at d) _ r e (λ _ _ e1.
-    chain_ok (required_at (codes "processor") at d) _ r e1 (λ dp _ e2.
-    chain_ok (required_at (codes "frame") at d) _ r e2 (λ df _ e3.
-    chain_ok (no_more_than 2 at d) _ r e3 (λ _ _ e4. make_is_restart spec frames at dp df r e4))))
+    chain_ok (exactly_two_at (codes "processor") (codes "frame") at d) _ r e (λ m _ rest. make_is_restart spec frames at m.0 m.1 r rest)
 
 abbrev pub Differ : RestartAt → RestartAt → Type 0
 Differ a b = a.proc.0 ≡ b.proc.0 → ⊥

@@ -6,7 +6,7 @@ use Rattle.scram_doc.specs.Chain.{chain, ok_map}
 use Rattle.scram_doc.specs.Documents.{parsed}
 use Rattle.scram_doc.specs.Faults.{broken, or_broken}
 use Rattle.scram_doc.specs.Lists.{elements_at}
-use Rattle.scram_doc.specs.Members.{required_at, no_more_than, object_at}
+use Rattle.scram_doc.specs.Members.{exactly_three_at, exactly_two_at, required_at, required_four_at, no_more_than, object_at}
 use Rattle.scram_doc.specs.Paths.{item_path, member_path}
 use Rattle.scram_doc.specs.Values.{text_at, whole_at}
 use Rattle.scram_types.specs.declared.ids.FactorId.{FactorId}
@@ -66,12 +66,8 @@ change_values spec frames at frame factor value =
 -- The change that the value at a path encodes, or the first broken rule.
 abbrev pub read_change : Parts → ℕ → List ℕ → Data → Result Change DocFault
 read_change spec frames at d =
-    chain (object_at at d) (λ (_ : ⊤).
-    chain (required_at (codes "frame") at d) (λ (frame : Data).
-    chain (required_at (codes "factor") at d) (λ (factor : Data).
-    chain (required_at (codes "value") at d) (λ (value : Data).
-    chain (no_more_than 3 at d) (λ (_ : ⊤).
-    change_values spec frames at frame factor value)))))
+    chain (exactly_three_at (codes "frame") (codes "factor") (codes "value") at d) (λ (m : Data × Data × Data).
+    change_values spec frames at m.0 m.1 m.2)
 
 -- The change that a value encodes, or the first broken rule. The change must come after the preceding ones.
 abbrev pub read_next_change : Parts → ℕ → List ℕ → List Change → Data → Result Change DocFault
@@ -99,12 +95,8 @@ halt_values spec frames at proc frame step =
 -- The halt that the value at a path encodes, or the first broken rule.
 abbrev pub read_halt : Parts → ℕ → List ℕ → Data → Result HaltAt DocFault
 read_halt spec frames at d =
-    chain (object_at at d) (λ (_ : ⊤).
-    chain (required_at (codes "processor") at d) (λ (proc : Data).
-    chain (required_at (codes "frame") at d) (λ (frame : Data).
-    chain (required_at (codes "step") at d) (λ (step : Data).
-    chain (no_more_than 3 at d) (λ (_ : ⊤).
-    halt_values spec frames at proc frame step)))))
+    chain (exactly_three_at (codes "processor") (codes "frame") (codes "step") at d) (λ (m : Data × Data × Data).
+    halt_values spec frames at m.0 m.1 m.2)
 
 -- The halt that a value encodes, or the first broken rule. The halt must come after the preceding ones.
 abbrev pub read_next_halt : Parts → Version → ℕ → List ℕ → List HaltAt → Data → Result HaltAt DocFault
@@ -131,11 +123,8 @@ restart_values spec frames at proc frame =
 -- The restart that the value at a path encodes, or the first broken rule.
 abbrev pub read_restart : Parts → ℕ → List ℕ → Data → Result RestartAt DocFault
 read_restart spec frames at d =
-    chain (object_at at d) (λ (_ : ⊤).
-    chain (required_at (codes "processor") at d) (λ (proc : Data).
-    chain (required_at (codes "frame") at d) (λ (frame : Data).
-    chain (no_more_than 2 at d) (λ (_ : ⊤).
-    restart_values spec frames at proc frame))))
+    chain (exactly_two_at (codes "processor") (codes "frame") at d) (λ (m : Data × Data).
+    restart_values spec frames at m.0 m.1)
 
 -- The restart that a value encodes, or the first broken rule. The restart must come after the preceding ones.
 abbrev pub read_next_restart : Parts → ℕ → List HaltAt → List ℕ → List RestartAt → Data → Result RestartAt DocFault
@@ -180,13 +169,10 @@ need_restarts Second d = ok_map (λ (restarts : Data). Some restarts) (required_
 abbrev pub find_members : Version → Data → Result ScriptMembers DocFault
 find_members version d =
     chain (object_at [] d) (λ (_ : ⊤).
-    chain (required_at (codes "scram") [] d) (λ (scram : Data).
-    chain (required_at (codes "frames") [] d) (λ (frames : Data).
-    chain (required_at (codes "changes") [] d) (λ (changes : Data).
-    chain (required_at (codes "halts") [] d) (λ (halts : Data).
+    chain (required_four_at (codes "scram") (codes "frames") (codes "changes") (codes "halts") [] d) (λ (m : Data × Data × Data × Data).
     chain (need_restarts version d) (λ (restarts : Option Data).
     chain (no_more_than (member_count version) [] d) (λ (_ : ⊤).
-    Ok (make_members scram frames changes halts restarts))))))))
+    Ok (make_members m.0 m.1 m.2 m.3 restarts)))))
 
 -- The number of frames of a script, or the first broken rule. The version is checked first.
 abbrev pub read_frames : Data → Data → Result ℕ DocFault

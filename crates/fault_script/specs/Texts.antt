@@ -54,6 +54,11 @@ data_with_restarts spec script = object
     (member (codes "restarts") (list_data (restart_data spec) script.restarts)
     (member (codes "scram") (count_data 2) no_members)))))
 
+-- The number of the version in which a script with these restarts is written.
+abbrev pub version_for : List RestartAt → ℕ
+version_for [] = 1
+version_for (_ ∷ _) = 2
+
 -- The canonical value of a script, given its list of restarts: in the first version if the list is empty, else in the
 -- second.
 abbrev pub script_data_by : List RestartAt → Parts → ScriptParts → Data

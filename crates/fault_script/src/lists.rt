@@ -8,9 +8,7 @@ ghost use Rattle.fault_script.specs.Reading.{find_value, check, read_change, rea
 use crate::order::{change_follows, halt_follows, restart_follows};
 use crate::version::Version;
 use crate::{ScriptError, ScriptFault, rule};
-use scram_doc::{
-    Elements, Lengths, Path, no_more_than, object, read_list, required, text, whole_in,
-};
+use scram_doc::{Elements, Lengths, Path, exactly_three, exactly_two, read_list, text, whole_in};
 use scram_types::limits::MAX_CHANGES;
 use scram_types::{Change, FactorId, HaltAt, List, ProcId, RestartAt, Spec};
 use serde_json::Value;
@@ -68,11 +66,7 @@ fn read_change(spec: &Spec, frames: u32, v: &Value, at: &Path) -> Result<Change,
     requires { length at.now ≤ 40 }
     ensures { result ≡ read_change spec.now frames at.now (view v.now) }
 {
-    object(v, at)?;
-    let frame = required(v, "frame", at)?;
-    let factor = required(v, "factor", at)?;
-    let value = required(v, "value", at)?;
-    no_more_than(v, 3, at)?;
+    let (frame, factor, value) = exactly_three(v, ("frame", "factor", "value"), at)?;
     let frame = whole_in(frame, 1, frames, &at.member("frame"))?;
     let factor = read_named_factor(spec, factor, &at.member("factor"))?;
     let value = read_named_value(spec, factor, value, &at.member("value"))?;
@@ -136,11 +130,7 @@ fn read_halt(spec: &Spec, frames: u32, v: &Value, at: &Path) -> Result<HaltAt, S
     requires { length at.now ≤ 40 }
     ensures { result ≡ read_halt spec.now frames at.now (view v.now) }
 {
-    object(v, at)?;
-    let proc = required(v, "processor", at)?;
-    let frame = required(v, "frame", at)?;
-    let step = required(v, "step", at)?;
-    no_more_than(v, 3, at)?;
+    let (proc, frame, step) = exactly_three(v, ("processor", "frame", "step"), at)?;
     let proc = read_named_proc(spec, proc, &at.member("processor"))?;
     let frame = whole_in(frame, 0, frames, &at.member("frame"))?;
     let words = 8 * spec.apps.items().len() as u32;
@@ -210,10 +200,7 @@ fn read_restart(spec: &Spec, frames: u32, v: &Value, at: &Path) -> Result<Restar
     requires { length at.now ≤ 40 }
     ensures { result ≡ read_restart spec.now frames at.now (view v.now) }
 {
-    object(v, at)?;
-    let proc = required(v, "processor", at)?;
-    let frame = required(v, "frame", at)?;
-    no_more_than(v, 2, at)?;
+    let (proc, frame) = exactly_two(v, ("processor", "frame"), at)?;
     let proc = read_named_proc(spec, proc, &at.member("processor"))?;
     let frame = whole_in(frame, 2, frames, &at.member("frame"))?;
     Ok(RestartAt { proc, frame })

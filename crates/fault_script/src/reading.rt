@@ -11,7 +11,7 @@ use crate::lists::{Halts, Restarts, check, read_changes, read_halts, read_restar
 use crate::order::may_halt;
 use crate::version::{Version, version_of};
 use crate::{ScriptError, ScriptFault, rule};
-use scram_doc::{Path, no_more_than, object, parse, required, whole_in};
+use scram_doc::{Path, no_more_than, object, parse, required, required_four, whole_in};
 use scram_types::limits::{MAX_FRAMES, MAX_SCRIPT_BYTES};
 use scram_types::{HaltAt, RestartAt, Script, Spec};
 use serde_json::Value;
@@ -69,10 +69,8 @@ fn find_members(version: Version, v: &Value) -> Result<Members<'_>, ScriptFault>
 {
     let at = Path::root();
     object(v, &at)?;
-    let scram = required(v, "scram", &at)?;
-    let frames = required(v, "frames", &at)?;
-    let changes = required(v, "changes", &at)?;
-    let halts = required(v, "halts", &at)?;
+    let names = ("scram", "frames", "changes", "halts");
+    let (scram, frames, changes, halts) = required_four(v, names, &at)?;
     let restarts = need_restarts(version, v)?;
     no_more_than(v, version.member_count(), &at)?;
     Ok(Members {

@@ -5,7 +5,7 @@ ghost use Rattle.serde_json.specs.Read.{read};
 ghost use Rattle.serde_json.specs.View.{view};
 ghost use Rattle.fault_script.specs.Fits.{Fits};
 ghost use Rattle.fault_script.specs.Reading.{script_of};
-ghost use Rattle.fault_script.specs.Texts.{change_data, data_with_restarts, data_without_restarts, halt_data, new_value_name, restart_data, script_data, script_text};
+ghost use Rattle.fault_script.specs.Texts.{change_data, halt_data, new_value_name, restart_data, script_data, script_text, version_for};
 
 use scram_doc::{Object, Writes};
 use scram_types::{Change, HaltAt, NoMemory, RestartAt, Script, Spec};
@@ -69,37 +69,29 @@ impl Writes<RestartAt> for Writer<'_> {
     }
 }
 
-fn make_without_restarts(alloc: Global, spec: &Spec, script: &Script) -> Result<Value, AllocError>
-    ensures { IfOk result (λ v. view v ≡ data_without_restarts spec.now script.now) }
+// Returns the number of the version in which a script with these restarts is written.
+fn version_for(restarts: &[RestartAt]) -> u32
+    ensures { result ≡ version_for restarts.now }
 {
-    let writer = Writer { spec };
-    let object = Object::new(alloc)
-        .count("scram", 1)?
-        .count("frames", script.frames)?
-        .list("changes", &writer, script.changes.items())?
-        .list("halts", &writer, script.halts.items())?;
-    Ok(object.into_value())
-}
-
-fn make_with_restarts(alloc: Global, spec: &Spec, script: &Script) -> Result<Value, AllocError>
-    ensures { IfOk result (λ v. view v ≡ data_with_restarts spec.now script.now) }
-{
-    let writer = Writer { spec };
-    let object = Object::new(alloc)
-        .count("scram", 2)?
-        .count("frames", script.frames)?
-        .list("changes", &writer, script.changes.items())?
-        .list("halts", &writer, script.halts.items())?
-        .list("restarts", &writer, script.restarts.items())?;
-    Ok(object.into_value())
+    match restarts {
+        [] => 1,
+        [_, ..] => 2,
+    }
 }
 
 fn make_script(alloc: Global, spec: &Spec, script: &Script) -> Result<Value, AllocError>
     ensures { IfOk result (λ v. view v ≡ script_data spec.now script.now) }
 {
-    match script.restarts.items() {
-        [] => make_without_restarts(alloc, spec, script),
-        [_, ..] => make_with_restarts(alloc, spec, script),
+    let writer = Writer { spec };
+    let restarts = script.restarts.items();
+    let object = Object::new(alloc)
+        .count("scram", version_for(restarts))?
+        .count("frames", script.frames)?
+        .list("changes", &writer, script.changes.items())?
+        .list("halts", &writer, script.halts.items())?;
+    match restarts {
+        [] => Ok(object.into_value()),
+        [_, ..] => Ok(object.list("restarts", &writer, restarts)?.into_value()),
     }
 }
 

@@ -1,5 +1,5 @@
 -- The reading of bounds on reconfigurations.
-use Rattle.std.specs.Prelude.{ℕ, List, codes, is_some, Result, Ok, ⊤, if◌then◌else◌}
+use Rattle.std.specs.Prelude.{ℕ, List, codes, is_some, Result, Ok, if◌then◌else◌}
 use Rattle.serde_json.specs.Data.{Data}
 use Rattle.scram_types.specs.declared.ids.ConfId.{ConfId}
 use Rattle.scram_types.specs.declared.specification.Conf.{Conf}
@@ -9,7 +9,7 @@ use Rattle.scram_doc.specs.declared.fault.DocFault.{DocFault}
 use Rattle.scram_doc.specs.Chain.{chain}
 use Rattle.scram_doc.specs.Faults.{broken}
 use Rattle.scram_doc.specs.Paths.{member_path}
-use Rattle.scram_doc.specs.Members.{object_at, required_at, no_more_than}
+use Rattle.scram_doc.specs.Members.{exactly_three_at}
 use Rattle.scram_doc.specs.Values.{whole_at}
 use Rattle.spec_members.specs.declared.rule.TheConstants.{TWICE_IN_LIST}
 use Rattle.scram_doc.specs.Lists.{elements_at}
@@ -26,15 +26,11 @@ read_new_target confs done from at d =
 -- rule that the value breaks. The pair of configurations must have no bound in `done`.
 abbrev pub read_bound : List Conf → List ℕ → List Bound → Data → Result Bound DocFault
 read_bound confs at done d =
-    chain (object_at at d) (λ (_ : ⊤).
-    chain (required_at (codes "from") at d) (λ (from : Data).
-    chain (required_at (codes "to") at d) (λ (to : Data).
-    chain (required_at (codes "frames") at d) (λ (frames : Data).
-    chain (no_more_than 3 at d) (λ (_ : ⊤).
-    chain (read_conf_id confs (member_path at (codes "from")) from) (λ (from : ConfId).
-    chain (read_new_target confs done from (member_path at (codes "to")) to) (λ (to : ConfId).
-    chain (whole_at 1 1001 (member_path at (codes "frames")) frames) (λ (frames : ℕ).
-    Ok (record { from = from; to = to; frames = frames })))))))))
+    chain (exactly_three_at (codes "from") (codes "to") (codes "frames") at d) (λ (m : Data × Data × Data).
+    chain (read_conf_id confs (member_path at (codes "from")) m.0) (λ (from : ConfId).
+    chain (read_new_target confs done from (member_path at (codes "to")) m.1) (λ (to : ConfId).
+    chain (whole_at 1 1001 (member_path at (codes "frames")) m.2) (λ (frames : ℕ).
+    Ok (record { from = from; to = to; frames = frames })))))
 
 -- The 0 to 144 bounds that a value encodes, or the first document rule that the value breaks.
 abbrev pub read_bounds : List Conf → List ℕ → Data → Result (List Bound) DocFault

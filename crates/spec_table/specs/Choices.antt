@@ -1,5 +1,5 @@
 -- The reading of rules of the choice table.
-use Rattle.std.specs.Prelude.{ℕ, ◌==◌, Bool, List, codes, Option, Some, None, slice_get, Result, Ok, ⊤, if◌then◌else◌}
+use Rattle.std.specs.Prelude.{ℕ, ◌==◌, Bool, List, codes, Option, Some, None, slice_get, Result, Ok, if◌then◌else◌}
 use Rattle.std.specs.List.{list_any}
 use Rattle.std.specs.Str.{bytes_eq}
 use Rattle.serde_json.specs.Data.{Data}
@@ -13,7 +13,7 @@ use Rattle.scram_doc.specs.declared.fault.DocFault.{DocFault}
 use Rattle.scram_doc.specs.Chain.{chain, ok_map}
 use Rattle.scram_doc.specs.Faults.{broken, or_broken}
 use Rattle.scram_doc.specs.Paths.{member_path}
-use Rattle.scram_doc.specs.Members.{object_at, required_at, no_more_than}
+use Rattle.scram_doc.specs.Members.{exactly_four_at, exactly_two_at}
 use Rattle.scram_doc.specs.Values.{text_at}
 use Rattle.spec_members.specs.declared.rule.TheConstants.{UNKNOWN_CONFIGURATION, UNKNOWN_FACTOR_OR_VALUE, TWICE_IN_LIST}
 use Rattle.scram_doc.specs.Lists.{elements_at}
@@ -57,29 +57,21 @@ read_value_of (Some factor) at d = read_named itself factor.values UNKNOWN_FACTO
 -- document rule that the value breaks. No value in `done` may be a value of the same factor.
 abbrev pub read_want : List Factor → List ℕ → List Want → Data → Result Want DocFault
 read_want factors at done d =
-    chain (object_at at d) (λ (_ : ⊤).
-    chain (required_at (codes "factor") at d) (λ (factor : Data).
-    chain (required_at (codes "value") at d) (λ (value : Data).
-    chain (no_more_than 2 at d) (λ (_ : ⊤).
-    chain (read_new_factor factors done (member_path at (codes "factor")) factor) (λ (f : ℕ).
-    chain (read_value_of (slice_get factors f) (member_path at (codes "value")) value) (λ (value : ℕ).
-    Ok (record { factor = record { 0 = f }; value = value })))))))
+    chain (exactly_two_at (codes "factor") (codes "value") at d) (λ (m : Data × Data).
+    chain (read_new_factor factors done (member_path at (codes "factor")) m.0) (λ (f : ℕ).
+    chain (read_value_of (slice_get factors f) (member_path at (codes "value")) m.1) (λ (value : ℕ).
+    Ok (record { factor = record { 0 = f }; value = value }))))
 
 -- The rule of the choice table that a value encodes, given the processors, configurations and factors that it may
 -- name, or the first document rule that the value breaks.
 abbrev pub read_choice : List Proc → List Conf → List Factor → List ℕ → List Choice → Data → Result Choice DocFault
 read_choice procs confs factors at done d =
-    chain (object_at at d) (λ (_ : ⊤).
-    chain (required_at (codes "from") at d) (λ (from : Data).
-    chain (required_at (codes "when") at d) (λ (wants : Data).
-    chain (required_at (codes "up") at d) (λ (up : Data).
-    chain (required_at (codes "to") at d) (λ (to : Data).
-    chain (no_more_than 4 at d) (λ (_ : ⊤).
-    chain (read_source confs (member_path at (codes "from")) from) (λ (from : Option ConfId).
-    chain (elements_at (read_want factors) 0 6 (member_path at (codes "when")) wants) (λ (wants : List Want).
-    chain (read_procs_set procs 0 (member_path at (codes "up")) up) (λ (up : ℕ).
-    chain (read_conf_id confs (member_path at (codes "to")) to) (λ (to : ConfId).
-    Ok (record { from = from; wants = wants; up = up; to = to })))))))))))
+    chain (exactly_four_at (codes "from") (codes "when") (codes "up") (codes "to") at d) (λ (m : Data × Data × Data × Data).
+    chain (read_source confs (member_path at (codes "from")) m.0) (λ (from : Option ConfId).
+    chain (elements_at (read_want factors) 0 6 (member_path at (codes "when")) m.1) (λ (wants : List Want).
+    chain (read_procs_set procs 0 (member_path at (codes "up")) m.2) (λ (up : ℕ).
+    chain (read_conf_id confs (member_path at (codes "to")) m.3) (λ (to : ConfId).
+    Ok (record { from = from; wants = wants; up = up; to = to }))))))
 
 -- The 0 to 64 rules of the choice table that a value encodes, or the first document rule that the value breaks.
 abbrev pub read_choices : List Proc → List Conf → List Factor → List ℕ → Data → Result (List Choice) DocFault

@@ -1,5 +1,5 @@
 -- The reading of configurations.
-use Rattle.std.specs.Prelude.{ℕ, List, codes, Option, Some, None, is_some, replicate, set, slice_get, option_and_then, Result, Ok, ⊤, if◌then◌else◌}
+use Rattle.std.specs.Prelude.{ℕ, List, codes, Option, Some, None, is_some, replicate, set, slice_get, option_and_then, Result, Ok, if◌then◌else◌}
 use Rattle.serde_json.specs.Data.{Data, Items}
 use Rattle.scram_types.specs.declared.specification.Proc.{Proc}
 use Rattle.scram_types.specs.declared.specification.AppSpec.{AppSpec}
@@ -10,7 +10,7 @@ use Rattle.scram_doc.specs.declared.fault.DocFault.{DocFault}
 use Rattle.scram_doc.specs.Chain.{chain}
 use Rattle.scram_doc.specs.Faults.{broken}
 use Rattle.scram_doc.specs.Paths.{member_path}
-use Rattle.scram_doc.specs.Members.{object_at, required_at, no_more_than}
+use Rattle.scram_doc.specs.Members.{exactly_three_at, exactly_two_at}
 use Rattle.scram_doc.specs.Values.{list_at}
 use Rattle.spec_members.specs.declared.rule.TheConstants.{UNKNOWN_PROCESSOR, UNKNOWN_APPLICATION, TWICE_IN_LIST, MODE_NOT_LISTED}
 use Rattle.scram_doc.specs.Lists.{elements_at, folded_from}
@@ -40,15 +40,11 @@ read_listed_mode (Some app) at d =
 -- application of the place must have no place in `places`.
 abbrev pub read_place : List Proc → List AppSpec → List ℕ → List (Option Place) → Data → Result (List (Option Place)) DocFault
 read_place procs apps at places d =
-    chain (object_at at d) (λ (_ : ⊤).
-    chain (required_at (codes "app") at d) (λ (app : Data).
-    chain (required_at (codes "mode") at d) (λ (mode : Data).
-    chain (required_at (codes "on") at d) (λ (on : Data).
-    chain (no_more_than 3 at d) (λ (_ : ⊤).
-    chain (read_new_app apps places (member_path at (codes "app")) app) (λ (a : ℕ).
-    chain (read_listed_mode (slice_get apps a) (member_path at (codes "mode")) mode) (λ (mode : ℕ).
-    chain (read_named name_of_proc procs UNKNOWN_PROCESSOR (member_path at (codes "on")) on) (λ (proc : ℕ).
-    Ok (set places a (Some (record { mode = record { 0 = mode }; proc = record { 0 = proc } })))))))))))
+    chain (exactly_three_at (codes "app") (codes "mode") (codes "on") at d) (λ (m : Data × Data × Data).
+    chain (read_new_app apps places (member_path at (codes "app")) m.0) (λ (a : ℕ).
+    chain (read_listed_mode (slice_get apps a) (member_path at (codes "mode")) m.1) (λ (mode : ℕ).
+    chain (read_named name_of_proc procs UNKNOWN_PROCESSOR (member_path at (codes "on")) m.2) (λ (proc : ℕ).
+    Ok (set places a (Some (record { mode = record { 0 = mode }; proc = record { 0 = proc } })))))))
 
 -- The 0 to 8 places that a value encodes, or the first document rule that the value breaks. An application without a
 -- place is off.
@@ -60,13 +56,10 @@ read_place_list procs apps at d =
 -- `done` may have its name.
 abbrev pub read_conf : List Proc → List AppSpec → List ℕ → List Conf → Data → Result Conf DocFault
 read_conf procs apps at done d =
-    chain (object_at at d) (λ (_ : ⊤).
-    chain (required_at (codes "name") at d) (λ (name : Data).
-    chain (required_at (codes "apps") at d) (λ (places : Data).
-    chain (no_more_than 2 at d) (λ (_ : ⊤).
-    chain (read_new_name name_of_conf done (member_path at (codes "name")) name) (λ (name : List ℕ).
-    chain (read_place_list procs apps (member_path at (codes "apps")) places) (λ (places : List (Option Place)).
-    Ok (record { name = name; places = places })))))))
+    chain (exactly_two_at (codes "name") (codes "apps") at d) (λ (m : Data × Data).
+    chain (read_new_name name_of_conf done (member_path at (codes "name")) m.0) (λ (name : List ℕ).
+    chain (read_place_list procs apps (member_path at (codes "apps")) m.1) (λ (places : List (Option Place)).
+    Ok (record { name = name; places = places }))))
 
 -- The 1 to 12 configurations that a value encodes, or the first document rule that the value breaks.
 abbrev pub read_confs : List Proc → List AppSpec → List ℕ → Data → Result (List Conf) DocFault

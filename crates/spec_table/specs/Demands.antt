@@ -14,7 +14,7 @@ use Rattle.scram_doc.specs.declared.fault.DocFault.{DocFault}
 use Rattle.scram_doc.specs.Chain.{chain}
 use Rattle.scram_doc.specs.Faults.{broken}
 use Rattle.scram_doc.specs.Lists.{elements_at, folded_from}
-use Rattle.scram_doc.specs.Members.{object_at, required_at, no_more_than}
+use Rattle.scram_doc.specs.Members.{exactly_two_at, no_more_than, object_at, required_four_at}
 use Rattle.scram_doc.specs.Paths.{member_path}
 use Rattle.scram_doc.specs.Values.{list_at}
 use Rattle.spec_members.specs.declared.rule.TheConstants.{MODE_TWICE}
@@ -40,13 +40,10 @@ read_on_modes found at d = chain (list_at 0 3 at d) (λ (ds : Items). folded_fro
 -- breaks. `on` contains the modes of each application that must be on, and must have none for this application.
 abbrev pub read_on_app : List AppSpec → List ℕ → List (Option (List Mode)) → Data → Result (List (Option (List Mode))) DocFault
 read_on_app apps at on d =
-    chain (object_at at d) (λ (_ : ⊤).
-    chain (required_at (codes "app") at d) (λ (app : Data).
-    chain (required_at (codes "modes") at d) (λ (modes : Data).
-    chain (no_more_than 2 at d) (λ (_ : ⊤).
-    chain (read_new_app apps on (member_path at (codes "app")) app) (λ (a : ℕ).
-    chain (read_on_modes (slice_get apps a) (member_path at (codes "modes")) modes) (λ (modes : List Mode).
-    Ok (set on a (Some modes))))))))
+    chain (exactly_two_at (codes "app") (codes "modes") at d) (λ (m : Data × Data).
+    chain (read_new_app apps on (member_path at (codes "app")) m.0) (λ (a : ℕ).
+    chain (read_on_modes (slice_get apps a) (member_path at (codes "modes")) m.1) (λ (modes : List Mode).
+    Ok (set on a (Some modes)))))
 
 -- The modes of each application that must be on, as a value encodes them, or the first document rule that the value
 -- breaks. There are 0 to 8 such applications.
@@ -57,36 +54,53 @@ read_modes_on apps at d = chain (list_at 0 8 at d) (λ (ds : Items). folded_from
 abbrev pub on_set : List (Option (List Mode)) → ℕ
 on_set on = bits_below (λ a. is_some (given on a)) 8
 
+-- The values of a demand's members.
+pub record DemandMembers : Type 0 where
+  pub name : Data
+  pub from : Data
+  pub wants : Data
+  pub up : Data
+  pub down : Data
+  pub to : Data
+  pub on : Data
+  pub off : Data
+
+-- The values of a demand's members, in the order in which they are looked up.
+abbrev pub make_members : Data → Data → Data → Data → Data → Data → Data → Data → DemandMembers
+make_members name from wants up down to on off =
+    record { name = name; from = from; wants = wants; up = up; down = down; to = to; on = on; off = off }
+
+-- The values of the members of the demand that a value encodes, or the first document rule that is broken. The value
+-- must be an object that has exactly the members of a demand.
+abbrev pub find_members : List ℕ → Data → Result DemandMembers DocFault
+find_members at d =
+    chain (object_at at d) (λ (_ : ⊤).
+    chain (required_four_at (codes "name") (codes "from") (codes "when") (codes "up") at d) (λ (m : Data × Data × Data × Data).
+    chain (required_four_at (codes "down") (codes "to") (codes "on") (codes "off") at d) (λ (n : Data × Data × Data × Data).
+    chain (no_more_than 8 at d) (λ (_ : ⊤).
+    Ok (make_members m.0 m.1 m.2 m.3 n.0 n.1 n.2 n.3)))))
+
 -- The requirements of a demand on processors, applications and the chosen configuration, or the first document rule
--- that they break. They are read from members of the demand's object at path `at`.
-abbrev pub read_requirements : List Proc → List AppSpec → List Conf → List ℕ → Data → Data → Data → Data → Data → Result Requirements DocFault
-read_requirements procs apps confs at up down to on off =
-    chain (read_procs_set procs 0 (member_path at (codes "up")) up) (λ (up : ℕ).
-    chain (read_procs_set procs up (member_path at (codes "down")) down) (λ (down : ℕ).
-    chain (read_confs_set confs (member_path at (codes "to")) to) (λ (to : ℕ).
-    chain (read_modes_on apps (member_path at (codes "on")) on) (λ (on : List (Option (List Mode))).
-    chain (read_apps_set apps (on_set on) (member_path at (codes "off")) off) (λ (off : ℕ).
+-- that they break. They are read from the members of the demand's object at path `at`.
+abbrev pub read_requirements : List Proc → List AppSpec → List Conf → List ℕ → DemandMembers → Result Requirements DocFault
+read_requirements procs apps confs at m =
+    chain (read_procs_set procs 0 (member_path at (codes "up")) m.up) (λ (up : ℕ).
+    chain (read_procs_set procs up (member_path at (codes "down")) m.down) (λ (down : ℕ).
+    chain (read_confs_set confs (member_path at (codes "to")) m.to) (λ (to : ℕ).
+    chain (read_modes_on apps (member_path at (codes "on")) m.on) (λ (on : List (Option (List Mode))).
+    chain (read_apps_set apps (on_set on) (member_path at (codes "off")) m.off) (λ (off : ℕ).
     Ok (record { up = up; down = down; to = to; on = on; off = off }))))))
 
 -- The demand that a value encodes, given the items that it may name, or the first document rule that the value
 -- breaks. No demand in `done` may have its name.
 abbrev pub read_demand : List Proc → List AppSpec → List Conf → List Factor → List ℕ → List Demand → Data → Result Demand DocFault
 read_demand procs apps confs factors at done d =
-    chain (object_at at d) (λ (_ : ⊤).
-    chain (required_at (codes "name") at d) (λ (name : Data).
-    chain (required_at (codes "from") at d) (λ (from : Data).
-    chain (required_at (codes "when") at d) (λ (wants : Data).
-    chain (required_at (codes "up") at d) (λ (up : Data).
-    chain (required_at (codes "down") at d) (λ (down : Data).
-    chain (required_at (codes "to") at d) (λ (to : Data).
-    chain (required_at (codes "on") at d) (λ (on : Data).
-    chain (required_at (codes "off") at d) (λ (off : Data).
-    chain (no_more_than 8 at d) (λ (_ : ⊤).
-    chain (read_new_name name_of_demand done (member_path at (codes "name")) name) (λ (name : List ℕ).
-    chain (read_confs_set confs (member_path at (codes "from")) from) (λ (from : ℕ).
-    chain (elements_at (read_want factors) 0 6 (member_path at (codes "when")) wants) (λ (wants : List Want).
-    chain (read_requirements procs apps confs at up down to on off) (λ (asked : Requirements).
-    Ok (record { name = name; from = from; wants = wants; up = asked.up; down = asked.down; to = asked.to; on = asked.on; off = asked.off })))))))))))))))
+    chain (find_members at d) (λ (m : DemandMembers).
+    chain (read_new_name name_of_demand done (member_path at (codes "name")) m.name) (λ (name : List ℕ).
+    chain (read_confs_set confs (member_path at (codes "from")) m.from) (λ (from : ℕ).
+    chain (elements_at (read_want factors) 0 6 (member_path at (codes "when")) m.wants) (λ (wants : List Want).
+    chain (read_requirements procs apps confs at m) (λ (asked : Requirements).
+    Ok (record { name = name; from = from; wants = wants; up = asked.up; down = asked.down; to = asked.to; on = asked.on; off = asked.off }))))))
 
 -- The 0 to 64 demands that a value encodes, or the first document rule that the value breaks.
 abbrev pub read_demands : List Proc → List AppSpec → List Conf → List Factor → List ℕ → Data → Result (List Demand) DocFault

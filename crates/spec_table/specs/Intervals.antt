@@ -1,5 +1,5 @@
 -- The reading of invariants and preconditions, which are intervals for a variable of an application.
-use Rattle.std.specs.Prelude.{ℕ, ℤ, pos, int_le, List, codes, Option, Some, None, slice_get, Result, Ok, ⊤, if◌then◌else◌}
+use Rattle.std.specs.Prelude.{ℕ, ℤ, pos, int_le, List, codes, Option, Some, None, slice_get, Result, Ok, if◌then◌else◌}
 use Rattle.serde_json.specs.Data.{Data}
 use Rattle.scram_types.specs.Numbers.{minus}
 use Rattle.scram_types.specs.declared.ids.AppId.{AppId}
@@ -13,7 +13,7 @@ use Rattle.scram_doc.specs.declared.fault.DocFault.{DocFault}
 use Rattle.scram_doc.specs.Chain.{chain, ok_map}
 use Rattle.scram_doc.specs.Faults.{broken, or_broken}
 use Rattle.scram_doc.specs.Paths.{member_path}
-use Rattle.scram_doc.specs.Members.{object_at, required_at, no_more_than}
+use Rattle.scram_doc.specs.Members.{exactly_five_at}
 use Rattle.scram_doc.specs.Values.{text_at, int_at}
 use Rattle.spec_members.specs.declared.rule.TheConstants.{UNKNOWN_APPLICATION, UNKNOWN_VARIABLE, EMPTY_INTERVAL}
 use Rattle.spec_table.specs.declared.intervals.Ends.{Ends}
@@ -58,16 +58,10 @@ read_interval apps at app variable least greatest =
 -- breaks.
 abbrev pub read_invariant : List AppSpec → List Conf → List ℕ → List Invariant → Data → Result Invariant DocFault
 read_invariant apps confs at done d =
-    chain (object_at at d) (λ (_ : ⊤).
-    chain (required_at (codes "from") at d) (λ (from : Data).
-    chain (required_at (codes "app") at d) (λ (app : Data).
-    chain (required_at (codes "variable") at d) (λ (variable : Data).
-    chain (required_at (codes "least") at d) (λ (least : Data).
-    chain (required_at (codes "greatest") at d) (λ (greatest : Data).
-    chain (no_more_than 5 at d) (λ (_ : ⊤).
-    chain (read_source confs (member_path at (codes "from")) from) (λ (from : Option ConfId).
-    chain (read_interval apps at app variable least greatest) (λ (i : Interval).
-    Ok (record { from = from; app = i.app; variable = i.variable; least = i.ends.least; greatest = i.ends.greatest }))))))))))
+    chain (exactly_five_at (codes "from") (codes "app") (codes "variable") (codes "least") (codes "greatest") at d) (λ (m : Data × Data × Data × Data × Data).
+    chain (read_source confs (member_path at (codes "from")) m.0) (λ (from : Option ConfId).
+    chain (read_interval apps at m.1 m.2 m.3 m.4) (λ (i : Interval).
+    Ok (record { from = from; app = i.app; variable = i.variable; least = i.ends.least; greatest = i.ends.greatest }))))
 
 -- The 0 to 64 invariants that a value encodes, or the first document rule that the value breaks.
 abbrev pub read_invariants : List AppSpec → List Conf → List ℕ → Data → Result (List Invariant) DocFault
@@ -77,16 +71,10 @@ read_invariants apps confs at d = elements_at (read_invariant apps confs) 0 64 a
 -- breaks.
 abbrev pub read_precondition : List AppSpec → List Conf → List ℕ → List Precondition → Data → Result Precondition DocFault
 read_precondition apps confs at done d =
-    chain (object_at at d) (λ (_ : ⊤).
-    chain (required_at (codes "configuration") at d) (λ (conf : Data).
-    chain (required_at (codes "app") at d) (λ (app : Data).
-    chain (required_at (codes "variable") at d) (λ (variable : Data).
-    chain (required_at (codes "least") at d) (λ (least : Data).
-    chain (required_at (codes "greatest") at d) (λ (greatest : Data).
-    chain (no_more_than 5 at d) (λ (_ : ⊤).
-    chain (read_conf_id confs (member_path at (codes "configuration")) conf) (λ (conf : ConfId).
-    chain (read_interval apps at app variable least greatest) (λ (i : Interval).
-    Ok (record { conf = conf; app = i.app; variable = i.variable; least = i.ends.least; greatest = i.ends.greatest }))))))))))
+    chain (exactly_five_at (codes "configuration") (codes "app") (codes "variable") (codes "least") (codes "greatest") at d) (λ (m : Data × Data × Data × Data × Data).
+    chain (read_conf_id confs (member_path at (codes "configuration")) m.0) (λ (conf : ConfId).
+    chain (read_interval apps at m.1 m.2 m.3 m.4) (λ (i : Interval).
+    Ok (record { conf = conf; app = i.app; variable = i.variable; least = i.ends.least; greatest = i.ends.greatest }))))
 
 -- The 0 to 64 preconditions that a value encodes, or the first document rule that the value breaks.
 abbrev pub read_preconditions : List AppSpec → List Conf → List ℕ → Data → Result (List Precondition) DocFault

@@ -13,8 +13,7 @@ ghost use Rattle.spec_members.specs.Found.{AreMembers};
 use crate::choices::read_conf_id;
 use crate::vocabulary::Vocabulary;
 use scram_doc::{
-    DocError, DocFault, Elements, Lengths, Numbered, Path, no_more_than, object, read_list,
-    required, whole_in,
+    DocError, DocFault, Elements, Lengths, Numbered, Path, exactly_three, read_list, whole_in,
 };
 use scram_types::limits::{MAX_BOUND, MAX_BOUNDS};
 use scram_types::{Bound, Conf, ConfId};
@@ -74,11 +73,7 @@ impl Elements<Bound> for Bounds<'_> {
         v: &Value,
         at: &Path,
     ) -> Result<Bound, DocError> {
-        object(v, at)?;
-        let from = required(v, "from", at)?;
-        let to = required(v, "to", at)?;
-        let frames = required(v, "frames", at)?;
-        no_more_than(v, 3, at)?;
+        let (from, to, frames) = exactly_three(v, ("from", "to", "frames"), at)?;
         let vocabulary = self.vocabulary;
         let confs = &vocabulary.confs;
         let from = read_conf_id(confs, from, &at.member("from"))?;

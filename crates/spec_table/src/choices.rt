@@ -15,8 +15,8 @@ ghost use Rattle.spec_members.specs.Found.{AreMembers};
 use crate::sets::read_procs_set;
 use crate::vocabulary::Vocabulary;
 use scram_doc::{
-    DocError, DocFault, Elements, Lengths, Numbered, Path, no_more_than, object, read_list,
-    required, text,
+    DocError, DocFault, Elements, Lengths, Numbered, Path, exactly_four, exactly_two, read_list,
+    text,
 };
 use scram_types::limits::{MAX_FACTORS, MAX_RULES};
 use scram_types::{Choice, Conf, ConfId, Factor, FactorId, List, Want};
@@ -116,10 +116,7 @@ impl Elements<Want> for Wants<'_> {
     ghost Fits = { λ wants. IsNewWant wants.vocabulary.now.factors };
 
     fn read(&self, _alloc: Global, done: &[Want], v: &Value, at: &Path) -> Result<Want, DocError> {
-        object(v, at)?;
-        let factor = required(v, "factor", at)?;
-        let value = required(v, "value", at)?;
-        no_more_than(v, 2, at)?;
+        let (factor, value) = exactly_two(v, ("factor", "value"), at)?;
         let vocabulary = self.vocabulary;
         let factors = &vocabulary.factors;
         let factor = read_new_factor(factors, done, factor, &at.member("factor"))?;
@@ -148,12 +145,7 @@ impl Elements<Choice> for Choices<'_> {
         v: &Value,
         at: &Path,
     ) -> Result<Choice, DocError> {
-        object(v, at)?;
-        let from = required(v, "from", at)?;
-        let wants = required(v, "when", at)?;
-        let up = required(v, "up", at)?;
-        let to = required(v, "to", at)?;
-        no_more_than(v, 4, at)?;
+        let (from, wants, up, to) = exactly_four(v, ("from", "when", "up", "to"), at)?;
         let vocabulary = self.vocabulary;
         let confs = &vocabulary.confs;
         let from = read_source(confs, from, &at.member("from"))?;

@@ -12,8 +12,8 @@ ghost use Rattle.spec_table.specs.Facts.{ListsMode, IsPlacedAfter, ArePlaces, Is
 ghost use Rattle.spec_members.specs.Found.{AreMembers};
 
 use scram_doc::{
-    DocError, DocFault, Lengths, NamedElements, Numbered, Path, list, no_more_than, object,
-    read_named_list, required,
+    DocError, DocFault, Lengths, NamedElements, Numbered, Path, exactly_three, exactly_two, list,
+    read_named_list,
 };
 use scram_types::limits::{MAX_APPLICATIONS, MAX_CONFIGURATIONS};
 use scram_types::{AppId, AppSpec, Conf, Mode, Place, Proc, ProcId};
@@ -97,11 +97,7 @@ fn read_place(
     ensures value { result ≡ read_place procs.now apps.now at.now places (view v.now) }
     ensures fits { IfOk result (λ more. IsPlacedAfter procs.now apps.now places more) }
 {
-    object(v, at)?;
-    let app = required(v, "app", at)?;
-    let mode = required(v, "mode", at)?;
-    let on = required(v, "on", at)?;
-    no_more_than(v, 3, at)?;
+    let (app, mode, on) = exactly_three(v, ("app", "mode", "on"), at)?;
     let app = read_new_app(apps, &places, app, &at.member("app"))?;
     let mode = read_listed_mode(find_app(apps, app), mode, &at.member("mode"))?;
     let proc = ProcId(read_named(procs, rule::UNKNOWN_PROCESSOR, on, &at.member("on"))?);
@@ -155,10 +151,7 @@ impl NamedElements<Conf, ByName> for Confs<'_> {
         v: &Value,
         at: &Path,
     ) -> Result<Conf, DocError> {
-        object(v, at)?;
-        let name = required(v, "name", at)?;
-        let places = required(v, "apps", at)?;
-        no_more_than(v, 2, at)?;
+        let (name, places) = exactly_two(v, ("name", "apps"), at)?;
         let name = read_new_name(done, name, &at.member("name"))?;
         let at = at.member("apps");
         let items = list(places, 0, MAX_APPLICATIONS, &at)?;

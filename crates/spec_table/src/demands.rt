@@ -5,7 +5,8 @@ ghost use Rattle.std.specs.Option.{option_copied};
 ghost use Rattle.serde_json.specs.View.{view};
 ghost use Rattle.scram_doc.specs.Faults.{Answers};
 ghost use Rattle.scram_doc.specs.Lists.{AllAfter};
-ghost use Rattle.spec_table.specs.Demands.{on_set, read_demand, read_demands, read_modes_on, read_on_app, read_on_mode, read_on_modes, read_requirements};
+ghost use Rattle.scram_doc.specs.Chain.{ok_map};
+ghost use Rattle.spec_table.specs.Demands.{find_members, make_members, on_set, read_demand, read_demands, read_modes_on, read_on_app, read_on_mode, read_on_modes, read_requirements};
 ghost use Rattle.spec_table.specs.Facts.{AreOn, FitsRequirements, HasMoreModes, IsNewDemand, IsNewOn, IsOnAfter};
 
 use crate::choices::Wants;
@@ -13,8 +14,8 @@ use crate::configurations::{find_app, is_given, read_listed_mode, read_new_app};
 use crate::sets::{read_apps_set, read_confs_set, read_procs_set};
 use crate::vocabulary::Vocabulary;
 use scram_doc::{
-    DocError, DocFault, Lengths, NamedElements, Numbered, Path, list, no_more_than, object,
-    read_list, read_named_list, required,
+    DocError, DocFault, Lengths, NamedElements, Numbered, Path, exactly_two, list, no_more_than,
+    object, read_list, read_named_list, required_four,
 };
 use scram_types::limits::{MAX_APPLICATIONS, MAX_DEMANDS, MAX_FACTORS, MAX_MODES};
 use scram_types::{AppId, AppSpec, Demand, List, Mode, Modes};
@@ -72,10 +73,7 @@ fn read_on_app(
     ensures value { result ≡ read_on_app apps.now at.now on (view v.now) }
     ensures fits { IfOk result (λ more. IsOnAfter apps.now on more) }
 {
-    object(v, at)?;
-    let app = required(v, "app", at)?;
-    let modes = required(v, "modes", at)?;
-    no_more_than(v, 2, at)?;
+    let (app, modes) = exactly_two(v, ("app", "modes"), at)?;
     let app = read_new_app(apps, &on, app, &at.member("app"))?;
     let modes = read_on_modes(find_app(apps, app), modes, &at.member("modes"))?;
     let mut on = on;
@@ -121,9 +119,12 @@ struct Requirements {
     off: u8,
 }
 
-/// The values of the members of a demand that contain its requirements.
+/// The values of the members of a demand.
 #[derive(Clone, Copy)]
-struct RequirementMembers<'a> {
+struct Members<'a> {
+    name: &'a Value,
+    from: &'a Value,
+    wants: &'a Value,
     up: &'a Value,
     down: &'a Value,
     to: &'a Value,
@@ -131,15 +132,39 @@ struct RequirementMembers<'a> {
     off: &'a Value,
 }
 
+/// Returns the members of the demand at this path. Returns an error if the value is not an object, lacks a member of a
+/// demand, or has further members.
+fn find_members<'a>(v: &'a Value, at: &Path) -> Result<Members<'a>, DocFault>
+    requires { length at.now ≤ 24 }
+    ensures { ok_map (λ m. make_members (view m.name.now) (view m.from.now) (view m.wants.now) (view m.up.now) (view m.down.now) (view m.to.now)
+        (view m.on.now) (view m.off.now)) result ≡ find_members at.now (view v.now) }
+{
+    object(v, at)?;
+    let (name, from, wants, up) = required_four(v, ("name", "from", "when", "up"), at)?;
+    let (down, to, on, off) = required_four(v, ("down", "to", "on", "off"), at)?;
+    no_more_than(v, 8, at)?;
+    Ok(Members {
+        name,
+        from,
+        wants,
+        up,
+        down,
+        to,
+        on,
+        off,
+    })
+}
+
 /// Reads the requirements of the demand at this path from its members.
 fn read_requirements(
     vocabulary: &Vocabulary,
-    members: &RequirementMembers<'_>,
+    members: &Members<'_>,
     at: &Path,
 ) -> Result<Requirements, DocFault>
     requires room { length at.now ≤ 24 }
-    ensures value { result ≡ read_requirements vocabulary.now.procs vocabulary.now.apps vocabulary.now.confs at.now (view members.now.up.now)
-        (view members.now.down.now) (view members.now.to.now) (view members.now.on.now) (view members.now.off.now) }
+    ensures value { result ≡ read_requirements vocabulary.now.procs vocabulary.now.apps vocabulary.now.confs at.now
+        (make_members (view members.now.name.now) (view members.now.from.now) (view members.now.wants.now) (view members.now.up.now)
+        (view members.now.down.now) (view members.now.to.now) (view members.now.on.now) (view members.now.off.now)) }
     ensures fits { IfOk result (FitsRequirements vocabulary.now.procs vocabulary.now.apps vocabulary.now.confs) }
 {
     let procs = &vocabulary.procs;
@@ -181,28 +206,13 @@ impl NamedElements<Demand, ByName> for Demands<'_> {
         v: &Value,
         at: &Path,
     ) -> Result<Demand, DocError> {
-        object(v, at)?;
-        let name = required(v, "name", at)?;
-        let from = required(v, "from", at)?;
-        let wants = required(v, "when", at)?;
-        let up = required(v, "up", at)?;
-        let down = required(v, "down", at)?;
-        let to = required(v, "to", at)?;
-        let on = required(v, "on", at)?;
-        let off = required(v, "off", at)?;
-        no_more_than(v, 8, at)?;
+        let members = find_members(v, at)?;
         let vocabulary = self.vocabulary;
-        let name = read_new_name(done, name, &at.member("name"))?;
-        let from = read_confs_set(&vocabulary.confs, from, &at.member("from"))?;
+        let name = read_new_name(done, members.name, &at.member("name"))?;
+        let from = read_confs_set(&vocabulary.confs, members.from, &at.member("from"))?;
         let few = Lengths::up_to(MAX_FACTORS);
-        let wants = read_list(alloc, &Wants { vocabulary }, wants, few, &at.member("when"))?;
-        let members = RequirementMembers {
-            up,
-            down,
-            to,
-            on,
-            off,
-        };
+        let wants = Wants { vocabulary };
+        let wants = read_list(alloc, &wants, members.wants, few, &at.member("when"))?;
         let Requirements {
             up,
             down,

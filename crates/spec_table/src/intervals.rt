@@ -16,8 +16,7 @@ use crate::configurations::find_app;
 use crate::vocabulary::Vocabulary;
 use kind_table::variable_named;
 use scram_doc::{
-    DocError, DocFault, Elements, Lengths, Numbered, Path, int_in, no_more_than, object, read_list,
-    required, text,
+    DocError, DocFault, Elements, Lengths, Numbered, Path, exactly_five, int_in, read_list, text,
 };
 use scram_types::limits::{MAX_INTERVAL_END, MAX_INTERVALS};
 use scram_types::{AppId, AppSpec, Invariant, Precondition};
@@ -138,13 +137,8 @@ impl Elements<Invariant> for Intervals<'_> {
         v: &Value,
         at: &Path,
     ) -> Result<Invariant, DocError> {
-        object(v, at)?;
-        let from = required(v, "from", at)?;
-        let app = required(v, "app", at)?;
-        let variable = required(v, "variable", at)?;
-        let least = required(v, "least", at)?;
-        let greatest = required(v, "greatest", at)?;
-        no_more_than(v, 5, at)?;
+        let names = ("from", "app", "variable", "least", "greatest");
+        let (from, app, variable, least, greatest) = exactly_five(v, names, at)?;
         let vocabulary = self.vocabulary;
         let from = read_source(&vocabulary.confs, from, &at.member("from"))?;
         let apps = &vocabulary.apps;
@@ -179,13 +173,8 @@ impl Elements<Precondition> for Intervals<'_> {
         v: &Value,
         at: &Path,
     ) -> Result<Precondition, DocError> {
-        object(v, at)?;
-        let conf = required(v, "configuration", at)?;
-        let app = required(v, "app", at)?;
-        let variable = required(v, "variable", at)?;
-        let least = required(v, "least", at)?;
-        let greatest = required(v, "greatest", at)?;
-        no_more_than(v, 5, at)?;
+        let names = ("configuration", "app", "variable", "least", "greatest");
+        let (conf, app, variable, least, greatest) = exactly_five(v, names, at)?;
         let vocabulary = self.vocabulary;
         let conf = read_conf_id(&vocabulary.confs, conf, &at.member("configuration"))?;
         let apps = &vocabulary.apps;

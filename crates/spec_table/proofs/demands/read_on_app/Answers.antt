@@ -9,7 +9,7 @@ use Rattle.spec_table.proofs.demands.read_on_app.Goals as goal
 pub returns-clause-fits : goal.returns-clause-fits
 returns-clause-fits c =
     let app = c.in_ok-app-2.app in
-    let modes = c.in_ok-modes-2.modes in
+    let modes = c.in_ok-modes.modes in
     let below : app.0 < length c.args.apps.now = search rules in
     let same : c.from.result ≡ app.0 = search rules in
     record {
@@ -19,7 +19,7 @@ returns-clause-fits c =
         app = found;
         there = there;
         few = search rules;
-        each = subst (λ (o : Option AppSpec). AllAfter (IsNewOn o) modes) c.find_app.ensures c.in_ok-modes-2.ensures.each;
+        each = subst (λ (o : Option AppSpec). AllAfter (IsNewOn o) modes) c.find_app.ensures c.in_ok-modes.ensures.each;
       });
       set = rw (same) refl;
     }

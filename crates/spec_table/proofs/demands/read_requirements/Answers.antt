@@ -20,3 +20,18 @@ returns-clause-fits c =
       off = off;
       off_apart = off_apart c.in_ok-on.on c.in_ok-off.off (omega (arith, wide, off)) (search rules);
     }
+
+pub read_procs_set-requires-clause-few : goal.read_procs_set-requires-clause-few
+read_procs_set-requires-clause-few c = c.vocabulary.invariant.procs_count.few
+
+pub read_procs_set-requires-2-clause-few : goal.read_procs_set-requires-2-clause-few
+read_procs_set-requires-2-clause-few c = c.vocabulary.invariant.procs_count.few
+
+pub read_confs_set-requires-clause-few : goal.read_confs_set-requires-clause-few
+read_confs_set-requires-clause-few c = c.vocabulary.invariant.confs_count.few
+
+pub read_modes_on-requires-clause-few : goal.read_modes_on-requires-clause-few
+read_modes_on-requires-clause-few c = c.vocabulary.invariant.apps_fit.count.few
+
+pub read_apps_set-requires-clause-few : goal.read_apps_set-requires-clause-few
+read_apps_set-requires-clause-few c = c.vocabulary.invariant.apps_fit.count.few

@@ -3,9 +3,12 @@ use Rattle.spec_table.proofs.demands.DemandsNamedElementsDemandByName.read.Goals
 
 pub returns-clause-fits : goal.returns-clause-fits
 returns-clause-fits c = rw (c.of.ensures) (record {
-  name = c.in_ok-name-2.ensures.fresh;
+  name = c.in_ok-name.ensures.fresh;
   from = search rules;
   few = search rules;
-  wants = c.in_ok-wants-2.ensures.fits;
-  asked = c.in_ok-up-2.ensures.fits;
+  wants = c.in_ok-wants.ensures.fits;
+  asked = c.in_ok-up.ensures.fits;
 })
+
+pub read_confs_set-requires-clause-few : goal.read_confs_set-requires-clause-few
+read_confs_set-requires-clause-few c = c.vocabulary.invariant.confs_count.few
