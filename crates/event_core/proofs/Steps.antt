@@ -13,12 +13,12 @@ use Rattle.fail_stop.specs.ScriptFlights.{flight_of}
 use Rattle.fail_stop.proofs.ListLaw.{list_written, target}
 use Rattle.fail_stop.proofs.ScriptBorder.{restarts_within, script_flies}
 use Rattle.event_core.specs.declared.places.Places.{Places as KeptPlaces}
-use Rattle.event_core.specs.Cores.{MachineKeeps, CoreParts, core_of, core_flight, core_places, core_words}
+use Rattle.event_core.specs.Cores.{MachineKeeps, CoreParts, core_of, core_flight, core_places, core_words, next_event}
 use Rattle.event_core.specs.Places.{machine_places}
 use Rattle.event_core.specs.Replays.{IsReplay}
 use Rattle.event_core.specs.Rooms.{events_left}
-use Rattle.event_core.specs.Stores.{CanMove}
-use Rattle.event_core.proofs.Bounds.{can_move}
+use Rattle.event_core.specs.Stores.{CanMove, IsInside}
+use Rattle.event_core.proofs.Bounds.{can_move, inside}
 use Rattle.event_core.proofs.Fewer.{fewer, has_frames}
 use Rattle.event_core.proofs.Replays.{next_there, replay_kept, replay_more}
 
@@ -46,6 +46,9 @@ module _ (spec : Parts) (script : ScriptParts) (places : KeptPlaces) (stored : L
   -- Since some actor has a next event, the kernel is in a frame of the flight.
   pub low : places.frame < script.frames
   low = kept.kernel.below flying
+
+  pub is_inside : IsInside e
+  is_inside = inside (flight_of spec script) (machine_places places) (stored_in stored) few narrow e next
 
   pub moves_on : CanMove places e
   moves_on =
@@ -87,6 +90,11 @@ module _ (spec : Parts) (script : ScriptParts) (places : KeptPlaces) (stored : L
 pub kept_of : {spec : Parts} {script : ScriptParts} {places : KeptPlaces} {stored : List ℕ} {history : List Event} {room count : ℕ} → MachineKeeps spec script places stored history room count
     → Kept (flight_of spec script) (machine_places places) (stored_in stored)
 kept_of {spec} {script} {places} {stored} {history} k = replay_kept (flight_of spec script) history (machine_places places) (stored_in stored) (script_flies spec script k.fits) k.replay
+
+-- If the next event of an event's actor in a core is that event, then it is so for the core's parts.
+pub next_by : (core : CoreParts) (spec : Parts) (script : ScriptParts) (places : KeptPlaces) (stored : List ℕ) (history : List Event) (e : Event) (o : Option Event)
+    → core_of spec script places stored history ≡ core → o ≡ next_event core e → o ≡ Some e → IsNext (flight_of spec script) (machine_places places) (stored_in stored) e
+next_by core spec script places stored history e o is told same = ap (λ (core : CoreParts). next_event core e) is ∙ sym told ∙ same
 
 -- If an event happens to the places and words of a core's parts, then it happens in the core.
 pub happens_by : (core : CoreParts) (spec : Parts) (script : ScriptParts) (places : KeptPlaces) (stored : List ℕ) (history : List Event) (e : Event) (places2 : KeptPlaces) (stored2 : List ℕ)

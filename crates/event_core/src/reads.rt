@@ -39,7 +39,6 @@ fn mark_read(stored: &[u64], p: usize) -> u64
 }
 
 /// Returns the image that a reader in frame `frame` finds for processor `p`.
-#[tactic(auto, using(fail_stop::proofs::Decoding::word_set, fail_stop::proofs::Decoding::none_read))]
 pub(crate) fn image_read(spec: &Spec, stored: &[u64], frame: u32, p: usize) -> Image
     requires stored { length stored.now ≡ word_index_count }
     requires p { p < 8 }

@@ -2,7 +2,7 @@
 use Rattle.std.proofs.Common.{◌≡◌, ◌∙◌, ◌+◌, ◌<◌, ◌≤◌, ℕ, ap, arith, refl, subst, sym, true, false, List, [], ◌∷◌, ◌++◌, length}
 use Rattle.std.specs.Prelude.{Option, Some, None, is_some, map, slice_index_or, slice_set}
 use native.Mathlib.Decide.{ℕ_discrete}
-use Rattle.std.proofs.lemmas.List.{get_or-set_other, get_or-set_same, get_or_append_left, length-set}
+use Rattle.std.proofs.lemmas.List.{append-nil, get_or-set_other, get_or-set_same, get_or_append_left, length-set}
 use Rattle.std.proofs.Math.Seq.{get_or-append_seam}
 use Rattle.scram_types.specs.declared.ids.ProcId.{ProcId}
 use Rattle.app_model.specs.declared.racks.Rack.{Rack}
@@ -62,6 +62,11 @@ module _ {A : Type 0} (P : ℕ → A → Type 0) (items : List A) where
 pub taken_more : {A B : Type 0} (of : A → B) (made : List A) (a : A) (left rest : List B) {b : B} → of a ≡ b → left ≡ b ∷ rest → map of (made ++ a ∷ []) ++ rest ≡ map of made ++ left
 taken_more of [] a left rest is front = ap (λ b. b ∷ rest) is ∙ sym front
 taken_more of (x ∷ made) a left rest is front = ap (λ l. of x ∷ l) (taken_more of made a left rest is front)
+
+-- If no element remains, then the made list is the whole list.
+pub all_taken : {A B : Type 0} (made : List B) (rest : List A) (of : A → B) (all : List B) → length rest ≡ 0 → made ++ map of rest ≡ all → made ≡ all
+all_taken made [] of all none are = sym (append-nil made) ∙ are
+all_taken made (x ∷ rest) of all none are = absurd (omega (arith, none))
 
 module _ {X : Type 0} {Y : X → Type 0} (m : Flight) where
   pub opening_flyer : (p : ℕ) (flyer : Flyer X Y) (proc : ProcId) (rack spare : Rack X Y) → flyer.unit ≡ Up (record { proc = proc; rack = rack }) → flyer.spare ≡ Some spare → proc.0 ≡ p

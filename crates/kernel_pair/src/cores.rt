@@ -116,6 +116,15 @@ impl<'a> PairCore<'a> {
         if !self.machine.is_next(event) {
             return Err(event);
         }
+        self.make(event);
+        Ok(())
+    }
+
+    // Makes `event`, which must be a next event of its actor.
+    fn make(&mut self, event: PairEvent)
+        requires { IsPairNextIn self.old event }
+        ensures { IsPairStep self.old event self.new }
+    {
         match event {
             PairEvent::Fly(p, u) => self.fly(p, u),
             PairEvent::Note(u, p) => self.note(u, p),
@@ -125,7 +134,6 @@ impl<'a> PairCore<'a> {
             PairEvent::Release(_) => self.turn(event),
             PairEvent::Stop(_) => self.turn(event),
         }
-        Ok(())
     }
 
     // Makes the next frame of processor `p` by the words of unit `u`.

@@ -18,7 +18,7 @@ use Rattle.std.proofs.lemmas.Grind.{get_or-set_at}
 use Rattle.std.proofs.lemmas.List.{get_or-set_other}
 use Rattle.word_table.specs.declared.seats.KSeat.{KSeat}
 use Rattle.word_table.specs.Tables.{kernel_frame, kernel_steps}
-use Rattle.word_deck.specs.Kernels.{AreNoted, IsKernelBetween, IsKernelDone, frames_noted}
+use Rattle.word_deck.specs.Kernels.{AreNoted, IsKernelBetween, IsKernelDone, KernelCrewKeeps, frames_noted}
 use Rattle.word_deck.specs.declared.kernels.Noted.{Noted}
 
 -- If the first `n` processors are noted and processor `n` is noted next, then the first `n + 1` processors are noted.
@@ -62,6 +62,21 @@ below procs kseat low = let e : nat_lt (kernel_steps kseat) procs ≡ true = gri
 
 pub fresh : (procs : ℕ) (one other : KSeat) → 0 < procs → other ≡ one → (kernel_frame one ≡ 0) × (kernel_steps one ≡ 0) → frames_noted procs other ≡ 0
 fresh procs one other some same at = below procs other (omega (arith, some, ap kernel_steps same, at.1)) ∙ ap kernel_frame same ∙ at.0
+
+pub kernel_opens : (mission : MissionParts) (kseat : KSeat) (kernel : KernelParts) (noted : Noted) → 0 < length mission.spec.procs → kernel_frame kseat ≡ 0 → kernel_steps kseat ≡ 0
+    → kernel ≡ kernel_after mission.spec mission.script 0 → KernelCrewKeeps mission kseat kernel noted
+kernel_opens mission kseat kernel noted some at start new =
+    let low : kernel_steps kseat < length mission.spec.procs = omega (arith, some, start) in
+    record {
+      between = record {
+        within = omega (arith, at);
+        flies = λ flown. omega (arith, at, flown);
+        steps = omega (arith, start);
+        last = λ same. absurd (omega (arith, same, low));
+      };
+      log = new ∙ ap (kernel_after mission.spec mission.script) (sym (below (length mission.spec.procs) kseat low ∙ at));
+      noted_are = record { marks = λ p under. absurd (omega (arith, under, start)); images = λ p under. absurd (omega (arith, under, start)) };
+    }
 
 pub all : (procs : ℕ) (kseat : KSeat) → kernel_steps kseat ≡ procs → frames_noted procs kseat ≡ suc (kernel_frame kseat)
 all procs kseat same = let e : nat_lt (kernel_steps kseat) procs ≡ false = grind (arith, nat_tests) in rw e refl

@@ -18,7 +18,9 @@ use Rattle.bank_words.specs.Numbers.{encode}
 use Rattle.fail_stop.specs.Flights.{Flies, Flight, word_in}
 use Rattle.fail_stop.proofs.OpeningLists.{encoded_at}
 use Rattle.word_table.specs.Actors.{step_at}
-use Rattle.word_deck.specs.Frames.{HaltsLate}
+use Rattle.coverage_check.specs.Missions.{MissionParts}
+use Rattle.word_table.specs.declared.seats.Seat.{Seat}
+use Rattle.word_deck.specs.Frames.{HaltsLate, IsSeatDraft}
 
 -- Lemmas on a step before which the processor does not halt.
 no_halt : (m : Flight) (n : ℕ) (o : Option ℕ) → ((s : ℕ) → o ≡ Some s → (n ≡ m.procs + 1 + s → ⊥)) → halts_at m n o ≡ false
@@ -121,3 +123,6 @@ pub drafted_by : (spec : Parts) (script : ScriptParts) (f p old : ℕ) (snap : S
     → ((script : ScriptParts) (f : ℕ) → IsSpec spec → old < length spec.procs → IsSnapshot spec script f snap → image ≡ draft spec script old f)
     → old ≡ p → p < length spec.procs → IsSpec spec → IsSnapshot spec script f snap → image ≡ draft spec script p f
 drafted_by spec script f p old snap image trace same low facts shown = trace script f facts (rw same low) shown ∙ ap (λ q. draft spec script q f) same
+
+pub draft_for : (mission told : MissionParts) (seat was : Seat) (image : List ℤ) → mission ≡ told → seat ≡ was → IsSeatDraft told was image → IsSeatDraft mission seat image
+draft_for mission told seat was image same at is = rw (same, at) is

@@ -47,3 +47,14 @@ rows_count mission rows n are = ap length are ∙ length_listed (row_at mission.
 
 pub rows_again : (mission : MissionParts) (rows : List Row) (n : ℕ) → rows ≡ rows_below mission.spec mission.script n → rows ≡ rows_below mission.spec mission.script (length rows)
 rows_again mission rows n are = are ∙ ap (rows_below mission.spec mission.script) (sym (rows_count mission rows n are))
+
+pub rows_rise : (mission old new : MissionParts) (turn : Turn) (before after : KSeat) (rows more : List Row) → mission ≡ old → mission ≡ new
+    → rows ≡ rows_below old.spec old.script (frames_noted (length old.spec.procs) before) → more ≡ rows_below new.spec new.script (frames_noted (length new.spec.procs) after)
+    → IsKernelMoved turn (length mission.spec.procs) mission.script.frames before after → (length rows ≤ length more) × (length more ≤ length rows + 1)
+rows_rise mission old new turn before after rows more was is are_rows are_more moved =
+    let procs = length mission.spec.procs in
+    let count : length rows ≡ frames_noted procs before = rows_count old rows (frames_noted (length old.spec.procs) before) are_rows ∙ ap (λ (m : MissionParts). frames_noted (length m.spec.procs) before) (sym was) in
+    let count2 : length more ≡ frames_noted procs after = rows_count new more (frames_noted (length new.spec.procs) after) are_more ∙ ap (λ (m : MissionParts). frames_noted (length m.spec.procs) after) (sym is) in
+    let low = moved_on turn procs mission.script.frames before after moved in
+    let high = moved_by_one turn procs mission.script.frames before after moved in
+    (omega (arith, count, count2, low), omega (arith, count, count2, high))

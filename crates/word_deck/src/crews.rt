@@ -69,7 +69,7 @@ impl Crew {
     /// that has halted restarts with its spare rack at the start of the frame of its restart. Returns `NotYet` only
     /// if the release word that the call loads shows that the frame is not yet released. Returns `Finished` if and
     /// only if the processor has then flown all frames or has halted for good. This method does not block.
-    #[tactic(auto, using(crate::proofs::Places::waits, crate::proofs::Places::done_by, crate::proofs::Places::flown_after, crate::proofs::Places::finished_by, crate::proofs::Places::tried_by))]
+    #[tactic(auto, using(crate::proofs::Places::waits, crate::proofs::Places::done_by, crate::proofs::Places::flown_after))]
     pub fn turn(&mut self, mission: &Mission, words: &WordTable) -> Turn
         requires mission { mission_in words.now ≡ mission.now }
         requires fits { IsCrewOf words.now self.old }
@@ -174,7 +174,7 @@ impl Crew {
     fn end(&mut self, mission: &Mission, words: &WordTable)
         requires mission { mission_in words.now ≡ mission.now }
         requires flies { CrewFlies words.now (length mission.now.spec.procs + 1) self.old }
-        requires image { IsSeatDraft mission.now self.old.seat self.old.image }
+        requires image { IsSeatDraft (mission_in words.now) self.old.seat self.old.image }
         ensures fits { IsCrewOf words.now self.new }
         ensures proc { proc_of self.new.seat ≡ proc_of self.old.seat }
         ensures place { seat_place self.new.seat ≡ frame_end words.now self.old.seat }

@@ -50,7 +50,7 @@ pub(crate) fn store_words(words: &WordTable, seat: &mut Seat, image: &Image, cou
 }
 
 /// Stores all words of the draft, commits the frame and ends the frame.
-#[tactic(auto, using(crate::proofs::Steps::flips_on, crate::proofs::Steps::ends_on, crate::proofs::Steps::never_halts, crate::proofs::Steps::ended))]
+#[tactic(auto, using(crate::proofs::Steps::ends_on, crate::proofs::Steps::never_halts, crate::proofs::Steps::ended))]
 pub(crate) fn commit(words: &WordTable, seat: &mut Seat, image: &Image, width: u32)
     requires seat { IsSeatOf words.now seat.old }
     requires after { IsAfter (length (mission_in words.now).spec.procs + 1) (seat_place seat.old) }
@@ -90,7 +90,7 @@ pub(crate) fn halt_after(words: &WordTable, seat: &mut Seat, image: &Image, widt
 
 // Makes `step` stores. If `step` is greater than `width`, which is the number of words of an image, makes all stores
 // and the flip.
-#[tactic(auto, using(crate::proofs::Steps::flips_on, crate::proofs::Steps::halts_then, crate::proofs::Steps::flipped))]
+#[tactic(auto, using(crate::proofs::Steps::halts_then, crate::proofs::Steps::flipped))]
 fn make_steps(words: &WordTable, seat: &mut Seat, image: &Image, width: u32, step: u32)
     requires seat { IsSeatOf words.now seat.old }
     requires after { IsAfter (length (mission_in words.now).spec.procs + 1) (seat_place seat.old) }

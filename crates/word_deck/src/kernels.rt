@@ -35,7 +35,6 @@ pub struct KernelCrew<'a> {
 
 impl<'a> KernelCrew<'a> {
     /// Returns the kernel at its seat, before the first frame.
-    #[tactic(auto, using(crate::proofs::Noting::below))]
     pub fn kernel(mission: &'a Mission, kseat: KSeat, kernel: Kernel<'a>) -> KernelCrew<'a>
         requires frame { kernel_frame kseat ≡ 0 }
         requires steps { kernel_steps kseat ≡ 0 }

@@ -2,7 +2,7 @@ use Rattle.std.proofs.Common.{rules, ◌≡◌, ◌∙◌, ◌+◌, ◌<◌, ap,
 use Rattle.frame_model.specs.Flights.{image_after}
 use Rattle.frame_model.specs.Storage.{mark_after}
 use Rattle.word_table.specs.Tables.{mission_in, kernel_frame}
-use Rattle.word_deck.proofs.Noting.{noted_on}
+use Rattle.word_deck.proofs.Noting.{noted_on, noted_still}
 use Rattle.word_deck.proofs.kernels.note_all.Goals as goal
 
 pub returns-in-None-clause-tries : goal.returns-in-None-clause-tries
@@ -26,3 +26,8 @@ loop-p-preserved c =
       are_noted = noted_on (mission_in c.args.words.now) (kernel_frame c.args.kseat.now) (kernel_frame c.loop-p.kseat) c.loop-p.p c.loop-p.noted c.in-Some.marked.mark c.gone.new.image
           c.loop-p.invariant.frame c.loop-p.invariant.are_noted low marks images mark image;
     }
+
+pub returns-in-None-clause-noted : goal.returns-in-None-clause-noted
+returns-in-None-clause-noted c =
+    rw (c.in-None.ensures.frame ∙ c.loop-p.invariant.frame, c.in-None.ensures.steps ∙ c.loop-p.invariant.steps)
+    (noted_still (mission_in c.args.words.now) (kernel_frame c.args.kseat.now) c.loop-p.p c.loop-p.noted _ c.loop-p.invariant.are_noted)

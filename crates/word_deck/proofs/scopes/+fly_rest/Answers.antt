@@ -1,7 +1,8 @@
 use Rattle.std.proofs.Common.{rules, ◌≡◌, ◌∙◌, ap, length, sym, subst}
 use Rattle.word_table.specs.Tables.{IsSeatOf, proc_of, seat_place}
+use Rattle.word_deck.specs.Flights.{IsBoarded}
 use Rattle.word_deck.specs.Landing.{IsLanded}
-use Rattle.word_deck.proofs.Listing.{landed_more, open_front, open_last}
+use Rattle.word_deck.proofs.Listing.{landed_more, landed_none, open_front, open_last}
 use Rattle.word_deck.proofs.scopes.+fly_rest.Goals as goal
 
 pub board-boarding-requires-clause-seat : goal.board-boarding-requires-clause-seat
@@ -18,6 +19,20 @@ pub fly_rest-kernel-requires-clause-waiting : goal.fly_rest-kernel-requires-clau
 fly_rest-kernel-requires-clause-waiting g t c κs within =
     open_front c.args.shared.now.resources.now.words c.args.roster.now.waiting.items c.pop.new.self.items c.pop.result c.in-Some.seat
     c.pop.ensures.items c.in-Some.is c.requires.waiting
+
+pub fly_rest-kernel-requires-clause-own : goal.fly_rest-kernel-requires-clause-own
+fly_rest-kernel-requires-clause-own g t c κs within = c.board-boarding.ensures.own
+
+pub returns-in-None-clause-seats : goal.returns-in-None-clause-seats
+returns-in-None-clause-seats g t c =
+    let none : length c.args.roster.now.landed.items ≡ 0 = search rules in landed_none c.args.shared.now.resources.now.words c.args.roster.now.landed.items none
+
+pub land_boarded-seat-requires-clause-own : goal.land_boarded-seat-requires-clause-own
+land_boarded-seat-requires-clause-own g t c = c.fly_rest-kernel.ensures.own
+
+pub land_boarded-seat-requires-clause-boarded : goal.land_boarded-seat-requires-clause-boarded
+land_boarded-seat-requires-clause-boarded g t c =
+    subst (λ seat. IsBoarded c.args.shared.now.resources.now.words seat c.board-boarding.result) (sym c.of-was.ensures) c.board-boarding.ensures.boarded
 
 pub land_boarded-seat-requires-clause-seat : goal.land_boarded-seat-requires-clause-seat
 land_boarded-seat-requires-clause-seat g t c =

@@ -1,5 +1,7 @@
-use Rattle.std.proofs.Common.{rules, ◌≡◌, ◌∙◌, ap, sym, length}
+use Rattle.std.proofs.Common.{rules, ◌≡◌, ◌∙◌, ap, subst, sym, length}
 use Rattle.frame_model.specs.Flights.{reports_of, rows_of}
+use Rattle.scram_kernel.specs.Kernels.{KernelParts}
+use Rattle.word_deck.specs.Kernels.{IsKernelDone}
 use Rattle.word_deck.proofs.Outcomes.{all_hold, few_told, landed_seats}
 use Rattle.word_deck.proofs.word_flights.land_all.Goals as goal
 
@@ -22,3 +24,11 @@ pub returns-clause-seats : goal.returns-clause-seats
 returns-clause-seats g c =
     let long : length c.args.seats.items ≡ length c.args.mission.now.spec.procs = search rules in
     landed_seats c.args.resources.words c.args.seats.items c.requires.seats (long ∙ ap (λ mission. length mission.spec.procs) (sym c.requires.mission))
+
+pub finish-requires : goal.finish-requires
+finish-requires g c =
+    let last = c.into_parts-kseat.ensures.kernel (rw c.requires.same c.requires.done) in
+    ap (λ (k : KernelParts). k.past) last ∙ sym (ap (λ (k : KernelParts). k.script.frames) last)
+
+pub returns-clause-kernel_done : goal.returns-clause-kernel_done
+returns-clause-kernel_done g c = subst (λ kseat. IsKernelDone c.args.mission.now kseat) (sym c.into_parts-kseat.ensures.seat) c.requires.done

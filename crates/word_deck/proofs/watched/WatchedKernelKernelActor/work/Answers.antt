@@ -2,7 +2,7 @@ use Rattle.std.proofs.Common.{rules, ◌≡◌, ◌∙◌, ap, sym, length}
 use Rattle.word_table.specs.Tables.{mission_in}
 use Rattle.word_deck.specs.Kernels.{frames_noted}
 use Rattle.word_deck.proofs.Noting.{done_log}
-use Rattle.word_deck.proofs.Watching.{rows_again, rows_count, within_flight}
+use Rattle.word_deck.proofs.Watching.{rows_again, rows_count, rows_rise, within_flight}
 use Rattle.word_deck.proofs.watched.WatchedKernelKernelActor.work.Goals as goal
 
 pub hand_row-requires-clause-taken : goal.hand_row-requires-clause-taken
@@ -36,3 +36,21 @@ returns-clause-done g c = λ is.
     let same : mission_in c.args.words.now ≡ new.mission.now = search rules in
     let here = rw same at done in
     (done, c.hand_row.ensures.taken ∙ count ∙ done_log new.mission.now new.kseat new.keeps.between here ∙ ap (λ m. m.script.frames) (sym same))
+
+pub hand_row-requires-clause-low : goal.hand_row-requires-clause-low
+hand_row-requires-clause-low g c =
+    let old = c.args.self.now.kernel in
+    let new = c.turn-turn.new.self in
+    let was : mission_in c.args.words.now ≡ old.mission.now = search rules in
+    let same : mission_in c.args.words.now ≡ new.mission.now = search rules in
+    (rows_rise (mission_in c.args.words.now) old.mission.now new.mission.now c.turn-turn.result old.kseat new.kseat c.rows-before.result.now c.rows.result.now was same
+    c.rows-before.ensures c.rows.ensures c.turn-turn.ensures.place).0
+
+pub hand_row-requires-clause-high : goal.hand_row-requires-clause-high
+hand_row-requires-clause-high g c =
+    let old = c.args.self.now.kernel in
+    let new = c.turn-turn.new.self in
+    let was : mission_in c.args.words.now ≡ old.mission.now = search rules in
+    let same : mission_in c.args.words.now ≡ new.mission.now = search rules in
+    (rows_rise (mission_in c.args.words.now) old.mission.now new.mission.now c.turn-turn.result old.kseat new.kseat c.rows-before.result.now c.rows.result.now was same
+    c.rows-before.ensures c.rows.ensures c.turn-turn.ensures.place).1
