@@ -7,6 +7,6 @@ use Rattle.spec_text.proofs.writing.with_limits.Goals as goal
 
 pub returns : goal.returns
 returns c =
-    let members : put (codes "assumption") (view c.in_ok-assumption.assumption) (members_of c.in_ok-list-2.field-0) ≡ with_limits c.args.spec.now (members_of c.args.object)
-    = rw (c.in_ok-assumption.ensures, c.in_ok-list-2.ensures, c.items-2.ensures, c.in_ok-list.ensures, c.items.ensures, ← c.spec.view_is) refl in
+    let members : put (codes "assumption") (view c.in_ok-assumption.assumption) (members_of c.in_ok-object.object) ≡ with_limits c.args.spec.now (members_of c.args.object)
+    = rw (c.in_ok-assumption.ensures, c.in_ok-object.ensures, c.items-2.ensures, c.in_ok-list.ensures, c.items.ensures, ← c.spec.view_is) refl in
     rw (← members) c.value.ensures
