@@ -84,8 +84,8 @@ fn with_asked(
 {
     let confs = spec.confs.items();
     let apps = spec.apps.items();
-    let on = make_on(alloc, spec, &demand.on)?;
     let object = put_set::<Conf, ByName>(object, alloc, "to", confs, demand.to)?;
+    let on = make_on(alloc, spec, &demand.on)?;
     let object = object.values("on", on)?;
     put_set::<AppSpec, ByName>(object, alloc, "off", apps, u16::from(demand.off))
 }

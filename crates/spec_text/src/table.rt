@@ -72,12 +72,9 @@ impl Writes<Choice> for Writer<'_> {
         let from = source_name(spec, rule.from);
         let to = spec.conf_name(rule.to);
         let procs = spec.procs.items();
-        let up = make_names::<Proc, ByName>(alloc, procs, u16::from(rule.up))?;
-        let object = Object::new(alloc)
-            .text("from", from)?
-            .text("to", to)?
-            .values("up", up)?
-            .list("when", self, rule.wants.items())?;
+        let object = Object::new(alloc).text("from", from)?.text("to", to)?;
+        let object = put_set::<Proc, ByName>(object, alloc, "up", procs, u16::from(rule.up))?;
+        let object = object.list("when", self, rule.wants.items())?;
         Ok(object.into_value())
     }
 }

@@ -50,12 +50,12 @@ fn with_table(object: Object, alloc: Global, spec: &Spec) -> Result<Object, Allo
     ensures { IfOk result (λ o. members_of o ≡ with_table spec.now (members_of object)) }
 {
     let writer = Writer { spec };
-    let goal = make_goal(alloc, &spec.goal)?;
-    object
+    let object = object
         .list("rules", &writer, spec.rules.items())?
         .list("bounds", &writer, spec.bounds.items())?
-        .text("start", spec.conf_name(spec.start))?
-        .value("goal", goal)
+        .text("start", spec.conf_name(spec.start))?;
+    let goal = make_goal(alloc, &spec.goal)?;
+    object.value("goal", goal)
 }
 
 /// Sets the members that hold the invariants, the preconditions and the failure assumption.
@@ -63,11 +63,11 @@ fn with_limits(object: Object, alloc: Global, spec: &Spec) -> Result<Object, All
     ensures { IfOk result (λ o. members_of o ≡ with_limits spec.now (members_of object)) }
 {
     let writer = Writer { spec };
-    let assumption = make_assumption(alloc, spec)?;
-    object
+    let object = object
         .list("invariants", &writer, spec.invariants.items())?
-        .list("preconditions", &writer, spec.preconditions.items())?
-        .value("assumption", assumption)
+        .list("preconditions", &writer, spec.preconditions.items())?;
+    let assumption = make_assumption(alloc, spec)?;
+    object.value("assumption", assumption)
 }
 
 /// Sets the member `scram` of a specification without demands, and the member `policy` unless the policy is to

@@ -1,3 +1,4 @@
+pub mod Appended
 pub mod Listing
 mod Steps
 pub mod Splitting
