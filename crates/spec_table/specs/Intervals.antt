@@ -58,7 +58,8 @@ read_interval apps at app variable least greatest =
 -- breaks.
 abbrev pub read_invariant : List AppSpec → List Conf → List ℕ → List Invariant → Data → Result Invariant DocFault
 read_invariant apps confs at done d =
-    chain (exactly_five_at (codes "from") (codes "app") (codes "variable") (codes "least") (codes "greatest") at d) (λ (m : Data × Data × Data × Data × Data).
+    chain (exactly_five_at (codes "from") (codes "app") (codes "variable") (codes "least") (codes "greatest") at d)
+    (λ (m : Data × Data × Data × Data × Data).
     chain (read_source confs (member_path at (codes "from")) m.0) (λ (from : Option ConfId).
     chain (read_interval apps at m.1 m.2 m.3 m.4) (λ (i : Interval).
     Ok (record { from = from; app = i.app; variable = i.variable; least = i.ends.least; greatest = i.ends.greatest }))))
@@ -71,7 +72,8 @@ read_invariants apps confs at d = elements_at (read_invariant apps confs) 0 64 a
 -- breaks.
 abbrev pub read_precondition : List AppSpec → List Conf → List ℕ → List Precondition → Data → Result Precondition DocFault
 read_precondition apps confs at done d =
-    chain (exactly_five_at (codes "configuration") (codes "app") (codes "variable") (codes "least") (codes "greatest") at d) (λ (m : Data × Data × Data × Data × Data).
+    chain (exactly_five_at (codes "configuration") (codes "app") (codes "variable") (codes "least") (codes "greatest") at d)
+    (λ (m : Data × Data × Data × Data × Data).
     chain (read_conf_id confs (member_path at (codes "configuration")) m.0) (λ (conf : ConfId).
     chain (read_interval apps at m.1 m.2 m.3 m.4) (λ (i : Interval).
     Ok (record { conf = conf; app = i.app; variable = i.variable; least = i.ends.least; greatest = i.ends.greatest }))))
