@@ -66,19 +66,19 @@ pub record DemandMembers : Type 0 where
   pub off : Data
 
 -- The values of a demand's members, in the order in which they are looked up.
-abbrev pub make_members : Data → Data → Data → Data → Data → Data → Data → Data → DemandMembers
-make_members name from wants up down to on off =
+abbrev pub make_demand_members : Data → Data → Data → Data → Data → Data → Data → Data → DemandMembers
+make_demand_members name from wants up down to on off =
     record { name = name; from = from; wants = wants; up = up; down = down; to = to; on = on; off = off }
 
 -- The values of the members of the demand that a value encodes, or the first document rule that is broken. The value
 -- must be an object that has exactly the members of a demand.
-abbrev pub find_members : List ℕ → Data → Result DemandMembers DocFault
-find_members at d =
+abbrev pub find_demand_members : List ℕ → Data → Result DemandMembers DocFault
+find_demand_members at d =
     chain (object_at at d) (λ (_ : ⊤).
     chain (required_four_at (codes "name") (codes "from") (codes "when") (codes "up") at d) (λ (m : Data × Data × Data × Data).
     chain (required_four_at (codes "down") (codes "to") (codes "on") (codes "off") at d) (λ (n : Data × Data × Data × Data).
     chain (no_more_than 8 at d) (λ (_ : ⊤).
-    Ok (make_members m.0 m.1 m.2 m.3 n.0 n.1 n.2 n.3)))))
+    Ok (make_demand_members m.0 m.1 m.2 m.3 n.0 n.1 n.2 n.3)))))
 
 -- The requirements of a demand on processors, applications and the chosen configuration, or the first document rule
 -- that they break. They are read from the members of the demand's object at path `at`.
@@ -95,7 +95,7 @@ read_requirements procs apps confs at m =
 -- breaks. No demand in `done` may have its name.
 abbrev pub read_demand : List Proc → List AppSpec → List Conf → List Factor → List ℕ → List Demand → Data → Result Demand DocFault
 read_demand procs apps confs factors at done d =
-    chain (find_members at d) (λ (m : DemandMembers).
+    chain (find_demand_members at d) (λ (m : DemandMembers).
     chain (read_new_name name_of_demand done (member_path at (codes "name")) m.name) (λ (name : List ℕ).
     chain (read_confs_set confs (member_path at (codes "from")) m.from) (λ (from : ℕ).
     chain (elements_at (read_want factors) 0 6 (member_path at (codes "when")) m.wants) (λ (wants : List Want).

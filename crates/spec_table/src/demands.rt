@@ -6,7 +6,7 @@ ghost use Rattle.serde_json.specs.View.{view};
 ghost use Rattle.scram_doc.specs.Chain.{ok_map};
 ghost use Rattle.scram_doc.specs.Faults.{Answers};
 ghost use Rattle.scram_doc.specs.Lists.{AllAfter};
-ghost use Rattle.spec_table.specs.Demands.{find_members, make_members, on_set, read_demand, read_demands, read_modes_on, read_on_app, read_on_mode, read_on_modes, read_requirements};
+ghost use Rattle.spec_table.specs.Demands.{find_demand_members, make_demand_members, on_set, read_demand, read_demands, read_modes_on, read_on_app, read_on_mode, read_on_modes, read_requirements};
 ghost use Rattle.spec_table.specs.Facts.{AreOn, FitsRequirements, HasMoreModes, IsNewDemand, IsNewOn, IsOnAfter};
 
 use crate::choices::Wants;
@@ -121,7 +121,7 @@ struct Requirements {
 
 /// The values of the members of a demand.
 #[derive(Clone, Copy)]
-struct Members<'a> {
+struct DemandMembers<'a> {
     name: &'a Value,
     from: &'a Value,
     wants: &'a Value,
@@ -134,16 +134,16 @@ struct Members<'a> {
 
 /// Returns the members of the demand at this path. Returns an error if the value is not an object, lacks a member of a
 /// demand, or has further members.
-fn find_members<'a>(v: &'a Value, at: &Path) -> Result<Members<'a>, DocFault>
+fn find_demand_members<'a>(v: &'a Value, at: &Path) -> Result<DemandMembers<'a>, DocFault>
     requires { length at.now ≤ 24 }
-    ensures { ok_map (λ m. make_members (view m.name.now) (view m.from.now) (view m.wants.now) (view m.up.now) (view m.down.now) (view m.to.now)
-        (view m.on.now) (view m.off.now)) result ≡ find_members at.now (view v.now) }
+    ensures { ok_map (λ m. make_demand_members (view m.name.now) (view m.from.now) (view m.wants.now) (view m.up.now) (view m.down.now) (view m.to.now)
+        (view m.on.now) (view m.off.now)) result ≡ find_demand_members at.now (view v.now) }
 {
     object(v, at)?;
     let (name, from, wants, up) = required_four(v, ("name", "from", "when", "up"), at)?;
     let (down, to, on, off) = required_four(v, ("down", "to", "on", "off"), at)?;
     no_more_than(v, 8, at)?;
-    Ok(Members {
+    Ok(DemandMembers {
         name,
         from,
         wants,
@@ -158,12 +158,12 @@ fn find_members<'a>(v: &'a Value, at: &Path) -> Result<Members<'a>, DocFault>
 /// Reads the requirements of the demand at this path from its members.
 fn read_requirements(
     vocabulary: &Vocabulary,
-    members: &Members<'_>,
+    members: &DemandMembers<'_>,
     at: &Path,
 ) -> Result<Requirements, DocFault>
     requires room { length at.now ≤ 24 }
     ensures value { result ≡ read_requirements vocabulary.now.procs vocabulary.now.apps vocabulary.now.confs at.now
-        (make_members (view members.now.name.now) (view members.now.from.now) (view members.now.wants.now) (view members.now.up.now)
+        (make_demand_members (view members.now.name.now) (view members.now.from.now) (view members.now.wants.now) (view members.now.up.now)
         (view members.now.down.now) (view members.now.to.now) (view members.now.on.now) (view members.now.off.now)) }
     ensures fits { IfOk result (FitsRequirements vocabulary.now.procs vocabulary.now.apps vocabulary.now.confs) }
 {
@@ -206,7 +206,7 @@ impl NamedElements<Demand, ByName> for Demands<'_> {
         v: &Value,
         at: &Path,
     ) -> Result<Demand, DocError> {
-        let members = find_members(v, at)?;
+        let members = find_demand_members(v, at)?;
         let vocabulary = self.vocabulary;
         let name = read_new_name(done, members.name, &at.member("name"))?;
         let from = read_confs_set(&vocabulary.confs, members.from, &at.member("from"))?;
