@@ -1,5 +1,8 @@
 -- Lemmas on the writer that an opening creates.
-use Rattle.std.proofs.Common.{◌≡◌, ◌∙◌, ap, sym, []}
+use Rattle.std.proofs.Common.{◌≡◌, ◌∙◌, zero, suc, ap, sym, subst, arith, List, [], ◌∷◌, ◌++◌}
+use Rattle.std.specs.Prelude.{All}
+use Rattle.std.proofs.lemmas.List.Elements.{All-append}
+use Rattle.telemetry_tap.specs.declared.taps.Reader.{Reader}
 use Rattle.frame_model.specs.declared.readings.Reading.TheVariants.{Steady}
 use Rattle.frame_model.specs.Laws.{BeginningsAreRead}
 use Rattle.frame_model.specs.Readings.{reading_of}
@@ -7,7 +10,7 @@ use Rattle.telemetry_tap.specs.declared.taps.Tap.{Tap}
 use Rattle.telemetry_tap.specs.declared.taps.Writer.{Writer}
 use Rattle.telemetry_tap.specs.Rule.{TapSeat, writer_view}
 use Rattle.telemetry_tap.specs.Summaries.{summary_begun, first_rows}
-use Rattle.telemetry_tap.specs.Taps.{IsWriterOf, tap_mission}
+use Rattle.telemetry_tap.specs.Taps.{AreNewReaders, IsReaderOf, IsWriterOf, rows_seen, tap_mission}
 use Rattle.telemetry_tap.proofs.Begun.{none_begun}
 
 pub first_writer : BeginningsAreRead → (tap : Tap) (writer : Writer) → writer.inner.table_id ≡ tap.table.shared.table_id → writer.inner.me ≡ (writer_view (tap_mission tap), [])
@@ -21,3 +24,14 @@ first_writer law tap writer table me none few start = record {
   begun = few ∙ none_begun law (tap_mission tap) ∙ ap (summary_begun (tap_mission tap)) (sym none);
   reading = start ∙ ap (λ n. reading_of (tap_mission tap).spec (first_rows (tap_mission tap) n)) (sym none);
 }
+
+-- A new reader after new readers.
+
+all_one : {A : Type 0} (Fact : A → Type 0) (x : A) → Fact x → All Fact (x ∷ [])
+all_one Fact x fact zero d low = fact
+all_one Fact x fact (suc k) d low = absurd (omega (arith, low))
+
+pub new_more : (tap : Tap) (readers all : List Reader) (reader : Reader) → AreNewReaders tap readers → IsReaderOf tap reader → rows_seen reader ≡ 0 → all ≡ readers ++ reader ∷ [] → AreNewReaders tap all
+new_more tap readers all reader are is none same =
+    subst (AreNewReaders tap) (sym same)
+    (All-append (λ (r : Reader). IsReaderOf tap r × (rows_seen r ≡ 0)) readers (reader ∷ []) are (all_one (λ (r : Reader). IsReaderOf tap r × (rows_seen r ≡ 0)) reader (is, none)))
