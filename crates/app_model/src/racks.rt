@@ -55,12 +55,17 @@ pub fn box_kind(app: &Box<dyn App + Send>) -> KindId
 pub fn rack_fits(rack: &Rack) -> bool
     ensures { IsTrue result ↔ RackFits kind_of rack.now.boxes.items }
 {
-    rack.boxes.len() == 5
-        && box_kind(&rack.boxes[0]).0 == 0
-        && box_kind(&rack.boxes[1]).0 == 1
-        && box_kind(&rack.boxes[2]).0 == 2
-        && box_kind(&rack.boxes[3]).0 == 3
-        && box_kind(&rack.boxes[4]).0 == 4
+    if rack.boxes.len() != 5 {
+        return false;
+    }
+    let kinds = [
+        box_kind(&rack.boxes[0]).0,
+        box_kind(&rack.boxes[1]).0,
+        box_kind(&rack.boxes[2]).0,
+        box_kind(&rack.boxes[3]).0,
+        box_kind(&rack.boxes[4]).0,
+    ];
+    kinds == [0, 1, 2, 3, 4]
 }
 
 fn all_racks_fit(racks: &[Rack]) -> bool

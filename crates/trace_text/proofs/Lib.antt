@@ -1,4 +1,4 @@
-pub mod Appended
+mod Appended
 pub mod Listing
 mod Steps
 pub mod Splitting
