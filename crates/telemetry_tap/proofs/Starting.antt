@@ -1,7 +1,6 @@
 -- Lemmas on the writer that an opening creates.
-use Rattle.std.proofs.Common.{◌≡◌, ◌∙◌, zero, suc, ap, sym, subst, arith, List, [], ◌∷◌, ◌++◌}
-use Rattle.std.specs.Prelude.{All}
-use Rattle.std.proofs.lemmas.List.Elements.{All-append}
+use Rattle.std.proofs.Common.{◌≡◌, ◌∙◌, ap, sym, subst, List, [], ◌∷◌, ◌++◌}
+use Rattle.std.proofs.lemmas.List.Elements.{All-push}
 use Rattle.telemetry_tap.specs.declared.taps.Reader.{Reader}
 use Rattle.frame_model.specs.declared.readings.Reading.TheVariants.{Steady}
 use Rattle.frame_model.specs.Laws.{BeginningsAreRead}
@@ -27,11 +26,7 @@ first_writer law tap writer table me none few start = record {
 
 -- A new reader after new readers.
 
-all_one : {A : Type 0} (Fact : A → Type 0) (x : A) → Fact x → All Fact (x ∷ [])
-all_one Fact x fact zero d low = fact
-all_one Fact x fact (suc k) d low = absurd (omega (arith, low))
-
 pub new_more : (tap : Tap) (readers all : List Reader) (reader : Reader) → AreNewReaders tap readers → IsReaderOf tap reader → rows_seen reader ≡ 0 → all ≡ readers ++ reader ∷ [] → AreNewReaders tap all
 new_more tap readers all reader are is none same =
     subst (AreNewReaders tap) (sym same)
-    (All-append (λ (r : Reader). IsReaderOf tap r × (rows_seen r ≡ 0)) readers (reader ∷ []) are (all_one (λ (r : Reader). IsReaderOf tap r × (rows_seen r ≡ 0)) reader (is, none)))
+    (All-push (λ (r : Reader). IsReaderOf tap r × (rows_seen r ≡ 0)) readers reader are (is, none))
