@@ -4,4 +4,5 @@ pub mod Examples
 pub mod Flights
 pub mod Keeping
 pub mod Reaching
+pub mod Reading
 pub mod Showing

@@ -5,21 +5,19 @@ ghost use Rattle.scram_types.specs.Specification.{modes_of_kind};
 ghost use Rattle.kind_table.specs.Kinds.{variable_read};
 ghost use Rattle.kind_table.specs.Names.{kind_names, mode_names, variable_names, is_spelled, IsModeNumber, AllNamesAgree, number_in, name_in};
 
-use crate::table::{
-    AUTOPILOT, DATA_LINK, FLIGHT_CONTROL, NAVIGATOR, POWER_MONITOR, TASK, Variable, find_kind,
-};
+use crate::table::{Variable, find_kind, name_of};
 use scram_types::{KindId, Mode};
 
 fn names_of_kinds() -> [Option<&'static str>; 6]
     ensures { map (option_map (λ s. s.now)) result ≡ kind_names }
 {
     [
-        Some(AUTOPILOT.name),
-        Some(FLIGHT_CONTROL.name),
-        Some(POWER_MONITOR.name),
-        Some(NAVIGATOR.name),
-        Some(DATA_LINK.name),
-        Some(TASK.name),
+        Some(name_of::AUTOPILOT),
+        Some(name_of::FLIGHT_CONTROL),
+        Some(name_of::POWER_MONITOR),
+        Some(name_of::NAVIGATOR),
+        Some(name_of::DATA_LINK),
+        Some(name_of::TASK),
     ]
 }
 

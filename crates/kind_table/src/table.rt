@@ -86,9 +86,24 @@ const UNUSED: Variable = Variable {
     start: 0,
 };
 
+/// The names of the kinds. A function that needs only a name takes it from here and not from the whole record.
+pub(crate) mod name_of {
+    pub const AUTOPILOT: &str = "autopilot";
+
+    pub const FLIGHT_CONTROL: &str = "flight_control";
+
+    pub const POWER_MONITOR: &str = "power_monitor";
+
+    pub const NAVIGATOR: &str = "navigator";
+
+    pub const DATA_LINK: &str = "datalink";
+
+    pub const TASK: &str = "task";
+}
+
 /// The record of kind `autopilot`.
 pub const AUTOPILOT: Kind = Kind {
-    name: "autopilot",
+    name: name_of::AUTOPILOT,
     modes: &[None, Some("navigate"), Some("hold")],
     widest: autopilot::NAVIGATE,
     variables: &[
@@ -105,7 +120,7 @@ pub const AUTOPILOT: Kind = Kind {
 
 /// The record of kind `flight_control`.
 pub const FLIGHT_CONTROL: Kind = Kind {
-    name: "flight_control",
+    name: name_of::FLIGHT_CONTROL,
     modes: &[None, Some("augmented"), Some("direct")],
     widest: flight_control::DIRECT,
     variables: &[
@@ -130,7 +145,7 @@ pub const FLIGHT_CONTROL: Kind = Kind {
 
 /// The record of kind `power_monitor`.
 pub const POWER_MONITOR: Kind = Kind {
-    name: "power_monitor",
+    name: name_of::POWER_MONITOR,
     modes: &[None, Some("normal"), Some("saver"), Some("essential")],
     widest: power_monitor::NORMAL,
     variables: &[
@@ -151,7 +166,7 @@ pub const POWER_MONITOR: Kind = Kind {
 
 /// The record of kind `navigator`.
 pub const NAVIGATOR: Kind = Kind {
-    name: "navigator",
+    name: name_of::NAVIGATOR,
     modes: &[None, Some("route"), Some("coarse")],
     widest: navigator::ROUTE,
     variables: &[
@@ -168,7 +183,7 @@ pub const NAVIGATOR: Kind = Kind {
 
 /// The record of kind `data_link`.
 pub const DATA_LINK: Kind = Kind {
-    name: "datalink",
+    name: name_of::DATA_LINK,
     modes: &[None, Some("fast"), Some("slow")],
     widest: data_link::FAST,
     variables: &[
@@ -189,7 +204,7 @@ pub const DATA_LINK: Kind = Kind {
 
 /// The record of kind `task`.
 pub const TASK: Kind = Kind {
-    name: "task",
+    name: name_of::TASK,
     modes: &[None, Some("full"), Some("reduced"), Some("minimal")],
     widest: task::FULL,
     variables: &[

@@ -10,3 +10,6 @@ loop-i-preserved c =
       width = length-set c.loop-i.covers c.from.result c.in_ok-covers.field-0 ∙ wide;
       found = covers_more c.args.spec.now c.loop-i.covers c.loop-i.i c.from.result c.in_ok-covers.field-0 c.from.ensures (omega arith) c.in_ok-covers.ensures c.loop-i.invariant.found;
     }
+
+pub returns : goal.returns
+returns c = λ k cover low there. c.loop-i.invariant.found k cover (let same = c.count_confs-i-end.ensures.value in omega arith) there

@@ -1,6 +1,19 @@
-use Rattle.std.proofs.Common.{ap, refl, ◌∙◌}
+use Rattle.std.proofs.Common.{ap, arith, refl, ◌∙◌}
+use Rattle.std.proofs.lemmas.Nat.{mul-le}
 use Rattle.dep_order.specs.declared.timetables.Times.{Times}
 use Rattle.coverage_check.proofs.timing.least.Goals as goal
+
+pub overflow_mul-before : goal.overflow_mul-before
+overflow_mul-before c = omega (arith, mul-le c.further.result c.slowest.result 256 196606 c.further.ensures.most c.slowest.ensures.most)
+
+pub overflow_add-before-2 : goal.overflow_add-before-2
+overflow_add-before-2 c = omega (arith, mul-le c.further.result c.slowest.result 256 196606 c.further.ensures.most c.slowest.ensures.most)
+
+pub overflow_add-result : goal.overflow_add-result
+overflow_add-result c = omega (arith, mul-le c.further.result c.slowest.result 256 196606 c.further.ensures.most c.slowest.ensures.most)
+
+pub overflow_add-result-2 : goal.overflow_add-result-2
+overflow_add-result-2 c = omega (arith, mul-le c.further.result c.slowest.result 256 196606 c.further.ensures.most c.slowest.ensures.most)
 
 pub returns : goal.returns
 returns c =

@@ -1,6 +1,7 @@
-use Rattle.std.proofs.Common.{◌∙◌, sym, take}
+use Rattle.std.proofs.Common.{◌∙◌, subst, sym, take}
 use Rattle.std.specs.Prelude.{not}
-use Rattle.cube_cover.specs.Cubes.{holders, holds}
+use Rattle.std.proofs.lemmas.List.{take_all}
+use Rattle.cube_cover.specs.Cubes.{IsSplit, holders, holds}
 use Rattle.cube_cover.proofs.Splitting.{none_split, outside_test, parts_more}
 use Rattle.cube_cover.proofs.splits.split_by.Goals as goal
 
@@ -17,3 +18,7 @@ loop-cube-preserved c = record {
       (λ w known. c.in_ok-split_cube.ensures.beyond w known) v scope
       ∙ outside_test _ (holds c.args.by v);
 }
+
+pub returns : goal.returns
+returns c = subst (λ read. IsSplit c.args.spec.now read c.args.by c.loop-cube.inside.items c.loop-cube.outside.items)
+    (take_all c.loop-cube.cube-index c.args.cubes.now c.loop-cube-test.false) c.loop-cube.invariant
