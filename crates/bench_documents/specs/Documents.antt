@@ -3,7 +3,7 @@ use Rattle.std.specs.Prelude.{◌≡◌, ◌++◌, ℕ, List, [], Ok}
 use Rattle.scram_types.specs.Scripts.{ScriptParts}
 use Rattle.scram_types.specs.Specification.{Parts}
 use Rattle.scram_io.specs.Outside.{SinkState, taken}
-use Rattle.reconf_spec.specs.Documents.{spec_of}
+use Rattle.spec_reading.specs.Documents.{spec_of}
 use Rattle.fault_script.specs.Reading.{script_of}
 use Rattle.mission_gen.specs.Specifications.{mission_text}
 

@@ -2,7 +2,7 @@
 use Rattle.std.proofs.Common.{◌≡◌, ℕ, Bool, true, false, List, [], ◌∷◌, ◌++◌, cond, length, Option, Some, None, option_and_then, refl, map}
 use Rattle.std.specs.Prelude.{◌==◌, ◌||◌, codes}
 use Rattle.serde_json.specs.Find.{as_number, as_u64, get}
-use Rattle.spec_members.specs.Versions.{first_members, has_demands, has_policy, has_version, is_version}
+use Rattle.spec_reading.specs.Versions.{first_members, has_demands, has_policy, has_version, is_version}
 use Rattle.fault_script.specs.Versions.{member_count, version_from}
 use Rattle.fault_script.specs.declared.version.Version.TheVariants.{First, Second}
 use Rattle.document_explanations.specs.Laws.{TablesAreRead}

@@ -7,7 +7,7 @@ use Rattle.serde_json.specs.Data.{Data, Items, Members, member, no_members}
 use Rattle.serde_json.specs.Events.{items_len}
 use Rattle.serde_json.specs.Find.{as_array, as_object}
 use Rattle.scram_doc.specs.declared.rule.TheConstants.{FURTHER_MEMBER, WRONG_LENGTH}
-use Rattle.spec_members.specs.Versions.{has_demands, has_policy, has_version}
+use Rattle.spec_reading.specs.Versions.{has_demands, has_policy, has_version}
 use Rattle.document_explanations.specs.Objects.{Member, member_named, known_members}
 use Rattle.document_explanations.specs.Paths.{value_at, wanted_at}
 use Rattle.document_explanations.specs.Values.{value_text}

@@ -3,7 +3,7 @@ use Rattle.std.specs.Prelude.{◌≡◌, ◌≤◌, ℕ, List, [], ◌∷◌, �
 use Rattle.std.specs.Fmt.{char_count}
 use Rattle.std.specs.List.{filter}
 use Rattle.serde_json.specs.Data.{Data}
-use Rattle.spec_members.specs.Versions.{first_members, has_demands, has_policy, members_count}
+use Rattle.spec_reading.specs.Versions.{first_members, has_demands, has_policy, members_count}
 use Rattle.fault_script.specs.Versions.{member_count, version_of}
 use Rattle.document_explanations.specs.Found.{cut, is_version_of}
 use Rattle.document_explanations.specs.Objects.{Member, known_members}

@@ -3,7 +3,7 @@ use Rattle.std.specs.Prelude.{ℕ, ◌==◌, Bool, true, false, List, [], ◌∷
 use Rattle.std.specs.Option.{option_map_or, option_or}
 use Rattle.scram_types.specs.declared.limits.TheConstants.{MAX_SCRIPT_BYTES, MAX_SPECIFICATION_BYTES}
 use Rattle.scram_doc.specs.declared.rule.TheConstants as rule
-use Rattle.spec_members.specs.declared.rule.TheConstants as specification_rule
+use Rattle.spec_reading.specs.declared.rule.TheConstants as specification_rule
 use Rattle.fault_script.specs.declared.rule.TheConstants as script_rule
 use Rattle.document_explanations.specs.declared.objects.Object.{Object}
 use Rattle.document_explanations.specs.declared.objects.Object.TheVariants as object

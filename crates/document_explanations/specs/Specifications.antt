@@ -4,8 +4,8 @@ use Rattle.scram_types.specs.declared.limits.TheConstants.{MAX_SPECIFICATION_BYT
 use Rattle.scram_types.specs.Specification.{Parts}
 use Rattle.scram_doc.specs.declared.fault.DocFault.{DocFault}
 use Rattle.scram_doc.specs.Documents.{document}
-use Rattle.spec_apps.specs.declared.fault.SpecFault.{SpecFault}
-use Rattle.spec_members.specs.declared.rule.TheConstants as rule
+use Rattle.spec_reading.specs.declared.fault.SpecFault.{SpecFault}
+use Rattle.spec_reading.specs.declared.rule.TheConstants as rule
 use Rattle.form_base.specs.Answers.{Answer, AnswersDocument, AnswersFile}
 use Rattle.form_base.specs.Lines.{specification_line}
 use Rattle.form_base.specs.Specifications.{BreaksSpecification, SaysSpecification, long_specification}

@@ -20,7 +20,7 @@ use Rattle.document_explanations.specs.declared.objects.Versions.{Versions}
 use Rattle.document_explanations.specs.declared.objects.Versions.TheVariants as versions
 use Rattle.document_explanations.specs.declared.objects.Wanted.{Wanted}
 use Rattle.document_explanations.specs.declared.objects.Wanted.TheVariants as wanted
-use Rattle.spec_members.specs.Names.{name_of_proc}
+use Rattle.spec_reading.specs.Names.{name_of_proc}
 
 -- The texts, each preceded by a comma and a space.
 abbrev pub further_listed : List (List ℕ) → List ℕ

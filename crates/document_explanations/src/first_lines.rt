@@ -7,9 +7,9 @@ ghost use Rattle.form_base.specs.mission_files.Lines.{script_line};
 
 use crate::lines::Lines;
 use fault_script::ScriptFault;
-use reconf_spec::SpecFault;
 use scram_doc::Path;
 use scram_types::{Name, NoMemory};
+use spec_reading::SpecFault;
 
 /// Appends the line for a specification document that breaks a rule. The line has the rule's number and the path at
 /// which the rule is broken. If `fault` names the applications in a cycle of needs, the line also has their names.

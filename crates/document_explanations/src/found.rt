@@ -3,7 +3,7 @@
 ghost use Rattle.std.specs.Prelude.{◌≡◌, ◌++◌, [], IfOk, OnOk, codes, decimal, string_bytes, if◌then◌else◌};
 ghost use Rattle.json.specs.Print.{quoted};
 ghost use Rattle.serde_json.specs.View.{members_view, view};
-ghost use Rattle.spec_members.specs.Versions.{has_version};
+ghost use Rattle.spec_reading.specs.Versions.{has_version};
 ghost use Rattle.document_explanations.specs.Found.{cut, elements_text, found_text_at, further_members, further_text, is_known, is_version_of};
 
 use crate::lines::Lines;

@@ -176,7 +176,7 @@ fn add_variables(lines: &mut Lines, variables: &[Variable]) -> Result<(), NoMemo
 pub struct ProcText;
 
 impl Shown<Proc> for ProcText {
-    ghost use Rattle.spec_members.specs.Names.{name_of_proc};
+    ghost use Rattle.spec_reading.specs.Names.{name_of_proc};
 
     ghost shown = { name_of_proc };
 

@@ -9,7 +9,7 @@ use fault_script::rule as script_rule;
 use scram_doc::rule;
 use scram_types::NoMemory;
 use scram_types::limits::{MAX_SCRIPT_BYTES, MAX_SPECIFICATION_BYTES};
-use spec_members::rule as specification_rule;
+use spec_reading::rule as specification_rule;
 
 /// A kind of document whose broken rules are explained.
 #[derive(Clone, Copy)]

@@ -15,9 +15,9 @@ use crate::long_documents::make_long_lines;
 use crate::rules::DocumentKind;
 use form_base::loads::Document;
 use form_base::refusals::{Refusal, RefusalLine, Refused};
-use reconf_spec::{SpecError, SpecFault, read_spec, rule};
 use scram_types::limits::MAX_SPECIFICATION_BYTES;
 use scram_types::{NoMemory, Spec};
+use spec_reading::{SpecError, SpecFault, read_spec, rule};
 use std::alloc::Global;
 
 /// The kind of document that encodes a specification. The refusal of a document that breaks a rule explains the rule.

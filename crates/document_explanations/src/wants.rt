@@ -1,6 +1,7 @@
 //! The texts that describe expected values.
 
-ghost use Rattle.std.specs.Prelude.{◌≡◌, ◌++◌, OnOk, option_map};
+ghost use Rattle.std.specs.Prelude.{◌≡◌, ◌++◌, OnOk, codes, decimal, option_map};
+ghost use Rattle.std.specs.Fmt.{signed_decimal};
 ghost use Rattle.document_explanations.specs.Wants.{factors_and_values, script_factors, script_procs, step_after_mark, length_wanted, number_text, text_text, wanted_text};
 
 use crate::lines::Lines;
@@ -34,9 +35,7 @@ fn add_length(lines: &mut Lines, length: Length) -> Result<(), NoMemory>
 {
     match length {
         Length::Within { least, most } => {
-            lines.number(least)?;
-            lines.push(" to ")?;
-            lines.number(most)?;
+            add_range(lines, least, most)?;
             lines.push(" elements")
         }
         Length::Halts => {
@@ -49,6 +48,24 @@ fn add_length(lines: &mut Lines, length: Length) -> Result<(), NoMemory>
     }
 }
 
+// Appends two numbers in decimal, with ` to ` between them.
+fn add_range(lines: &mut Lines, least: usize, greatest: usize) -> Result<(), NoMemory>
+    ensures { OnOk result (lines.new ≡ lines.old ++ decimal least ++ codes " to " ++ decimal greatest) }
+{
+    lines.number(least)?;
+    lines.push(" to ")?;
+    lines.number(greatest)
+}
+
+// Appends two numbers in decimal, with ` to ` between them. A number is preceded by `-` if it is negative.
+fn add_signed_range(lines: &mut Lines, least: &i64, greatest: &i64) -> Result<(), NoMemory>
+    ensures { OnOk result (lines.new ≡ lines.old ++ signed_decimal least.now ++ codes " to " ++ signed_decimal greatest.now) }
+{
+    lines.signed(least)?;
+    lines.push(" to ")?;
+    lines.signed(greatest)
+}
+
 fn add_number(lines: &mut Lines, spec: Option<&Spec>, number: &Number) -> Result<(), NoMemory>
     ensures { OnOk result (lines.new ≡ lines.old ++ number_text (option_map (λ s. s.now) spec.entry) number.now) }
 {
@@ -56,15 +73,9 @@ fn add_number(lines: &mut Lines, spec: Option<&Spec>, number: &Number) -> Result
         Number::SpecificationVersion => lines.push("1, 2 or 3"),
         Number::ScriptVersion => lines.push("1 or 2"),
         Number::Whole { least, greatest } => {
-            lines.number(*least as usize)?;
-            lines.push(" to ")?;
-            lines.number(*greatest as usize)
+            add_range(lines, *least as usize, *greatest as usize)
         }
-        Number::Signed { least, greatest } => {
-            lines.signed(least)?;
-            lines.push(" to ")?;
-            lines.signed(greatest)
-        }
+        Number::Signed { least, greatest } => add_signed_range(lines, least, greatest),
         Number::Frame { least } => {
             lines.number(*least as usize)?;
             lines.push(" to frames - 1")

@@ -11,8 +11,8 @@ use Rattle.scram_types.specs.Specification.{Each, bound_in}
 use Rattle.scram_types.proofs.Booleans.{and_left, and_right, and_true, by_bool, or_cases, or_false, or_left, or_right, true_false}
 use Rattle.scram_types.proofs.Naturals.{equal, equal_test}
 use Rattle.scram_types.proofs.Options.{same_some}
-use Rattle.reconf_spec.specs.Writable.{lists_pair}
-use Rattle.spec_members.specs.Kept.{NoDuplicates}
+use Rattle.spec_reading.specs.Writable.{lists_pair}
+use Rattle.spec_reading.specs.Kept.{NoDuplicates}
 
 -- Whether a bound is for the pair of configurations `i` and `j`.
 abbrev pub is_for : ℕ → ℕ → Bound → Bool

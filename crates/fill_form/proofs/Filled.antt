@@ -13,7 +13,7 @@ use Rattle.scram_types.proofs.Options.{none_left, none_right}
 use Rattle.scram_types.proofs.Searches.{below_none}
 use Rattle.coverage_check.proofs.Showing.{not_shown}
 use Rattle.coverage_check.specs.Timing.{greatest_bound, is_bound_asked, least}
-use Rattle.reconf_spec.specs.Writable.{IsWritable}
+use Rattle.spec_reading.specs.Writable.{IsWritable}
 use Rattle.fill_form.specs.Filling.{filled, filled_bounds, is_bound_missing, least_bound, missing_bounds, raised}
 use Rattle.fill_form.specs.Refusing.{asks_too_long, long_refusal, long_refusal_of, length_refusal, wide_refusal}
 use Rattle.fill_form.proofs.Apart.{Apart, IsNear, all_append, all_of_each, all_weaker, apart_append, apart_few, apart_of_new, each_of_all, gives, gives_cons, gives_own, is_for, new_of_apart, none_of}

@@ -4,8 +4,8 @@ use Rattle.std.proofs.Common.{◌≡◌, ◌∙◌, ℕ, ◌+◌, ap, sym, subst
 use Rattle.std.specs.Prelude.{None, codes, max}
 use Rattle.scram_types.specs.declared.specification.Bound.{Bound}
 use Rattle.scram_types.specs.Specification.{IsSpec, Parts}
-use Rattle.reconf_spec.specs.Writable.{IsWritable}
-use Rattle.spec_text.specs.Texts.{spec_text}
+use Rattle.spec_reading.specs.Writable.{IsWritable}
+use Rattle.reconf_spec.specs.Texts.{spec_text}
 use Rattle.fill_form.specs.declared.filling.Filling.{Filling}
 use Rattle.fill_form.specs.Filling.{filled, filled_bounds, filled_text, with_times}
 use Rattle.fill_form.specs.Refusing.{IsFilling}

@@ -4,7 +4,7 @@ use Rattle.scram_types.specs.declared.specification.Bound.{Bound}
 use Rattle.scram_types.specs.Lookups.{conf_id}
 use Rattle.scram_types.specs.Specification.{Parts, bound_in}
 use Rattle.coverage_check.specs.Timing.{greatest_bound, is_bound_asked, least}
-use Rattle.spec_text.specs.Texts.{spec_text}
+use Rattle.reconf_spec.specs.Texts.{spec_text}
 
 -- A given bound, raised to the smallest sufficient length if the bound is required and shorter than this length.
 abbrev pub raised : Parts → Bound → Bound

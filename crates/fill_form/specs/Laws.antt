@@ -3,7 +3,7 @@ use Rattle.std.specs.Prelude.{◌≡◌, None}
 use Rattle.scram_types.specs.Specification.{IsSpec, Parts}
 use Rattle.coverage_check.specs.Acceptance.{Accepts, choice_refusal, form_refusal, range_refusal}
 use Rattle.coverage_check.specs.Demands.{demand_refusal}
-use Rattle.reconf_spec.specs.Writable.{IsWritable}
+use Rattle.spec_reading.specs.Writable.{IsWritable}
 use Rattle.fill_form.specs.Filling.{filled}
 use Rattle.fill_form.specs.Refusing.{fill_refusal}
 

@@ -3,8 +3,8 @@
 ghost use Rattle.std.specs.Prelude.{◌≡◌, ◌∷◌, ◌++◌, [], IfOk, List, None, codes};
 ghost use Rattle.scram_types.specs.Specification.{IsSpec};
 ghost use Rattle.coverage_check.specs.Form.{state_refusal};
-ghost use Rattle.reconf_spec.specs.Writable.{IsWritable};
-ghost use Rattle.spec_text.specs.Texts.{spec_text};
+ghost use Rattle.spec_reading.specs.Writable.{IsWritable};
+ghost use Rattle.reconf_spec.specs.Texts.{spec_text};
 ghost use Rattle.form_base.specs.Answers.{Gives};
 ghost use Rattle.form_base.specs.Endings.{Ends, IsTaken, Prepares, PreparesWithoutFiles};
 ghost use Rattle.form_base.specs.Lines.{shown_line};

@@ -4,7 +4,7 @@ use Rattle.scram_types.specs.declared.rows.Flown.{Flown}
 use Rattle.scram_types.specs.Scripts.{ScriptParts}
 use Rattle.scram_types.specs.Specification.{IsSpec, Parts}
 use Rattle.fault_script.specs.Fits.{Fits}
-use Rattle.reconf_spec.specs.Documents.{spec_of}
+use Rattle.spec_reading.specs.Documents.{spec_of}
 use Rattle.mission_gen.specs.Changes.{generated_script}
 use Rattle.mission_gen.specs.Specifications.{generated_text, mission_text}
 use Rattle.coverage_check.specs.Missions.{mission_of}

@@ -10,7 +10,7 @@ use Rattle.scram_types.specs.declared.specification.Demand.{Demand}
 use Rattle.scram_types.specs.declared.specification.Factor.{Factor}
 use Rattle.scram_types.specs.declared.specification.Proc.{Proc}
 use Rattle.scram_doc.specs.Paths.{shown as path_text}
-use Rattle.spec_apps.specs.declared.fault.SpecFault.{SpecFault}
+use Rattle.spec_reading.specs.declared.fault.SpecFault.{SpecFault}
 use Rattle.coverage_check.specs.declared.shown.Shown.{Shown}
 use Rattle.coverage_check.specs.declared.shown.Other.{Other}
 use Rattle.coverage_check.specs.declared.shown.Other.TheVariants as other

@@ -5,11 +5,11 @@ use Rattle.scram_types.specs.declared.limits.TheConstants.{MAX_SPECIFICATION_BYT
 use Rattle.scram_types.specs.declared.specification.AppSpec.{AppSpec}
 use Rattle.scram_types.specs.Specification.{IsSpec, Parts}
 use Rattle.scram_doc.specs.declared.fault.DocFault.{DocFault}
-use Rattle.spec_apps.specs.declared.fault.SpecFault.{SpecFault}
-use Rattle.spec_members.specs.declared.rule.TheConstants as rule
-use Rattle.spec_apps.specs.Answers.{CycleAmong, NamedAmong}
-use Rattle.reconf_spec.specs.Documents.{spec_of, unranked_of}
-use Rattle.reconf_spec.specs.Writable.{IsWritable}
+use Rattle.spec_reading.specs.declared.fault.SpecFault.{SpecFault}
+use Rattle.spec_reading.specs.declared.rule.TheConstants as rule
+use Rattle.spec_reading.specs.Answers.{CycleAmong, NamedAmong}
+use Rattle.spec_reading.specs.Documents.{spec_of, unranked_of}
+use Rattle.spec_reading.specs.Writable.{IsWritable}
 use Rattle.form_base.specs.declared.status.TheConstants.{BROKEN_SPECIFICATION}
 use Rattle.form_base.specs.Answers.{Answer, AnswersDocument, AnswersFile}
 use Rattle.form_base.specs.Lines.{specification_line}

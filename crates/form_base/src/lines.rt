@@ -7,9 +7,9 @@ ghost use Rattle.trace_text.specs.Names.{further_joined};
 ghost use Rattle.form_base.specs.Lines.{added, counts_text, cycle_text, demand_name, env_or_dash, env_text, factors_text, names_down, other_text, rule_text, shown_line, specification_line};
 
 use coverage_check::{Other, Shown};
-use reconf_spec::SpecFault;
 use scram_doc::Path;
 use scram_types::{Env, Factor, Flown, Name, Spec};
+use spec_reading::SpecFault;
 use trace_text::lines::Line;
 use trace_text::row_lines::add_conf_or_dash;
 

@@ -11,10 +11,10 @@ use crate::lines::make_specification_line;
 use crate::loads::Document;
 use crate::refusals::{Refusal, Refused};
 use arrayvec::ArrayVec;
-use reconf_spec::{SpecError, SpecFault, read_spec, rule};
 use scram_doc::Path;
 use scram_types::Spec;
 use scram_types::limits::MAX_SPECIFICATION_BYTES;
+use spec_reading::{SpecError, SpecFault, read_spec, rule};
 use std::alloc::Global;
 
 /// The kind of document that encodes a specification.

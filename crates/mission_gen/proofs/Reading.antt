@@ -25,8 +25,8 @@ use Rattle.scram_doc.specs.declared.fault.DocFault.{DocFault}
 use Rattle.scram_doc.specs.declared.rule.TheConstants.{NO_JSON_TEXT}
 use Rattle.scram_doc.specs.Chain.{chain, ok_map}
 use Rattle.scram_doc.specs.Faults.{or_broken}
-use Rattle.spec_text.specs.Texts.{spec_text}
-use Rattle.reconf_spec.specs.Documents.{spec_in, spec_of}
+use Rattle.reconf_spec.specs.Texts.{spec_text}
+use Rattle.spec_reading.specs.Documents.{spec_in, spec_of}
 use Rattle.mission_gen.specs.Specifications.{GivesSpecification, generated_text, uav_text, with_further_factors}
 use Rattle.mission_gen.proofs.Fitting.{HasCounts}
 

@@ -4,8 +4,8 @@ use Rattle.scram_types.specs.declared.specification.Factor.{Factor}
 use Rattle.scram_types.specs.Scripts.{ScriptParts}
 use Rattle.scram_types.specs.Specification.{Parts}
 use Rattle.fault_script.specs.Texts.{script_text}
-use Rattle.reconf_spec.specs.Documents.{spec_of}
-use Rattle.spec_text.specs.Texts.{spec_text}
+use Rattle.spec_reading.specs.Documents.{spec_of}
+use Rattle.reconf_spec.specs.Texts.{spec_text}
 use Rattle.mission_gen.specs.declared.texts.TheConstants.{GENERATED, UAV}
 
 -- The text of the specification of an aircraft with two alternators and two computers.

@@ -4,8 +4,8 @@ ghost use Rattle.std.specs.Prelude.{◌≡◌, Ok, IfOk};
 ghost use Rattle.scram_doc.specs.Chain.{ok_map};
 ghost use Rattle.fault_script.specs.Assumption.{IsWithin};
 ghost use Rattle.fault_script.specs.Fits.{Fits};
-ghost use Rattle.reconf_spec.specs.Documents.{spec_of};
-ghost use Rattle.spec_text.specs.Texts.{spec_text};
+ghost use Rattle.spec_reading.specs.Documents.{spec_of};
+ghost use Rattle.reconf_spec.specs.Texts.{spec_text};
 ghost use Rattle.mission_gen.specs.Changes.{frames_of, generated_script, generated_halt};
 ghost use Rattle.mission_gen.specs.Specifications.{GivesSpecification, generated_text, mission_text, uav_text, with_further_factors};
 

@@ -14,18 +14,18 @@ use Rattle.scram_types.specs.Specification.{AreSpelled, Each, HasLength, IsAppSp
 use Rattle.kind_table.specs.Names.{kind_names, mode_names, number_in, name_in}
 use Rattle.kind_table.proofs.Spelling.{all_names_agree}
 use Rattle.dep_order.specs.Ranks.{IsRanking, rank_after}
-use Rattle.spec_apps.specs.Applications.{read_app, read_mode, read_modes, check_text}
-use Rattle.spec_members.specs.Names.{name_of_app, name_of_proc}
+use Rattle.spec_reading.specs.Applications.{read_app, read_mode, read_modes, check_text}
+use Rattle.spec_reading.specs.Names.{name_of_app, name_of_proc}
 use Rattle.scram_doc.specs.Lists.{AllAfter, folded_from}
 use Rattle.scram_types.specs.Lookups.{number_from}
 use Rattle.dep_order.specs.Timetables.{is_named}
-use Rattle.spec_apps.specs.Needs.{longest_chains, read_need, read_needs, ranked_at, read_unranked, with_needs, with_ranks}
-use Rattle.spec_members.specs.Processors.{read_proc, read_procs}
-use Rattle.spec_text.specs.Texts.{app_data, name_of_kind, mode_data, name_of_mode, name_of_item, need_data, proc_data, name_or_nothing}
+use Rattle.spec_reading.specs.Needs.{longest_chains, read_need, read_needs, ranked_at, read_unranked, with_needs, with_ranks}
+use Rattle.spec_reading.specs.Processors.{read_proc, read_procs}
+use Rattle.reconf_spec.specs.Texts.{app_data, name_of_kind, mode_data, name_of_mode, name_of_item, need_data, proc_data, name_or_nothing}
 use Rattle.scram_doc.specs.Canonical.{list_data}
-use Rattle.spec_members.specs.Kept.{IsWritableApp, lists_mode, rank_of}
+use Rattle.spec_reading.specs.Kept.{IsWritableApp, lists_mode, rank_of}
 use Rattle.reconf_spec.proofs.Lookups.{all_new, number_back}
-use Rattle.spec_apps.proofs.LongestChains.{all_small, ranks_are}
+use Rattle.spec_reading.proofs.LongestChains.{all_small, ranks_are}
 use Rattle.scram_doc.proofs.ReadBack.{elements_given, items_back, list_back, whole_back}
 
 -- A processor is valid, and has a valid name that no processor before it has.

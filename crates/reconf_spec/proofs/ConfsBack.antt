@@ -15,13 +15,13 @@ use Rattle.scram_types.specs.declared.specification.ModeSpec.{ModeSpec}
 use Rattle.scram_types.specs.declared.specification.Place.{Place}
 use Rattle.scram_types.specs.Names.{is_name}
 use Rattle.scram_types.specs.Specification.{AreSpelled, Each, HasValueNames, IsConf, IsFactor, IsModeSpec, IsPlace, IsSpec, NamesDiffer, Parts, mode_in, modes_of_kind}
-use Rattle.spec_members.specs.Names.{name_of_app, name_of_conf, name_of_factor, name_of_proc}
-use Rattle.spec_table.specs.Configurations.{read_conf, read_confs, read_place, read_place_list}
-use Rattle.spec_members.specs.Factors.{read_factor, read_factors, read_value_name}
-use Rattle.scram_doc.specs.Numbering.{itself}
+use Rattle.spec_reading.specs.Names.{name_of_app, name_of_conf, name_of_factor, name_of_proc}
+use Rattle.spec_reading.specs.Configurations.{read_conf, read_confs, read_place, read_place_list}
+use Rattle.spec_reading.specs.Factors.{read_factor, read_factors, read_value_name}
+use Rattle.spec_reading.specs.Numbering.{itself}
 use Rattle.scram_doc.specs.Lists.{folded_from}
 use Rattle.scram_types.specs.Lookups.{number_from}
-use Rattle.spec_text.specs.Texts.{conf_data, factor_data, place_data, places_data}
+use Rattle.reconf_spec.specs.Texts.{conf_data, factor_data, place_data, places_data}
 use Rattle.scram_doc.specs.Canonical.{list_data}
 use Rattle.reconf_spec.proofs.AppsBack.{mode_spelled}
 use Rattle.reconf_spec.proofs.Lookups.{all_new, number_back}

@@ -25,13 +25,13 @@ use Rattle.scram_types.proofs.BitSets.{bits_lt, has_bits, no_bit_past}
 use Rattle.scram_types.proofs.Booleans.{not_true, true_false}
 use Rattle.scram_types.proofs.Items.{any_found, next_part}
 use Rattle.scram_types.proofs.Naturals.{equal, low_or_high}
-use Rattle.spec_members.specs.declared.rule.TheConstants.{UNKNOWN_APPLICATION, UNKNOWN_CONFIGURATION, UNKNOWN_PROCESSOR}
-use Rattle.spec_members.specs.Names.{name_of_app, name_of_conf, name_of_demand, name_of_proc}
-use Rattle.spec_table.specs.Choices.{read_want}
-use Rattle.spec_table.specs.Configurations.{given}
-use Rattle.spec_table.specs.Demands.{on_set, read_demand, read_demands, read_modes_on, read_on_app, read_on_mode, read_on_modes}
-use Rattle.spec_text.specs.Texts.{demand_data, name_of_app_mode, on_app_data, on_data, want_data}
-use Rattle.reconf_spec.specs.Writable.{lists_want}
+use Rattle.spec_reading.specs.declared.rule.TheConstants.{UNKNOWN_APPLICATION, UNKNOWN_CONFIGURATION, UNKNOWN_PROCESSOR}
+use Rattle.spec_reading.specs.Names.{name_of_app, name_of_conf, name_of_demand, name_of_proc}
+use Rattle.spec_reading.specs.Choices.{read_want}
+use Rattle.spec_reading.specs.Configurations.{given}
+use Rattle.spec_reading.specs.Demands.{on_set, read_demand, read_demands, read_modes_on, read_on_app, read_on_mode, read_on_modes}
+use Rattle.reconf_spec.specs.Texts.{demand_data, name_of_app_mode, on_app_data, on_data, want_data}
+use Rattle.spec_reading.specs.Writable.{lists_want}
 use Rattle.reconf_spec.proofs.AppsBack.{mode_spelled}
 use Rattle.reconf_spec.proofs.ConfsBack.{listed_of_kind}
 use Rattle.reconf_spec.proofs.Lookups.{all_new, number_back}

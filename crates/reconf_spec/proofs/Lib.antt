@@ -1,9 +1,11 @@
 pub mod AppsBack
 pub mod ConfsBack
-pub mod Cycles
 pub mod DemandsBack
 pub mod Lookups
+pub mod Plain
 pub mod RestBack
 pub mod Sets
 pub mod SpecBack
-pub mod Specs
+pub mod TextLengths
+pub mod TextSizes
+pub mod Written

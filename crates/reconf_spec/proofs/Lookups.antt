@@ -11,7 +11,7 @@ use Rattle.scram_types.proofs.Options.{same_some}
 use Rattle.scram_types.specs.Specification.{NamesDiffer}
 use Rattle.scram_types.specs.Lookups.{number_from}
 use Rattle.scram_doc.specs.Lists.{AllAfter}
-use Rattle.spec_text.specs.Texts.{name_of_item}
+use Rattle.reconf_spec.specs.Texts.{name_of_item}
 
 pub number_back : {A : Type 0} (name : A → List ℕ) (xs : List A) (n : ℕ) → NamesDiffer name xs → n < length xs → number_from name 0 xs (name_of_item name xs n) ≡ Some n
 number_back name xs n differ below = some_item xs n below (λ x there.

@@ -26,18 +26,18 @@ use Rattle.scram_types.specs.Numbers.{minus}
 use Rattle.scram_types.specs.Specification.{Each, IsBound, IsChoice, IsFactor, IsGoal, IsInIfNamed, IsInterval, IsInvariant, IsPrecondition, IsSpec, IsWant, NamesDiffer, Parts, bound_in}
 use Rattle.kind_table.specs.Names.{variable_names, number_in}
 use Rattle.kind_table.proofs.Spelling.{all_names_agree}
-use Rattle.spec_members.specs.declared.rule.TheConstants.{UNKNOWN_PROCESSOR}
-use Rattle.spec_members.specs.Names.{name_of_app, name_of_conf, name_of_factor, name_of_proc}
-use Rattle.spec_table.specs.Bounds.{read_bound, read_bounds}
-use Rattle.spec_table.specs.Choices.{read_choice, read_choices, wants_factor, source_named, read_want}
-use Rattle.reconf_spec.specs.Documents.{read_goal}
+use Rattle.spec_reading.specs.declared.rule.TheConstants.{UNKNOWN_PROCESSOR}
+use Rattle.spec_reading.specs.Names.{name_of_app, name_of_conf, name_of_factor, name_of_proc}
+use Rattle.spec_reading.specs.Bounds.{read_bound, read_bounds}
+use Rattle.spec_reading.specs.Choices.{read_choice, read_choices, wants_factor, source_named, read_want}
+use Rattle.spec_reading.specs.Documents.{read_goal}
 use Rattle.scram_doc.specs.Lists.{AllAfter}
-use Rattle.spec_table.specs.Facts.{IsVariable}
-use Rattle.scram_doc.specs.Numbering.{itself}
-use Rattle.spec_table.specs.Intervals.{read_interval, read_invariant, read_invariants, read_precondition, read_preconditions}
-use Rattle.spec_text.specs.Texts.{bound_data, choice_data, goal_data, invariant_data, name_of_item, precondition_data, source_name, name_of_kind_variable, name_of_variable, want_data}
+use Rattle.spec_reading.specs.TableFacts.{IsVariable}
+use Rattle.spec_reading.specs.Numbering.{itself}
+use Rattle.spec_reading.specs.Intervals.{read_interval, read_invariant, read_invariants, read_precondition, read_preconditions}
+use Rattle.reconf_spec.specs.Texts.{bound_data, choice_data, goal_data, invariant_data, name_of_item, precondition_data, source_name, name_of_kind_variable, name_of_variable, want_data}
 use Rattle.scram_doc.specs.Canonical.{integer_data, list_data}
-use Rattle.reconf_spec.specs.Writable.{IsWritableInterval, lists_pair, lists_want}
+use Rattle.spec_reading.specs.Writable.{IsWritableInterval, lists_pair, lists_want}
 use Rattle.reconf_spec.proofs.Lookups.{number_back}
 use Rattle.scram_types.proofs.Integers.{int_is}
 use Rattle.scram_types.proofs.Items.{some_item}

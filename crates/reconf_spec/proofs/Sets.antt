@@ -12,10 +12,10 @@ use Rattle.serde_json.specs.View.{items_of}
 use Rattle.scram_doc.specs.Paths.{item_path}
 use Rattle.scram_types.specs.Specification.{NamesDiffer}
 use Rattle.scram_types.specs.Bits.{has_bit}
-use Rattle.spec_table.specs.Sets.{read_into, read_set}
+use Rattle.spec_reading.specs.Sets.{read_into, read_set}
 use Rattle.scram_doc.specs.Lists.{folded_from}
 use Rattle.scram_types.specs.Lookups.{number_from}
-use Rattle.spec_text.specs.Texts.{names_data, set_data}
+use Rattle.reconf_spec.specs.Texts.{names_data, set_data}
 use Rattle.scram_types.proofs.FoundByName.{found_named}
 use Rattle.scram_types.proofs.Items.{next_part}
 use Rattle.scram_doc.proofs.ReadBack.{within_back}

@@ -11,20 +11,20 @@ use Rattle.scram_types.specs.declared.specification.Demand.{Demand}
 use Rattle.scram_types.specs.declared.specification.Policy.{Policy}
 use Rattle.scram_types.specs.declared.specification.Policy.TheVariants.{Retarget, Settle}
 use Rattle.scram_types.specs.Specification.{IsSpec, Parts}
-use Rattle.reconf_spec.specs.declared.documents.Assumption.{Assumption}
-use Rattle.spec_table.specs.Bounds.{read_bounds}
-use Rattle.spec_table.specs.Choices.{read_choices, read_conf_id}
-use Rattle.spec_table.specs.Demands.{read_demands}
-use Rattle.spec_members.specs.Names.{name_of_conf}
-use Rattle.spec_table.specs.Configurations.{read_confs}
-use Rattle.spec_table.specs.Vocabulary.{Names}
-use Rattle.reconf_spec.specs.Documents.{read_assumption, read_goal, names_in, rest_in, spec_in, spec_of}
-use Rattle.spec_members.specs.Factors.{read_factors}
-use Rattle.spec_table.specs.Intervals.{read_invariants, read_preconditions}
-use Rattle.spec_apps.specs.Needs.{ranked_at, read_unranked}
-use Rattle.spec_members.specs.Processors.{read_procs}
-use Rattle.spec_text.specs.Texts.{app_data, assumption_data, bound_data, choice_data, conf_data, data_by, demand_data, factor_data, goal_data, invariant_data, precondition_data, proc_data, spec_data, start_data}
-use Rattle.reconf_spec.specs.Writable.{IsWritable}
+use Rattle.spec_reading.specs.declared.documents.Assumption.{Assumption}
+use Rattle.spec_reading.specs.Bounds.{read_bounds}
+use Rattle.spec_reading.specs.Choices.{read_choices, read_conf_id}
+use Rattle.spec_reading.specs.Demands.{read_demands}
+use Rattle.spec_reading.specs.Names.{name_of_conf}
+use Rattle.spec_reading.specs.Configurations.{read_confs}
+use Rattle.spec_reading.specs.Vocabulary.{Names}
+use Rattle.spec_reading.specs.Documents.{read_assumption, read_goal, names_in, rest_in, spec_in, spec_of}
+use Rattle.spec_reading.specs.Factors.{read_factors}
+use Rattle.spec_reading.specs.Intervals.{read_invariants, read_preconditions}
+use Rattle.spec_reading.specs.Needs.{ranked_at, read_unranked}
+use Rattle.spec_reading.specs.Processors.{read_procs}
+use Rattle.reconf_spec.specs.Texts.{app_data, assumption_data, bound_data, choice_data, conf_data, data_by, demand_data, factor_data, goal_data, invariant_data, precondition_data, proc_data, spec_data, start_data}
+use Rattle.spec_reading.specs.Writable.{IsWritable}
 use Rattle.reconf_spec.proofs.AppsBack.{procs_back, ranks_back, unranked, unranked_back}
 use Rattle.reconf_spec.proofs.ConfsBack.{confs_back, factors_back}
 use Rattle.reconf_spec.proofs.DemandsBack.{demands_back}

@@ -1,4 +1,2 @@
-pub mod Documents
-pub mod Kept
 pub mod Laws
-pub mod Writable
+pub mod Texts

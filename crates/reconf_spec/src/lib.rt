@@ -1,13 +1,15 @@
-//! Specification documents. `read_spec` returns the specification that the bytes encode, or the first broken rule and
-//! the path where the rule is broken, exactly as the definition `spec_of` states.
+//! Specification documents, both ways. `read_spec` returns the specification that the bytes encode. `write_spec` returns
+//! the canonical text of a specification, which is exactly the text that `spec_text` defines, and which is read back as the
+//! same specification.
 #![tactic(auto)]
 
-mod documents;
+mod demands;
+mod items;
 pub mod laws;
-mod reading;
+mod table;
+mod texts;
+mod values;
 mod writing;
 
-pub use reading::read_spec;
-pub use spec_apps::{SpecError, SpecFault};
-pub use spec_members::rule;
+pub use spec_reading::{SpecError, SpecFault, read_spec, rule};
 pub use writing::write_spec;

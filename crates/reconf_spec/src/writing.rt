@@ -2,12 +2,12 @@
 
 ghost use Rattle.std.specs.Prelude.{◌≡◌, Ok, Some, IfOk};
 ghost use Rattle.serde_json.specs.Read.{read};
-ghost use Rattle.spec_text.specs.Texts.{spec_data, spec_text};
-ghost use Rattle.reconf_spec.specs.Documents.{spec_of};
-ghost use Rattle.reconf_spec.specs.Writable.{IsWritable};
+ghost use Rattle.reconf_spec.specs.Texts.{spec_data, spec_text};
+ghost use Rattle.spec_reading.specs.Documents.{spec_of};
+ghost use Rattle.spec_reading.specs.Writable.{IsWritable};
 
+use crate::texts::write_text;
 use scram_types::{NoMemory, Spec};
-use spec_text::write_text;
 use std::alloc::Global;
 
 /// Returns the canonical text of a specification, which is compact JSON. With demands it is of version 3. Without

@@ -12,7 +12,7 @@ use Rattle.fault_script.specs.declared.assumption.Outside.{Outside}
 use Rattle.fault_script.specs.Assumption.{first_outside}
 use Rattle.fault_script.specs.Reading.{script_of}
 use Rattle.fault_script.proofs.Assuming.{leaves_nowhere}
-use Rattle.reconf_spec.specs.Documents.{spec_of}
+use Rattle.spec_reading.specs.Documents.{spec_of}
 use Rattle.coverage_check.specs.declared.shown.Shown.{Shown}
 use Rattle.coverage_check.specs.Acceptance.{first_refusal}
 use Rattle.coverage_check.specs.Missions.{MissionParts}

@@ -5,7 +5,7 @@ use Rattle.scram_types.specs.Specification.{IsSpec, Parts}
 use Rattle.scram_io.specs.Outside.{FileMap, FilesState, SinkState, file_at}
 use Rattle.fault_script.specs.Fits.{Fits}
 use Rattle.fault_script.specs.Reading.{script_of}
-use Rattle.reconf_spec.specs.Documents.{spec_of}
+use Rattle.spec_reading.specs.Documents.{spec_of}
 use Rattle.coverage_check.specs.Missions.{IsMission, MissionParts}
 use Rattle.frame_model.specs.Flights.{reports_of, rows_of}
 use Rattle.trace_text.specs.Text.{text_of}

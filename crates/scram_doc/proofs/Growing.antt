@@ -1,11 +1,15 @@
 -- Lemmas on lists that grow as their elements are read.
 use Rattle.std.proofs.Common.{◌≡◌, ◌<◌, ◌+◌, ℕ, zero, suc, List, [], ◌∷◌, ◌++◌, length, drop, get_or, arith, refl, sym, subst, ◌∙◌}
-use Rattle.std.specs.Prelude.{Some, None, Result, Ok}
+use Rattle.std.specs.Prelude.{Some, None, Result, Ok, Err}
+use Rattle.std.specs.Result.{IsErrAnd}
 use Rattle.std.proofs.lemmas.List.{at_drop_more}
 use Rattle.serde_json.specs.Data.{Data}
 use Rattle.serde_json.specs.View.{view, items_view}
 use Rattle.serde_json.specs.declared.value.Value.{Value}
+use Rattle.scram_doc.specs.declared.fault.DocError.{DocError}
+use Rattle.scram_doc.specs.declared.fault.DocError.TheVariants.{Fault, NoMemory}
 use Rattle.scram_doc.specs.declared.fault.DocFault.{DocFault}
+use Rattle.scram_doc.specs.Faults.{Answers}
 use Rattle.scram_doc.specs.Paths.{item_path}
 use Rattle.scram_doc.specs.Lists.{elements_from, folded_from}
 use Rattle.scram_doc.specs.Lists.{AllAfter}
@@ -31,6 +35,19 @@ pub element_read : {A : Type 0} → (read : List ℕ → List A → Data → Res
 element_read read at i done vs v x whole below is value so_far =
     let more : suc i ≡ i + 1 = omega arith in
     sym (at_drop_more (λ (ws : List Value). elements_from read at i done (items_view ws)) vs i v below ∙ rw (← is, value, more) refl) ∙ so_far
+
+-- If `whole` is the result of reading from index `i` on, and the value at `i` is refused with an error, then an answer
+-- with the same error answers `whole`.
+pub element_refused : {A C : Type 0} → (read : List ℕ → List A → Data → Result A DocFault) → (at : List ℕ) (i : ℕ) (done : List A) (vs : List Value) (v : Value) (items : C → List A)
+    → (path : List ℕ) (before : List A) (error : DocError) (answer : Result C DocError) (whole : Result (List A) DocFault)
+    → i < length vs → v ≡ get_or vs i v → path ≡ item_path at i → before ≡ done → Answers (read path before (view v)) (λ (x : A). x) (Err error)
+    → IsErrAnd answer (λ (e : DocError). e ≡ error)
+    → elements_from read at i done (items_view (drop i vs)) ≡ whole → Answers whole items answer
+element_refused read at i done vs v items path before error (Ok x) whole below is here same refused kept so_far = absurd kept
+element_refused read at i done vs v items path before (Fault fault) (Err e) whole below is here same refused kept so_far =
+    let at_place : read (item_path at i) done (view v) ≡ Err fault = rw (← here, ← same) refused in
+    rw (kept) (sym so_far ∙ at_drop_more (λ (ws : List Value). elements_from read at i done (items_view ws)) vs i v below ∙ rw (← is, at_place) refl)
+element_refused read at i done vs v items path before NoMemory (Err e) whole below is here same refused kept so_far = rw (kept) tt
 
 -- If `whole` is the result of the steps from index `i` on, and the step at `i` leads to state `next`, then `whole` is
 -- also the result of the steps from index `i + 1` on in state `next`.

@@ -1,6 +1,5 @@
 pub mod Growing
 pub mod Indexes
-pub mod Numbering
 pub mod Parsed
 pub mod Plain
 pub mod QuotedNames

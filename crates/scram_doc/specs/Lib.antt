@@ -5,7 +5,6 @@ pub mod Faults
 pub mod Lists
 pub mod Members
 pub mod Names
-pub mod Numbering
 pub mod Objects
 pub mod Paths
 pub mod Values

@@ -1,6 +1,6 @@
 //! A reader of JSON documents by path. Each call returns the value at a path, or the number of the broken rule and
-//! the path where the rule is broken, exactly as its definition states. Lists are read element by element, named
-//! items are numbered in order, and objects and lists are written as their canonical values.
+//! the path where the rule is broken, exactly as its definition states. Lists are read element by element, and
+//! objects and lists are written as their canonical values.
 #![tactic(auto)]
 
 mod document;
@@ -8,7 +8,6 @@ mod elements;
 mod fault;
 mod members;
 mod name;
-mod numbered;
 mod objects;
 mod path;
 pub mod rule;
@@ -23,7 +22,6 @@ pub use members::{
     required_four,
 };
 pub use name::name_of;
-pub use numbered::{NamedElements, Naming, Numbered, Numbers, read_named_items, read_named_list};
 pub use objects::Object;
 pub use path::Path;
 pub use values::{count_items, int_in, list, text, whole_in};

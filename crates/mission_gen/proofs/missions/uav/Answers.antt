@@ -1,6 +1,6 @@
 use Rattle.std.proofs.Common.{◌≡◌, Ok}
-use Rattle.reconf_spec.specs.Documents.{spec_of}
-use Rattle.spec_text.specs.Texts.{spec_text}
+use Rattle.spec_reading.specs.Documents.{spec_of}
+use Rattle.reconf_spec.specs.Texts.{spec_text}
 use Rattle.mission_gen.specs.Specifications.{uav_text}
 use Rattle.mission_gen.proofs.Reading.{if_ok_more, uav_canonical, uav_given}
 use Rattle.mission_gen.proofs.missions.uav.Goals as goal

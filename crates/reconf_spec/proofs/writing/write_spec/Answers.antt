@@ -2,7 +2,7 @@ use Rattle.std.proofs.Common.{◌≤◌, length, subst, sym}
 use Rattle.scram_types.specs.declared.limits.TheConstants.{MAX_SPECIFICATION_BYTES}
 use Rattle.scram_types.specs.Specification.{IsSpec}
 use Rattle.reconf_spec.proofs.SpecBack.{text_back}
-use Rattle.spec_text.proofs.TextSizes.{spec_text_short}
+use Rattle.reconf_spec.proofs.TextSizes.{spec_text_short}
 use Rattle.reconf_spec.proofs.writing.write_spec.Goals as goal
 
 pub returns-in-Ok-clause-back : goal.returns-in-Ok-clause-back

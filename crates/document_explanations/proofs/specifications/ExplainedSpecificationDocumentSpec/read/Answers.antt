@@ -1,6 +1,6 @@
 use Rattle.std.proofs.Common.{◌≡◌, Err, refl}
-use Rattle.spec_apps.specs.Answers.{CycleAmong, NamedAmong}
-use Rattle.reconf_spec.specs.Documents.{spec_of, unranked_of}
+use Rattle.spec_reading.specs.Answers.{CycleAmong, NamedAmong}
+use Rattle.spec_reading.specs.Documents.{spec_of, unranked_of}
 use Rattle.form_base.specs.Lines.{specification_line}
 use Rattle.form_base.specs.Refusals.{answer_of}
 use Rattle.form_base.specs.declared.status.TheConstants.{BROKEN_SPECIFICATION}

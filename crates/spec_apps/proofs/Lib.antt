@@ -1,4 +1,0 @@
-pub mod Cycles
-pub mod Handing
-pub mod Joined
-pub mod LongestChains

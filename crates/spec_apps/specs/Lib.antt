@@ -1,5 +1,0 @@
-pub mod Answers
-pub mod Applications
-pub mod Facts
-pub mod Needs
-pub mod Unranked

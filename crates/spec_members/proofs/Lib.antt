@@ -1,4 +1,0 @@
-pub mod Distinct
-pub mod Found
-pub mod Spelled
-pub mod Tested

@@ -1,9 +1,0 @@
-pub mod Factors
-pub mod Facts
-pub mod Found
-pub mod Kept
-pub mod Members
-pub mod Modes
-pub mod Names
-pub mod Processors
-pub mod Versions

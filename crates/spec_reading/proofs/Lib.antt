@@ -1,0 +1,13 @@
+pub mod Cycles
+pub mod Distinct
+pub mod DocumentCycles
+pub mod Found
+pub mod Handing
+pub mod Joined
+pub mod LongestChains
+pub mod Numbering
+pub mod OnSets
+pub mod Placed
+pub mod Specs
+pub mod Spelled
+pub mod Tested

@@ -1,0 +1,200 @@
+-- Parts of a document that satisfy `AreNames` and `FitsRest` form a specification.
+use Rattle.std.proofs.Common.{◌≡◌, ◌∙◌, ◌≤◌, ◌==◌, ℕ, false, List, length, arith, ap, sym, subst, take}
+use mathlib.Core.Logic.{inl, inr}
+use Rattle.std.specs.Prelude.{IsSome, Option, Some, is_some, slice_get}
+use Rattle.std.proofs.lemmas.Int.{ints}
+use Rattle.scram_types.specs.declared.specification.Proc.{Proc}
+use Rattle.scram_types.specs.declared.specification.AppSpec.{AppSpec}
+use Rattle.scram_types.specs.declared.specification.Conf.{Conf}
+use Rattle.scram_types.specs.declared.specification.Factor.{Factor}
+use Rattle.scram_types.specs.declared.specification.Choice.{Choice}
+use Rattle.scram_types.specs.declared.specification.Demand.{Demand}
+use Rattle.scram_types.specs.declared.specification.Invariant.{Invariant}
+use Rattle.scram_types.specs.declared.specification.Precondition.{Precondition}
+use Rattle.scram_types.specs.Specification.{Parts, IsSpec, IsProc, IsConf, IsFactor, IsChoice, IsBound, IsDemand, IsGoal, IsInvariant, IsOn, IsPrecondition, IsIn, mode_in}
+use Rattle.kind_table.proofs.Spelling.{variable_number_below}
+use Rattle.spec_reading.specs.Names.{name_of_proc, name_of_conf, name_of_demand, name_of_factor}
+use Rattle.spec_reading.specs.Numbering.{itself}
+use Rattle.scram_doc.specs.Lists.{AllAfter}
+use Rattle.spec_reading.specs.Facts.{IsNewProc, IsNewFactor}
+use Rattle.spec_reading.specs.TableFacts.{IsNewConf, IsNewDemand, IsNewWant, FitsChoice, IsNewBound, FitsInvariant, FitsPrecondition, IsVariable, ListsModes}
+use Rattle.spec_reading.specs.Vocabulary.{Names, AreNames}
+use Rattle.spec_reading.specs.Documents.{with_rest}
+use Rattle.spec_reading.specs.Writable.{IsWritable}
+use Rattle.spec_reading.specs.RestFacts.{FitsAssumption, FitsRest}
+use Rattle.spec_reading.specs.declared.documents.Rest.{Rest}
+use Rattle.scram_types.specs.ModeLists.{is_among}
+use Rattle.spec_reading.proofs.Distinct.{compare, each_of, early, new_differ}
+use Rattle.scram_types.specs.declared.ids.Mode.{Mode}
+use Rattle.scram_types.specs.Bits.{has_bit}
+use Rattle.scram_types.proofs.Booleans.{not_true, true_false}
+use Rattle.scram_types.proofs.Items.{any_is}
+use Rattle.scram_types.proofs.Naturals.{equal_test}
+use Rattle.scram_types.proofs.Options.{same_some}
+
+variable_below : (found : Option AppSpec) (variable : ℕ) → IsVariable found variable → variable ≤ 7
+variable_below found variable is =
+    omega (arith, variable_number_below is.app.kind.0 is.text variable is.named)
+
+factor_fits : (done : List Factor) (factor : Factor) → IsNewFactor done factor → IsFactor factor
+factor_fits done factor fits = record { count = fits.count; differ = new_differ itself factor.values (λ i x e. (fits.values i x e).new) }
+
+-- If no mode of a list is among the modes before it, the modes of the list differ.
+modes_differ : (modes : List Mode) → AllAfter (λ (done : List Mode) (mode : Mode). is_among done mode.0 ≡ false) modes
+    → (i j : ℕ) (m n : Mode) → slice_get modes i ≡ Some m → slice_get modes j ≡ Some n → m.0 ≡ n.0 → i ≡ j
+modes_differ modes new i j m n there too same = elim (compare i j) [
+  | inl below ↦ absurd (stands (take j modes) i m n.0 (early i j Mode modes m below there) same (new j n too))
+  | inr rest ↦ elim rest [
+    | inl is ↦ is
+    | inr above ↦ absurd (stands (take i modes) j n m.0 (early j i Mode modes n above too) (sym same) (new i m there))
+  ]
+]
+  where
+    stands : (done : List Mode) (k : ℕ) (mode : Mode) (number : ℕ) → slice_get done k ≡ Some mode → mode.0 ≡ number → is_among done number ≡ false → ⊥
+    stands done k mode number here is none =
+        true_false (is_among done number) (any_is (λ (listed : Mode). listed.0 == number) done k mode here (equal_test mode.0 number is)) none
+
+choice_fits : (procs : List Proc) (confs : List Conf) (factors : List Factor) (rule : Choice) → FitsChoice procs confs factors rule → IsChoice procs confs factors rule
+choice_fits procs confs factors rule fits = record {
+  from = fits.from;
+  few = fits.few;
+  wants = each_of (IsNewWant factors) _ rule.wants (λ done want f. f.is) fits.wants;
+  up = fits.up;
+  to = fits.to;
+}
+
+invariant_fits : (apps : List AppSpec) (confs : List Conf) (inv : Invariant) → FitsInvariant apps confs inv → IsInvariant apps confs inv
+invariant_fits apps confs inv fits = let i = fits.interval in record {
+  from = fits.from;
+  interval = record {
+    there = i.there;
+    is_variable = variable_below (slice_get apps inv.app.0) inv.variable i.is_variable;
+    low_least = i.ends_fit.low_least;
+    low_most = omega (arith, ints, i.ends_fit.in_order, i.ends_fit.high_most);
+    high_least = omega (arith, ints, i.ends_fit.in_order, i.ends_fit.low_least);
+    high_most = i.ends_fit.high_most;
+  };
+}
+
+precondition_fits : (apps : List AppSpec) (confs : List Conf) (pre : Precondition) → FitsPrecondition apps confs pre → IsPrecondition apps confs pre
+precondition_fits apps confs pre fits = let i = fits.interval in record {
+  conf = fits.conf;
+  interval = record {
+    there = i.there;
+    is_variable = variable_below (slice_get apps pre.app.0) pre.variable i.is_variable;
+    low_least = i.ends_fit.low_least;
+    low_most = omega (arith, ints, i.ends_fit.in_order, i.ends_fit.high_most);
+    high_least = omega (arith, ints, i.ends_fit.in_order, i.ends_fit.low_least);
+    high_most = i.ends_fit.high_most;
+  };
+}
+
+modes_fit : (apps : List AppSpec) (a : ℕ) (modes : List Mode) → ListsModes (slice_get apps a) modes → IsOn apps a modes
+modes_fit apps a modes lists = record {
+  app = lists.app;
+  there = lists.there;
+  few = lists.few;
+  listed = λ i mode e. let is = (lists.each i mode e).listed in
+      subst (λ (app : AppSpec). IsSome (mode_in app.modes mode.0)) (same_some is.app lists.app (sym is.there ∙ lists.there)) is.listed;
+  differ = modes_differ modes (λ i mode e. (lists.each i mode e).new);
+}
+
+demand_fits : (procs : List Proc) (apps : List AppSpec) (confs : List Conf) (factors : List Factor) (done : List Demand) (demand : Demand) → IsNewDemand procs apps confs factors done demand
+    → IsDemand procs apps confs factors demand
+demand_fits procs apps confs factors done demand fits = let asked = fits.asked in record {
+  from = fits.from;
+  few = fits.few;
+  wants = each_of (IsNewWant factors) _ demand.wants (λ done want f. f.is) fits.wants;
+  up = asked.up;
+  down = asked.down;
+  apart = λ p is. not_true (has_bit demand.down p) (λ also. true_false (has_bit demand.up p) is (asked.down_apart p also));
+  to = asked.to;
+  width = asked.width;
+  on = λ a modes e. modes_fit apps a modes (asked.on a modes e);
+  off = asked.off;
+  one = asked.off_apart;
+}
+
+pub spec_fits : (spec : Parts) → AreNames spec.procs spec.apps spec.confs spec.factors
+    → length spec.rules ≤ 64 → AllAfter (λ _. FitsChoice spec.procs spec.confs spec.factors) spec.rules
+    → length spec.bounds ≤ 144 → AllAfter (IsNewBound spec.confs) spec.bounds
+    → IsIn spec.confs spec.start → IsGoal spec.goal
+    → length spec.invariants ≤ 64 → AllAfter (λ _. FitsInvariant spec.apps spec.confs) spec.invariants
+    → length spec.preconditions ≤ 64 → AllAfter (λ _. FitsPrecondition spec.apps spec.confs) spec.preconditions
+    → FitsAssumption (record { halts = spec.halts; changes = spec.changes; window = spec.window })
+    → length spec.demands ≤ 64 → AllAfter (IsNewDemand spec.procs spec.apps spec.confs spec.factors) spec.demands
+    → IsSpec spec
+spec_fits spec named few_rules rules few_bounds bounds start goal few_invariants invariants few_preconditions preconditions assumed few_demands demands = record {
+  names = record {
+    procs = λ i x e. (named.procs_fit i x e).name.spelled;
+    apps = named.apps_fit.spelled;
+    confs = λ i x e. (named.confs_fit i x e).name.spelled;
+    factors = λ i x e. (named.factors_fit i x e).name.spelled;
+    values = λ i x e j y f. ((named.factors_fit i x e).values j y f).spelled;
+    demands = λ i x e. (demands i x e).name.spelled;
+  };
+  procs_count = named.procs_count;
+  procs_differ = new_differ name_of_proc spec.procs (λ i x e. (named.procs_fit i x e).name.new);
+  procs = each_of IsNewProc IsProc spec.procs (λ done x f. f.is) named.procs_fit;
+  apps_count = named.apps_fit.count;
+  apps_differ = named.apps_fit.differ;
+  apps = named.apps_fit.each;
+  confs_count = named.confs_count;
+  confs_differ = new_differ name_of_conf spec.confs (λ i x e. (named.confs_fit i x e).name.new);
+  confs = each_of (IsNewConf spec.procs spec.apps) (IsConf spec.procs spec.apps) spec.confs (λ done x f. record { width = f.width; places = f.places }) named.confs_fit;
+  factors_count = named.factors_count.few;
+  factors_differ = new_differ name_of_factor spec.factors (λ i x e. (named.factors_fit i x e).name.new);
+  factors = each_of IsNewFactor IsFactor spec.factors factor_fits named.factors_fit;
+  rules_count = few_rules;
+  rules = each_of (λ _. FitsChoice spec.procs spec.confs spec.factors) (IsChoice spec.procs spec.confs spec.factors) spec.rules (λ done x f. choice_fits spec.procs spec.confs spec.factors x f) rules;
+  bounds_count = few_bounds;
+  bounds = each_of (IsNewBound spec.confs) (IsBound spec.confs) spec.bounds (λ done x f. f.is) bounds;
+  start = start;
+  goal = goal;
+  invariants_count = few_invariants;
+  invariants = each_of (λ _. FitsInvariant spec.apps spec.confs) (IsInvariant spec.apps spec.confs) spec.invariants (λ done x f. invariant_fits spec.apps spec.confs x f) invariants;
+  preconditions_count = few_preconditions;
+  preconditions = each_of (λ _. FitsPrecondition spec.apps spec.confs) (IsPrecondition spec.apps spec.confs) spec.preconditions (λ done x f. precondition_fits spec.apps spec.confs x f) preconditions;
+  demands_count = few_demands;
+  demands_differ = new_differ name_of_demand spec.demands (λ i x e. (demands i x e).name.new);
+  demands = each_of (IsNewDemand spec.procs spec.apps spec.confs spec.factors) (IsDemand spec.procs spec.apps spec.confs spec.factors) spec.demands
+      (demand_fits spec.procs spec.apps spec.confs spec.factors) demands;
+  halts = assumed.halts;
+  changes = assumed.changes;
+  window_least = assumed.window_least;
+  window_most = assumed.window_most;
+}
+
+-- If `rest` fits the items `names`, and `names` equals the valid items `own`, then `own` and `rest` form a
+-- specification.
+pub joined_fits : (names own : Names) (rest : Rest) → names ≡ own → AreNames own.procs own.apps own.confs own.factors → FitsRest names.procs names.apps names.confs names.factors rest
+    → IsSpec (with_rest own rest)
+joined_fits names own rest same named fits =
+    subst (λ (z : Names). IsSpec (with_rest z rest)) same
+    (spec_fits (with_rest names rest) (subst (λ (z : Names). AreNames z.procs z.apps z.confs z.factors) (sym same) named)
+    fits.table.few_rules fits.table.rules fits.table.few_bounds fits.table.bounds fits.table.start fits.table.goal
+    fits.limits.few_invariants fits.limits.invariants fits.limits.few_preconditions fits.limits.preconditions fits.limits.assumed fits.few_demands fits.demands)
+
+spec_writable : (spec : Parts) → AreNames spec.procs spec.apps spec.confs spec.factors
+    → AllAfter (λ _. FitsChoice spec.procs spec.confs spec.factors) spec.rules
+    → AllAfter (IsNewBound spec.confs) spec.bounds
+    → AllAfter (λ _. FitsInvariant spec.apps spec.confs) spec.invariants
+    → AllAfter (λ _. FitsPrecondition spec.apps spec.confs) spec.preconditions
+    → AllAfter (IsNewDemand spec.procs spec.apps spec.confs spec.factors) spec.demands
+    → IsWritable spec
+spec_writable spec named rules bounds invariants preconditions demands = record {
+  apps = named.apps_fit.writable;
+  ranks = named.apps_fit.ranks;
+  rules = λ i x e j y f. ((rules i x e).wants j y f).new;
+  bounds = λ i x e. ap (λ (o : Option ℕ). is_some o) (bounds i x e).new;
+  invariants = λ i x e. record { named = (invariants i x e).interval.is_variable; in_order = (invariants i x e).interval.ends_fit.in_order };
+  preconditions = λ i x e. record { named = (preconditions i x e).interval.is_variable; in_order = (preconditions i x e).interval.ends_fit.in_order };
+  demands = λ i x e j y f. ((demands i x e).wants j y f).new;
+}
+
+pub joined_writable : (names own : Names) (rest : Rest) → names ≡ own → AreNames own.procs own.apps own.confs own.factors → FitsRest names.procs names.apps names.confs names.factors rest
+    → IsWritable (with_rest own rest)
+joined_writable names own rest same named fits =
+    subst (λ (z : Names). IsWritable (with_rest z rest)) same
+    (spec_writable (with_rest names rest) (subst (λ (z : Names). AreNames z.procs z.apps z.confs z.factors) (sym same) named)
+    fits.table.rules fits.table.bounds fits.limits.invariants fits.limits.preconditions fits.demands)

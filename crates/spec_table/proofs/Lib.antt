@@ -1,2 +1,0 @@
-pub mod OnSets
-pub mod Placed

@@ -1,8 +1,0 @@
-pub mod Bounds
-pub mod Choices
-pub mod Configurations
-pub mod Demands
-pub mod Facts
-pub mod Intervals
-pub mod Sets
-pub mod Vocabulary

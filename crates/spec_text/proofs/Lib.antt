@@ -1,4 +1,0 @@
-pub mod Plain
-pub mod TextLengths
-pub mod TextSizes
-pub mod Written
