@@ -9,10 +9,10 @@ use Rattle.scram_types.specs.Numbers.{word}
 use Rattle.scram_types.specs.Ranges.{limit}
 use Rattle.scram_types.proofs.Clamping.{IsInRange, in_clamp}
 use Rattle.kind_table.specs.Kinds.{kind_variable}
-use Rattle.app_model.specs.Ranges.{initialised_range, mode_range, is_moving}
+use Rattle.kind_table.specs.Ranges.{initialised_range, mode_range, is_moving}
 use Rattle.app_model.specs.Reads.{own_word, altitude, heading}
 use Rattle.app_model.specs.Orders.{halted_word, halted, initialised_word, initialised, initialising, kept_area}
-use Rattle.app_model.specs.Bounds.{ends, during, after_halt, after_init}
+use Rattle.kind_table.specs.Bounds.{ends, during, after_halt, after_init}
 use Rattle.app_model.specs.Areas.{Between, AreaLies, LawLiesDuring, LawLiesAfterHalt, LawLiesAfterInit, StartLiesAfterInit}
 use Rattle.app_model.specs.Law.{ran}
 use Rattle.app_model.specs.Starts.{start_of}

@@ -6,7 +6,7 @@ use Rattle.scram_types.specs.Numbers.{word}
 use Rattle.scram_types.specs.Ranges.{limit}
 use Rattle.scram_types.proofs.Clamping.{IsInRange, in_circle, in_clamp}
 use Rattle.kind_table.specs.Kinds.{kind_variable}
-use Rattle.app_model.specs.Ranges.{sane_range, widest_mode, mode_range}
+use Rattle.kind_table.specs.Ranges.{sane_range, widest_mode, mode_range}
 use Rattle.app_model.specs.Reads.{own_word, lead_word, goal_altitude, goal_heading}
 use Rattle.app_model.specs.Headings.{short_turn}
 use Rattle.app_model.specs.Autopilot.{target_alt, target_heading, integral_after, pitch_after, roll_after, autopilot_ran}

@@ -6,8 +6,8 @@ use Rattle.scram_types.specs.declared.ranges.Range.{Range}
 use Rattle.scram_types.specs.Ranges.{limit}
 use Rattle.scram_types.proofs.Clamping.{IsInRange}
 use Rattle.kind_table.specs.Kinds.{kind_variable}
-use Rattle.app_model.specs.Ranges.{initialised_range, widest_mode, sane_range, mode_range, is_moving}
-use Rattle.app_model.specs.Bounds.{ends, during, after_halt, after_init, sane}
+use Rattle.kind_table.specs.Ranges.{initialised_range, widest_mode, sane_range, mode_range, is_moving}
+use Rattle.kind_table.specs.Bounds.{ends, during, after_halt, after_init, sane}
 use Rattle.app_model.specs.Areas.{Inside, AllTablesNarrow}
 use Rattle.kind_table.proofs.EachKind.{each_kind}
 use Rattle.app_model.proofs.Within.{each}

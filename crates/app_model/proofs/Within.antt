@@ -8,7 +8,7 @@ use Rattle.app_model.specs.declared.seen.Seen.{Seen}
 use Rattle.scram_types.specs.Numbers.{part, word}
 use Rattle.scram_types.specs.Ranges.{limit}
 use Rattle.scram_types.proofs.Clamping.{IsInRange, in_clamp}
-use Rattle.app_model.specs.Ranges.{mode_range}
+use Rattle.kind_table.specs.Ranges.{mode_range}
 use Rattle.app_model.specs.Reads.{own_word, ticks_after}
 use Rattle.app_model.specs.Orders.{faded}
 

@@ -4,7 +4,7 @@ use Rattle.scram_types.specs.declared.orders.Order.{Order}
 use Rattle.scram_types.specs.declared.orders.Order.TheVariants.{Run, Hold, Halt, Prepare, Init, Off}
 use Rattle.scram_types.specs.Numbers.{word}
 use Rattle.app_model.specs.declared.seen.Seen.{Seen}
-use Rattle.app_model.specs.Bounds.{during, after_halt, after_init, sane}
+use Rattle.kind_table.specs.Bounds.{during, after_halt, after_init, sane}
 use Rattle.app_model.specs.Law.{law}
 use Rattle.app_model.specs.Starts.{start_of}
 

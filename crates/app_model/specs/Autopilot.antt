@@ -4,7 +4,7 @@ use Rattle.app_model.specs.declared.seen.Seen.{Seen}
 use Rattle.kind_table.specs.declared.kinds.autopilot.TheConstants.{INTEGRAL, KIND, NAVIGATE, PITCH, TARGET_ALT, TARGET_HEADING}
 use Rattle.scram_types.specs.Numbers.{part}
 use Rattle.scram_types.specs.Ranges.{clamp_in, limit}
-use Rattle.app_model.specs.Ranges.{mode_range}
+use Rattle.kind_table.specs.Ranges.{mode_range}
 use Rattle.app_model.specs.Reads.{own_word, altitude, heading, goal_altitude, goal_heading, ticks_after}
 use Rattle.app_model.specs.Headings.{short_turn}
 

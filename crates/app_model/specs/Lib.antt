@@ -1,4 +1,3 @@
-pub mod Ranges
 pub mod Reads
 pub mod Orders
 pub mod Headings
@@ -10,6 +9,5 @@ pub mod DataLink
 pub mod Tasks
 pub mod Law
 pub mod Starts
-pub mod Bounds
 pub mod Areas
 pub mod Racks

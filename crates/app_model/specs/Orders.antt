@@ -4,7 +4,7 @@ use Rattle.app_model.specs.declared.seen.Seen.{Seen}
 use Rattle.kind_table.specs.declared.kinds.autopilot.TheConstants.{KIND, TARGET_ALT, TARGET_HEADING}
 use Rattle.scram_types.specs.Numbers.{part}
 use Rattle.scram_types.specs.Ranges.{clamp_in}
-use Rattle.app_model.specs.Ranges.{initialised_range, is_moving}
+use Rattle.kind_table.specs.Ranges.{initialised_range, is_moving}
 use Rattle.app_model.specs.Reads.{own_word, altitude, heading}
 
 -- The area with status `status` and the other words of the application's own area, clamped to their ranges.

@@ -5,7 +5,7 @@ use Rattle.app_model.specs.declared.seen.Seen.{Seen}
 use Rattle.kind_table.specs.declared.kinds.every_kind.TheConstants.{TICKS}
 use Rattle.scram_types.specs.Numbers.{word}
 use Rattle.scram_types.specs.Ranges.{clamp_in, limit}
-use Rattle.app_model.specs.Ranges.{sane_range, mode_range}
+use Rattle.kind_table.specs.Ranges.{sane_range, mode_range}
 
 -- Word `i` of the application's own area, clamped to the range of the mode that the application is to be in.
 unfoldable pub own_word : ℕ → Seen → ℕ → ℤ

@@ -6,12 +6,12 @@ ghost use Rattle.scram_types.specs.Numbers.{FitsSums, part};
 ghost use Rattle.app_model.specs.Autopilot.{target_alt, target_heading, altitude_error, integral_after, pitch_after, roll_after, autopilot_ran};
 
 use crate::headings::short_turn;
-use crate::ranges::mode_range;
 use crate::reads::{
     next_ticks, read_altitude, read_goal_altitude, read_goal_heading, read_heading, read_own,
 };
 use crate::seen::Seen;
 use kind_table::kinds::autopilot::{INTEGRAL, KIND, NAVIGATE, PITCH, TARGET_ALT, TARGET_HEADING};
+use kind_table::ranges::mode_range;
 use scram_types::Area;
 use scram_types::numbers::{gap, sum};
 use scram_types::ranges::{clamped_in, make_range};

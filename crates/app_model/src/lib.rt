@@ -6,7 +6,6 @@
 pub mod all_laws;
 pub mod app;
 mod autopilot_law;
-pub mod bounds;
 pub mod boxes;
 pub mod calls;
 mod comparisons;
@@ -19,7 +18,6 @@ mod navigator_law;
 pub mod orders;
 mod power_monitor_law;
 pub mod racks;
-pub mod ranges;
 pub mod reads;
 pub mod seen;
 pub mod starts;
@@ -27,7 +25,6 @@ mod task_law;
 
 pub use all_laws::law_area;
 pub use app::App;
-pub use bounds::{after_halt, after_init, during, sane};
 pub use boxes::{Boxes, empty_boxes};
 pub use racks::{Rack, rack_fits, racks_fit};
 pub use seen::Seen;

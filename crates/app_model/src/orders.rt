@@ -7,10 +7,10 @@ ghost use Rattle.scram_types.specs.declared.orders.Order.TheVariants.{Run};
 ghost use Rattle.app_model.specs.Law.{law};
 ghost use Rattle.app_model.specs.Orders.{faded, halted_word, halted, initialised_word, initialised, initialising, kept_area};
 
-use crate::ranges::{initialised_range, is_moving};
 use crate::reads::{read_altitude, read_heading, read_own};
 use crate::seen::Seen;
 use kind_table::kinds::autopilot;
+use kind_table::ranges::{initialised_range, is_moving};
 use scram_types::numbers::gap;
 use scram_types::ranges::clamped_in;
 use scram_types::{Area, Order};

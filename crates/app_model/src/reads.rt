@@ -5,9 +5,9 @@ ghost use Rattle.std.specs.Prelude.{◌≡◌, ◌<◌};
 ghost use Rattle.scram_types.specs.Numbers.{FitsSums, word};
 ghost use Rattle.app_model.specs.Reads.{own_word, lead_word, altitude, heading, goal_altitude, goal_heading, ticks_after};
 
-use crate::ranges::{mode_range, sane_range};
 use crate::seen::Seen;
 use kind_table::kinds::every_kind::TICKS;
+use kind_table::ranges::{mode_range, sane_range};
 use scram_types::Area;
 use scram_types::ranges::{clamped_in, make_range};
 

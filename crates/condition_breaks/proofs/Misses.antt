@@ -4,7 +4,7 @@ use Rattle.std.proofs.Common.{ℕ, ◌<◌, ◌≡◌, ◌∙◌, List, [], ap, 
 use Rattle.std.specs.Prelude.{Option, option_and_then, option_map}
 use Rattle.std.specs.Option.{option_map_or, option_to_list}
 use Rattle.scram_types.specs.declared.rows.Env.{Env}
-use Rattle.scram_types.specs.declared.specification.Demand.{Demand}
+use Rattle.scram_types.specs.declared.demands.Demand.{Demand}
 use Rattle.scram_types.specs.Lookups.{conf_id}
 use Rattle.scram_types.specs.Specification.{IsSpec, Parts}
 use Rattle.scram_types.proofs.Items.{some_item}

@@ -18,8 +18,8 @@ use Rattle.scram_types.proofs.Booleans.{and_left, and_right, and_true, or_cases,
 use Rattle.scram_types.proofs.Integers.{int_is, int_of}
 use Rattle.scram_types.proofs.Naturals.{differ_test, same_or_not}
 use Rattle.scram_types.proofs.Searches.{all_false, any_below_found, any_below_is, fails_below}
-use Rattle.app_model.specs.Bounds.{during, ends}
-use Rattle.app_model.specs.Ranges.{mode_range}
+use Rattle.kind_table.specs.Bounds.{during, ends}
+use Rattle.kind_table.specs.Ranges.{mode_range}
 use Rattle.choice_table.specs.Choices.{has_source}
 use Rattle.coverage_check.specs.Holding.{breaks_from, holds_during, holds_leaving, holds_on_way, holds_range, holds_reached, holds_reaching}
 use Rattle.coverage_check.specs.Search.{shown_if}

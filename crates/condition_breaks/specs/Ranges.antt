@@ -6,7 +6,7 @@ use Rattle.scram_types.specs.Specification.{Parts}
 use Rattle.scram_types.specs.declared.specification.Invariant.{Invariant}
 use Rattle.scram_types.specs.declared.specification.Place.{Place}
 use Rattle.scram_types.specs.declared.specification.Precondition.{Precondition}
-use Rattle.app_model.specs.Bounds.{after_init, during}
+use Rattle.kind_table.specs.Bounds.{after_init, during}
 use Rattle.choice_table.specs.Choices.{has_source}
 use Rattle.coverage_check.specs.Holding.{holds_range}
 use Rattle.coverage_check.specs.Timing.{is_target}

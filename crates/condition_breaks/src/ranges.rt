@@ -8,10 +8,10 @@ ghost use Rattle.coverage_check.specs.Timing.{targets};
 ghost use Rattle.condition_breaks.specs.Ranges.{all_ways, first_unheld, hull, hull_of, hull_on, interval, is_other_target, is_unheld, other_ways, range_entering, range_asked, range_on, way_to, ways_from};
 
 use crate::breaks::Way;
-use app_model::{after_init, during};
 use choice_table::has_source;
 use coverage_check::targets;
 use flight_facts::extremes::Extremes;
+use kind_table::{after_init, during};
 use scram_types::bits::is_in;
 use scram_types::{ConfId, Invariant, NoMemory, Place, Precondition, Spec};
 use std::alloc::Global;

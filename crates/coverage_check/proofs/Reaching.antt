@@ -11,7 +11,7 @@ use Rattle.dep_order.proofs.Assigned.{get_set_other, get_set_same}
 use Rattle.scram_types.proofs.Naturals.{same_or_not, below_test, equal_test, equal}
 use Rattle.scram_types.specs.declared.ids.ConfId.{ConfId}
 use Rattle.scram_types.specs.declared.rows.Env.{Env}
-use Rattle.scram_types.specs.declared.specification.Demand.{Demand}
+use Rattle.scram_types.specs.declared.demands.Demand.{Demand}
 use Rattle.scram_types.specs.Specification.{IsSpec, Parts}
 use Rattle.scram_types.specs.Searches.{first_below}
 use Rattle.scram_types.specs.Lookups.{conf_id}

@@ -3,7 +3,7 @@ use Rattle.std.specs.Prelude.{ℕ, List, length, slice_get, Option, None, option
 use Rattle.std.specs.Option.{option_map_or}
 use Rattle.scram_types.specs.declared.ids.ConfId.{ConfId}
 use Rattle.scram_types.specs.declared.rows.Env.{Env}
-use Rattle.scram_types.specs.declared.specification.Demand.{Demand}
+use Rattle.scram_types.specs.declared.demands.Demand.{Demand}
 use Rattle.scram_types.specs.Lookups.{conf_id}
 use Rattle.scram_types.specs.Searches.{first_below}
 use Rattle.scram_types.specs.Specification.{Parts}

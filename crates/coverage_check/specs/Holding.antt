@@ -9,7 +9,7 @@ use Rattle.scram_types.specs.declared.specification.Precondition.{Precondition}
 use Rattle.scram_types.specs.Specification.{Parts}
 use Rattle.scram_types.specs.Searches.{all_below, first_below}
 use Rattle.choice_table.specs.Choices.{has_source}
-use Rattle.app_model.specs.Bounds.{after_init, during}
+use Rattle.kind_table.specs.Bounds.{after_init, during}
 use Rattle.coverage_check.specs.declared.shown.Shown.{Shown}
 use Rattle.coverage_check.specs.declared.shown.Other.TheVariants as other
 use Rattle.coverage_check.specs.Search.{shown_if}

@@ -9,9 +9,9 @@ ghost use Rattle.cube_cover.specs.Covers.{IsCover};
 ghost use Rattle.coverage_check.specs.TargetSets.{HasCovers};
 
 use crate::shown::{Other, Shown};
-use app_model::{after_init, during};
 use choice_table::has_source;
 use cube_cover::Cover;
+use kind_table::{after_init, during};
 use scram_types::bits::is_in;
 use scram_types::{AppId, ConfId, Invariant, KindId, Mode, Place, Precondition, Spec};
 

@@ -6,7 +6,7 @@ use Rattle.std.proofs.lemmas.List.{take_more}
 use Rattle.std.proofs.lemmas.Option.{slice_get-get_or, slice_get_within}
 use Rattle.scram_types.specs.declared.ids.ConfId.{ConfId}
 use Rattle.scram_types.specs.declared.rows.Env.{Env}
-use Rattle.scram_types.specs.declared.specification.Demand.{Demand}
+use Rattle.scram_types.specs.declared.demands.Demand.{Demand}
 use Rattle.scram_types.specs.Bits.{bits_below, has_bit}
 use Rattle.scram_types.specs.Lookups.{conf_id}
 use Rattle.scram_types.specs.Specification.{IsSpec, Parts}

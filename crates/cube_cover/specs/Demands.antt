@@ -2,7 +2,7 @@
 use Rattle.std.specs.Prelude.{◌≡◌, ℕ, Bool, not, ◌&&◌, List, length, slice_get, Option, Some}
 use Rattle.scram_types.specs.declared.ids.ConfId.{ConfId}
 use Rattle.scram_types.specs.declared.rows.Env.{Env}
-use Rattle.scram_types.specs.declared.specification.Demand.{Demand}
+use Rattle.scram_types.specs.declared.demands.Demand.{Demand}
 use Rattle.scram_types.specs.Bits.{has_bit}
 use Rattle.scram_types.specs.Specification.{Parts}
 use Rattle.choice_table.specs.Choices.{choose}

@@ -6,7 +6,7 @@ use Rattle.scram_types.specs.Specification.{Parts}
 use Rattle.scram_types.specs.declared.rows.Env.{Env}
 use Rattle.scram_types.specs.declared.rows.Report.{Report}
 use Rattle.scram_types.specs.declared.rows.Row.{Row}
-use Rattle.scram_types.specs.declared.specification.Demand.{Demand}
+use Rattle.scram_types.specs.declared.demands.Demand.{Demand}
 use Rattle.scram_types.specs.declared.specification.Factor.{Factor}
 use Rattle.scram_types.specs.declared.specification.Proc.{Proc}
 use Rattle.scram_doc.specs.Paths.{shown as path_text}

@@ -10,7 +10,7 @@ use Rattle.std.proofs.lemmas.Option.{slice_get_within}
 use Rattle.scram_types.specs.Bits.{has_bit}
 use Rattle.scram_types.specs.Specification.{Each, IsDemand, IsSpec, IsWant, Parts}
 use Rattle.scram_types.specs.declared.rows.Env.{Env}
-use Rattle.scram_types.specs.declared.specification.Demand.{Demand}
+use Rattle.scram_types.specs.declared.demands.Demand.{Demand}
 use Rattle.scram_types.specs.declared.specification.Factor.{Factor}
 use Rattle.scram_types.specs.declared.specification.Want.{Want}
 use Rattle.scram_types.proofs.BitSets.{bit_cases, bits_are, bits_lt, count_rises, has_bits, no_bit_past}

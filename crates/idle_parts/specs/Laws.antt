@@ -4,7 +4,7 @@ use Rattle.scram_types.specs.Specification.{IsSpec, Parts}
 use Rattle.scram_types.specs.declared.rows.Env.{Env}
 use Rattle.scram_types.specs.declared.ids.ConfId.{ConfId}
 use Rattle.scram_types.specs.declared.specification.Choice.{Choice}
-use Rattle.scram_types.specs.declared.specification.Demand.{Demand}
+use Rattle.scram_types.specs.declared.demands.Demand.{Demand}
 use Rattle.choice_table.specs.Choices.{IsTarget, rule_fits}
 use Rattle.choice_table.specs.Demands.{applies_in}
 use Rattle.choice_table.specs.Environments.{IsEnv, in_scope}

@@ -5,7 +5,7 @@ use Rattle.scram_types.specs.Lookups.{app_name, conf_name, factor_name, kind_of_
 use Rattle.scram_types.specs.Specification.{Parts}
 use Rattle.scram_types.specs.declared.specification.AppSpec.{AppSpec}
 use Rattle.scram_types.specs.declared.specification.Bound.{Bound}
-use Rattle.scram_types.specs.declared.specification.Demand.{Demand}
+use Rattle.scram_types.specs.declared.demands.Demand.{Demand}
 use Rattle.scram_types.specs.declared.specification.ModeSpec.{ModeSpec}
 use Rattle.kind_table.specs.Names.{mode_text}
 use Rattle.form_base.specs.Texts.{texts_below}

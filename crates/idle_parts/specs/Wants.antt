@@ -5,7 +5,7 @@ use Rattle.scram_types.specs.Lookups.{kind_of_app}
 use Rattle.scram_types.specs.Searches.{any_below}
 use Rattle.scram_types.specs.Specification.{Parts}
 use Rattle.scram_types.specs.declared.specification.Choice.{Choice}
-use Rattle.scram_types.specs.declared.specification.Demand.{Demand}
+use Rattle.scram_types.specs.declared.demands.Demand.{Demand}
 use Rattle.scram_types.specs.declared.specification.Want.{Want}
 use Rattle.kind_table.specs.declared.kinds.power_monitor.TheConstants.{KIND as POWER_MONITOR}
 use Rattle.choice_table.specs.Demands.{applies_in}

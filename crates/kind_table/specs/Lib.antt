@@ -1,2 +1,4 @@
+pub mod Bounds
 pub mod Kinds
 pub mod Names
+pub mod Ranges

@@ -14,7 +14,7 @@ use Rattle.scram_doc.specs.Paths.{item_path, member_path}
 use Rattle.scram_doc.proofs.ReadBack.{fact_after, items_back, list_back, within_back}
 use Rattle.scram_types.specs.declared.ids.Mode.{Mode}
 use Rattle.scram_types.specs.declared.specification.AppSpec.{AppSpec}
-use Rattle.scram_types.specs.declared.specification.Demand.{Demand}
+use Rattle.scram_types.specs.declared.demands.Demand.{Demand}
 use Rattle.scram_types.specs.declared.specification.Want.{Want}
 use Rattle.scram_types.specs.Bits.{has_bit}
 use Rattle.scram_types.specs.Lookups.{number_from}

@@ -7,7 +7,7 @@ use Rattle.scram_doc.specs.Canonical.{list_data}
 use Rattle.scram_doc.specs.Paths.{member_path}
 use Rattle.scram_doc.proofs.Parsed.{parsed-some}
 use Rattle.scram_types.specs.declared.limits.TheConstants.{MAX_SPECIFICATION_BYTES}
-use Rattle.scram_types.specs.declared.specification.Demand.{Demand}
+use Rattle.scram_types.specs.declared.demands.Demand.{Demand}
 use Rattle.scram_types.specs.declared.specification.Policy.{Policy}
 use Rattle.scram_types.specs.declared.specification.Policy.TheVariants.{Retarget, Settle}
 use Rattle.scram_types.specs.Specification.{IsSpec, Parts}

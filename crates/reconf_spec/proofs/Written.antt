@@ -2,7 +2,7 @@
 use Rattle.std.proofs.Common.{◌≡◌, refl, List, [], ◌∷◌}
 use Rattle.std.specs.Prelude.{codes}
 use Rattle.serde_json.specs.Data.{object, no_members, put, string}
-use Rattle.scram_types.specs.declared.specification.Demand.{Demand}
+use Rattle.scram_types.specs.declared.demands.Demand.{Demand}
 use Rattle.scram_types.specs.declared.specification.Policy.{Policy}
 use Rattle.scram_types.specs.declared.specification.Policy.TheVariants.{Retarget, Settle}
 use Rattle.scram_types.specs.Specification.{Parts}

@@ -26,10 +26,10 @@ use Rattle.scram_types.proofs.Options.{same_some}
 use Rattle.scram_types.proofs.Searches.{all_each, get_listed, length_listed}
 use Rattle.app_model.specs.declared.seen.Seen.{Seen}
 use Rattle.app_model.specs.Areas.{AreaLies, Between, status_of}
-use Rattle.app_model.specs.Bounds.{after_init, during, sane}
+use Rattle.kind_table.specs.Bounds.{after_init, during, sane}
 use Rattle.kind_table.specs.Kinds.{kind_variable}
 use Rattle.app_model.specs.Law.{law}
-use Rattle.app_model.specs.Ranges.{mode_range, sane_range, widest_mode}
+use Rattle.kind_table.specs.Ranges.{mode_range, sane_range, widest_mode}
 use Rattle.app_model.specs.Starts.{start_of}
 use Rattle.app_model.proofs.AreaLaws.{law_lies_during, start_lies_after_init}
 use Rattle.app_model.proofs.Lengths.{law_eight}

@@ -3,6 +3,7 @@
 #![tactic(auto)]
 
 pub mod bits;
+pub mod demands;
 pub mod ids;
 pub mod limits;
 pub mod lists;
@@ -17,6 +18,7 @@ pub mod rows;
 pub mod scripts;
 pub mod specification;
 
+pub use demands::Demand;
 pub use ids::{AppId, ConfId, FactorId, KindId, Mode, ProcId};
 pub use lists::List;
 pub use memory::NoMemory;
@@ -27,6 +29,6 @@ pub use ranges::Range;
 pub use rows::{Area, Env, Flown, Goal, Image, Report, Row, World};
 pub use scripts::{Change, HaltAt, RestartAt, Script};
 pub use specification::{
-    AppSpec, Bound, Choice, Conf, Demand, Factor, Invariant, ModeSpec, Place, Policy, Precondition,
-    Proc, Spec, Want,
+    AppSpec, Bound, Choice, Conf, Factor, Invariant, ModeSpec, Place, Policy, Precondition, Proc,
+    Spec, Want,
 };

@@ -5,7 +5,7 @@ use Rattle.scram_types.specs.declared.specification.Proc.{Proc}
 use Rattle.scram_types.specs.declared.specification.AppSpec.{AppSpec}
 use Rattle.scram_types.specs.declared.specification.Conf.{Conf}
 use Rattle.scram_types.specs.declared.specification.Factor.{Factor}
-use Rattle.scram_types.specs.declared.specification.Demand.{Demand}
+use Rattle.scram_types.specs.declared.demands.Demand.{Demand}
 use Rattle.scram_types.specs.Lookups.{number_named}
 use Rattle.scram_types.specs.Names.{name_of}
 use Rattle.scram_doc.specs.declared.fault.DocFault.{DocFault}

@@ -11,7 +11,7 @@ use Rattle.scram_types.specs.declared.specification.Bound.{Bound}
 use Rattle.scram_types.specs.declared.specification.Invariant.{Invariant}
 use Rattle.scram_types.specs.declared.specification.Precondition.{Precondition}
 use Rattle.scram_types.specs.declared.ids.Mode.{Mode}
-use Rattle.scram_types.specs.declared.specification.Demand.{Demand}
+use Rattle.scram_types.specs.declared.demands.Demand.{Demand}
 use Rattle.scram_types.specs.Bits.{has_bit}
 use Rattle.scram_types.specs.ModeLists.{is_among}
 use Rattle.scram_types.specs.Specification.{IsPlace, IsWant, IsBound, IsIn, IsInIfNamed, mode_in, bound_in}

@@ -1,13 +1,16 @@
 //! Tests of the tables of applications: names, ranges and first areas.
 
-use app_model::{Rack, after_halt, after_init, during, rack_fits, racks_fit, sane, start_area};
+use app_model::{Rack, rack_fits, racks_fit, start_area};
 use kind_table::kinds::autopilot::{HOLD, KIND as PILOT};
 use kind_table::kinds::data_link::{FAST, KIND as LINK};
 use kind_table::kinds::flight_control::{AUGMENTED, DIRECT, KIND as CONTROL};
 use kind_table::kinds::navigator::{KIND as NAVIGATOR, ROUTE};
 use kind_table::kinds::power_monitor::{KIND as POWER, SAVER};
 use kind_table::kinds::task::{KIND as TASK, REDUCED};
-use kind_table::{kind_name, kind_named, mode_name, mode_named, variable_name, variable_named};
+use kind_table::{
+    after_halt, after_init, during, kind_name, kind_named, mode_name, mode_named, sane,
+    variable_name, variable_named,
+};
 use scram_types::{KindId, Mode};
 
 // Returns the numbers of the kind, the mode and the variable whose names are in `names`, in this order. The mode and

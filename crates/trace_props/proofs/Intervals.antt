@@ -14,7 +14,7 @@ use Rattle.scram_types.proofs.Naturals.{equal, equal_test}
 use Rattle.scram_types.specs.Lookups.{conf_id, kind_of_app}
 use Rattle.choice_table.specs.Choices as choices
 use Rattle.choice_table.specs.Choices.{has_source}
-use Rattle.app_model.specs.Bounds.{after_init, during}
+use Rattle.kind_table.specs.Bounds.{after_init, during}
 use Rattle.coverage_check.specs.Acceptance as acceptance
 use Rattle.coverage_check.specs.Acceptance.{Accepts}
 use Rattle.coverage_check.specs.Holding.{holds_during, holds_leaving, holds_off, holds_reaching}

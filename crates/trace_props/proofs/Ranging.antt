@@ -19,7 +19,7 @@ use Rattle.scram_types.specs.Eights.{eight}
 use Rattle.scram_types.proofs.Searches.{each_all}
 use Rattle.dep_order.specs.Timetables.{halt_offset, halt_time, init_offset, init_time, prepare_time}
 use Rattle.app_model.specs.Areas.{AllTablesNarrow, AreaLies, Between, LawLiesAfterInit, LawLiesDuring, StartLiesAfterInit}
-use Rattle.app_model.specs.Bounds.{after_init, during}
+use Rattle.kind_table.specs.Bounds.{after_init, during}
 use Rattle.app_model.specs.Starts.{start_of}
 use Rattle.fault_script.specs.Environments.{env_at}
 use Rattle.frame_model.specs.declared.phases.Phase as told_phases

@@ -1,6 +1,6 @@
 use Rattle.std.proofs.Common.{◌≡◌, ◌∙◌, ap, arith, length, sym, List}
 use Rattle.scram_types.specs.Specification.{Parts}
-use Rattle.scram_types.specs.declared.specification.Demand.{Demand}
+use Rattle.scram_types.specs.declared.demands.Demand.{Demand}
 use Rattle.scram_types.proofs.Searches.{first_is, first_more}
 use Rattle.coverage_check.specs.Demands.{demand_refusal_at}
 use Rattle.coverage_check.proofs.Reaching.{miss_is}

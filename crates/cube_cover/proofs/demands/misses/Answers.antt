@@ -1,7 +1,7 @@
 use Rattle.std.proofs.Common.{List, ap, arith, get_or, length, subst, ◌+◌, ◌∙◌}
 use Rattle.std.proofs.lemmas.List.{length_push}
 use Rattle.scram_types.specs.Specification.{Parts}
-use Rattle.scram_types.specs.declared.specification.Demand.{Demand}
+use Rattle.scram_types.specs.declared.demands.Demand.{Demand}
 use Rattle.cube_cover.specs.Covers.{IsLeastEnv}
 use Rattle.cube_cover.specs.Demands.{misses}
 use Rattle.cube_cover.proofs.Missing.{found_more}

@@ -1,10 +1,10 @@
-//! The ranges of the variables, taken from the table of kinds. The units are those of [`kind_table::kinds`].
+//! The ranges of the variables, taken from the table of kinds. The units are those of [`crate::kinds`].
 #![tactic(auto, unfolding(crate::specs::Ranges::mode_range, crate::specs::Ranges::initialised_range, crate::specs::Ranges::widest_mode, crate::specs::Ranges::sane_range, crate::specs::Ranges::is_moving))]
 
 ghost use Rattle.std.specs.Prelude.{◌≡◌};
-ghost use Rattle.app_model.specs.Ranges.{initialised_range, widest_mode, sane_range, mode_range, is_moving};
+ghost use Rattle.kind_table.specs.Ranges.{initialised_range, widest_mode, sane_range, mode_range, is_moving};
 
-use kind_table::table::{kind_or_last, kind_variable, range_in};
+use crate::table::{kind_or_last, kind_variable, range_in};
 use scram_types::Range;
 
 /// Returns the range of a variable while an application of the kind is in the mode.

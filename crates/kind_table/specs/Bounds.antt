@@ -2,7 +2,7 @@
 use Rattle.std.specs.Prelude.{ℕ, ℤ, pos, ◌==◌, if◌then◌else◌}
 use Rattle.scram_types.specs.declared.ranges.Range.{Range}
 use Rattle.scram_types.specs.Numbers.{minus}
-use Rattle.app_model.specs.Ranges.{initialised_range, sane_range, mode_range, is_moving}
+use Rattle.kind_table.specs.Ranges.{initialised_range, sane_range, mode_range, is_moving}
 
 -- The minimum and the maximum of a range.
 abbrev pub ends : Range → ℤ × ℤ

@@ -2,7 +2,7 @@
 #![tactic(auto, unfolding(crate::specs::Bounds::during, crate::specs::Bounds::after_halt, crate::specs::Bounds::after_init, crate::specs::Bounds::sane))]
 
 ghost use Rattle.std.specs.Prelude.{◌≡◌};
-ghost use Rattle.app_model.specs.Bounds.{ends, during, after_halt, after_init, sane};
+ghost use Rattle.kind_table.specs.Bounds.{ends, during, after_halt, after_init, sane};
 
 use crate::ranges::{initialised_range, is_moving, mode_range, sane_range};
 use scram_types::{KindId, Mode, Range};
@@ -15,7 +15,7 @@ fn ends_of(range: Range) -> (i64, i64)
 
 /// Returns the minimum and the maximum of a variable while an application of kind `kind` has status `status` in mode
 /// `mode`. The status is 1 for run, 2 for halt, 3 for prepare and 4 for init. The units are those of
-/// [`kind_table::kinds`].
+/// [`crate::kinds`].
 pub fn during(kind: KindId, status: u8, mode: Mode, variable: u8) -> (i64, i64)
     ensures { result ≡ during kind.0 status mode.0 variable }
 {
