@@ -14,7 +14,7 @@ use Rattle.coverage_check.specs.Timing.{greatest_bound}
 use Rattle.fault_script.specs.Fits.{EachLater}
 use Rattle.fault_script.specs.Orders.{comes_after, last_of}
 use Rattle.fault_script.specs.Times.{words}
-use Rattle.fault_script.proofs.Ends.{each_later_none}
+use Rattle.fault_script.proofs.Ends.{each_later_none, each_later_one}
 use Rattle.fault_family.specs.declared.faults.Fault.{Fault}
 use Rattle.fault_family.specs.declared.faults.FaultKind.{FaultKind}
 use Rattle.fault_family.specs.declared.faults.FaultKind.TheVariants.{Change, Halt, Restart}
@@ -58,13 +58,10 @@ later_mapped R S f lift (x ∷ xs) each =
     (λ b stands. let found = stands_mapped f xs b stands in subst (S (f x)) found.2 (lift x found.0 (each 0 (suc found.1.0) x found.0 (omega arith) refl found.1.1)))
     (later_mapped R S f lift xs (rest_later R x xs each))
 
-later_one : {A : Type 0} (R : A → A → Type 0) (x : A) → EachLater R (x ∷ [])
-later_one R x = later_cons R x [] (λ y stands. absurd (let none = stands.1 in cc)) (each_later_none R)
-
 later_listed : {A : Type 0} (R : A → A → Type 0) (value : ℕ → A) (n : ℕ) → ((i j : ℕ) → i < j → R (value i) (value j)) → EachLater R (listed_below value n)
 later_listed R value zero rises = each_later_none R
 later_listed R value (suc n) rises =
-    later_joined R (listed_below value n) (value n ∷ []) (later_listed R value n rises) (later_one R (value n))
+    later_joined R (listed_below value n) (value n ∷ []) (later_listed R value n rises) (each_later_one R (value n))
     (λ x y first last.
     let at = stands_listed value n x first in
     subst (λ z. R z y) at.2 (subst (R (value at.0)) (stands_one (value n) y last) (rises at.0 n at.1)))
@@ -113,7 +110,7 @@ module _ (spec : Parts) where
       later_cons KindBefore (Halt (proc_id p) 0) (Halt (proc_id p) (words spec + 1) ∷ [])
       (λ k stands. subst (KindBefore (Halt (proc_id p) 0)) (stands_one (Halt (proc_id p) (words spec + 1)) k stands)
       (by_subject (Halt (proc_id p) 0) (Halt (proc_id p) (words spec + 1)) refl (after_second p 0 (words spec + 1) (omega arith))))
-      (later_one KindBefore (Halt (proc_id p) (words spec + 1)))
+      (each_later_one KindBefore (Halt (proc_id p) (words spec + 1)))
 
   halt_is : (p : ℕ) (k : FaultKind) → Contains (proc_halts spec p) k → (step : ℕ) × (Halt (proc_id p) step ≡ k)
   halt_is p k stands = at stands.0 stands.1
@@ -181,7 +178,7 @@ module _ (spec : Parts) (accepts : Accepts spec) (some : 1 ≤ spec.window) wher
   gaps_rise =
       let long = bounds_within spec.bounds spec.window some accepts.windowed in
       later_joined (λ (x y : ℕ). x < y) (numbers_below (greatest_bound spec.bounds + 2)) ((spec.window + 1) ∷ [])
-      (later_listed (λ (x y : ℕ). x < y) (λ k. k) (greatest_bound spec.bounds + 2) (λ i j less. less)) (later_one (λ (x y : ℕ). x < y) (spec.window + 1))
+      (later_listed (λ (x y : ℕ). x < y) (λ k. k) (greatest_bound spec.bounds + 2) (λ i j less. less)) (each_later_one (λ (x y : ℕ). x < y) (spec.window + 1))
       (λ x y near far.
       let at = stands_listed (λ k. k) (greatest_bound spec.bounds + 2) x near in
       let below = at.1 in
@@ -190,7 +187,7 @@ module _ (spec : Parts) (accepts : Accepts spec) (some : 1 ≤ spec.window) wher
       omega (arith, long, below, same, end))
 
   frames_rise : (last : Option Fault) → EachLater (λ (x y : ℕ). x < y) (frames_allowed_after spec last)
-  frames_rise None = later_one (λ (x y : ℕ). x < y) 1
+  frames_rise None = each_later_one (λ (x y : ℕ). x < y) 1
   frames_rise (Some last) = later_mapped (λ (x y : ℕ). x < y) (λ (x y : ℕ). x < y) (λ gap. last.frame + gap) (λ x y less. omega (arith, less)) (gaps spec) gaps_rise
 
   candidates_ordered : (before : List Fault) → EachLater (λ (a b : Fault). precedes a b ≡ true) (candidates spec before)
@@ -224,7 +221,7 @@ module _ (spec : Parts) (accepts : Accepts spec) (some : 1 ≤ spec.window) wher
 
   extended_ordered : (more : ℕ) (before : List Fault) → EachLater ComesFirst (extended spec more before)
   unfolding branch
-  extended_ordered zero before = where_ordered (is_within spec (script_of_faults spec before)) (before ∷ []) (later_one ComesFirst before)
+  extended_ordered zero before = where_ordered (is_within spec (script_of_faults spec before)) (before ∷ []) (each_later_one ComesFirst before)
   extended_ordered (suc more) before =
       later_parts (λ (a b : Fault). precedes a b ≡ true) ComesFirst (branch more before)
       (λ fault. where_ordered (may_follow spec before fault) (extended spec more (before ++ fault ∷ [])) (extended_ordered more (before ++ fault ∷ [])))

@@ -9,14 +9,15 @@ use Rattle.std.proofs.lemmas.Bool.Decides.{nat_tests}
 use Rattle.std.proofs.lemmas.List.Elements.{filter_map-append}
 use Rattle.std.proofs.lemmas.Option.{same_Some}
 use Rattle.scram_types.proofs.Booleans.{by_bool, true_false}
-use Rattle.scram_types.proofs.Items.{any_found, each_passes, first_part, next_part, each_end}
+use Rattle.scram_types.proofs.Items.{each_passes, first_part, next_part, each_end}
 use Rattle.scram_types.specs.declared.scripts.Change.{Change}
 use Rattle.scram_types.specs.declared.scripts.HaltAt.{HaltAt}
 use Rattle.scram_types.specs.declared.scripts.RestartAt.{RestartAt}
 use Rattle.scram_types.specs.Specification.{Each, IsSpec, Parts}
 use Rattle.fault_script.specs.Fits.{Before, ChangeBefore, EachLater, EachNext, Fits, HaltsWellBefore, IsChange, IsHalt, IsRestart}
-use Rattle.fault_script.specs.Orders.{comes_after, is_halt_before, last_of}
+use Rattle.fault_script.specs.Orders.{comes_after, last_of}
 use Rattle.fault_script.proofs.Ends.{each_later_end, each_later_none, each_none}
+use Rattle.fault_script.proofs.Fitting.{halted_well_before}
 use Rattle.fault_family.specs.declared.faults.Fault.{Fault}
 use Rattle.fault_family.specs.declared.faults.FaultKind.{FaultKind}
 use Rattle.fault_family.specs.declared.faults.FaultKind.TheVariants as kind
@@ -120,12 +121,6 @@ behind_by spec (Some last) frame is (inr far) first =
     let few = is.window_most in
     record { after = omega (arith, far); near = omega (arith, far, few); first = omega (arith, far) }
 
-halted_by : (halts : List HaltAt) (p f : ℕ) → list_any (is_halt_before p f) halts ≡ true → HaltsWellBefore halts p f
-halted_by halts p f some =
-    let found = any_found (is_halt_before p f) halts some in
-    let parts = and_parts (found.1.proc.0 == p) _ found.3 in
-    record { place = found.0; halt = found.1; there = found.2; proc = grind (arith, nat_tests, parts.0); frame = grind (arith, nat_tests, parts.1) }
-
 halted_more : (halts more : List HaltAt) (p f : ℕ) → HaltsWellBefore halts p f → HaltsWellBefore (halts ++ more) p f
 halted_more halts more p f before = record { place = before.place; halt = before.halt; there = first_part halts more before.place before.halt before.there; proc = before.proc; frame = before.frame }
 
@@ -135,7 +130,7 @@ module _ (spec : Parts) (is : IsSpec spec) where
   restart_halted before frame (kind.Change factor value) differs restart e = absurd cc
   restart_halted before frame (kind.Halt proc step) differs restart e = absurd cc
   restart_halted before frame (kind.Restart proc) differs restart e =
-      subst (λ (r : RestartAt). HaltsWellBefore (filter_map halt_of_fault before) r.proc.0 r.frame) (same_Some _ restart e) (halted_by (filter_map halt_of_fault before) proc.0 frame differs)
+      subst (λ (r : RestartAt). HaltsWellBefore (filter_map halt_of_fault before) r.proc.0 r.frame) (same_Some _ restart e) (halted_well_before (filter_map halt_of_fault before) proc.0 frame differs)
 
   keeps_end : (before : List Fault) (fault : Fault) → Keeps spec before → IsNextFault spec before fault → Keeps spec (before ++ fault ∷ [])
   keeps_end before fault keeps next =

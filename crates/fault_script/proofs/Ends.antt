@@ -51,3 +51,7 @@ each_next_none R i x y e f = absurd cc
 
 pub each_later_none : {A : Type 0} (R : A → A → Type 0) → EachLater R []
 each_later_none R i j x y less e f = absurd cc
+
+pub each_later_one : {A : Type 0} (R : A → A → Type 0) (x : A) → EachLater R (x ∷ [])
+each_later_one R x i zero y z less p q = absurd (omega (arith, less))
+each_later_one R x i (suc j) y z less p q = absurd cc

@@ -195,8 +195,8 @@ pub record GoodRestarts (spec : Parts) (frames : ℕ) (halts : List HaltAt) (res
   pub once : EachLater Differ restarts
   pub late : Each (IsLate halts) restarts
 
-late_ok : (halts : List HaltAt) (p f : ℕ) → list_any (is_halt_before p f) halts ≡ true → HaltsWellBefore halts p f
-late_ok halts p f some = some_passes (is_halt_before p f) halts some
+pub halted_well_before : (halts : List HaltAt) (p f : ℕ) → list_any (is_halt_before p f) halts ≡ true → HaltsWellBefore halts p f
+halted_well_before halts p f some = some_passes (is_halt_before p f) halts some
     (λ i h there passes. let parts = and_parts (h.proc.0 == p) (nat_le (h.frame + 2) f) passes in
     record { place = i; halt = h; there = there; proc = grind (arith, nat_tests, parts.0); frame = grind (arith, nat_tests, parts.1) })
 
@@ -212,7 +212,7 @@ good_restarts_end spec frames halts before r good is follows =
           (λ l last. comes_after_ok l.frame l.proc.0 r.frame r.proc.0 (ap (λ o. restart_after o r) (sym last) ∙ first.0));
       once = each_later_end Differ before r good.once
           (λ i y there same. let other = none_passes (is_restart_of r.proc.0) before i y none there in absurd (grind (arith, nat_tests, other, same)));
-      late = each_end (IsLate halts) before r good.late (late_ok halts r.proc.0 r.frame parts.1);
+      late = each_end (IsLate halts) before r good.late (halted_well_before halts r.proc.0 r.frame parts.1);
     }
 
 good_restarts_none : (spec : Parts) (frames : ℕ) (halts : List HaltAt) → GoodRestarts spec frames halts []

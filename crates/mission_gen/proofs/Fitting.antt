@@ -8,7 +8,7 @@ use Rattle.scram_types.specs.declared.scripts.HaltAt.{HaltAt}
 use Rattle.scram_types.specs.declared.specification.Factor.{Factor}
 use Rattle.scram_types.specs.Specification.{Each, Parts}
 use Rattle.fault_script.specs.Fits.{AtMostTwice, ChangeBefore, EachLater, EachNext, Fits, HaltBefore, IsChange, IsHalt}
-use Rattle.fault_script.proofs.Ends.{each_later_none, each_next_none, each_none}
+use Rattle.fault_script.proofs.Ends.{each_later_none, each_later_one, each_next_none, each_none}
 use Rattle.mission_gen.specs.Changes.{change_by, changes_by, count_of_values, frames_of, generated_script, last_block, value_by, values_by, generated_halt}
 use Rattle.mission_gen.specs.Turns.{Turn, turns_to}
 use Rattle.mission_gen.proofs.Ordering.{AreTurns, IsTurn, Precedes, Sorted, turns_kept}
@@ -94,11 +94,6 @@ changes_counted : (values : List ℕ) (ts : List Turn) → length (changes_by va
 changes_counted values [] = refl
 changes_counted values (t ∷ ts) = ap suc (changes_counted (values_by values t) ts)
 
--- A list of one item satisfies `EachLater` for any relation.
-later_of_one : {A : Type 0} (R : A → A → Type 0) (x : A) → EachLater R (x ∷ [])
-later_of_one R x i zero y z less p q = absurd (omega (arith, less))
-later_of_one R x i (suc j) y z less p q = absurd cc
-
 next_of_one : {A : Type 0} (R : A → A → Type 0) (x : A) → EachNext R (x ∷ [])
 next_of_one R x = next_cons R x [] (λ y there. absurd cc) (each_next_none R)
 
@@ -133,5 +128,5 @@ script_fits spec n counts =
       restarts_once = each_later_none _;
       restarts_late = each_none _;
       halts_twice = once_of_one (generated_halt n);
-      halts_again = later_of_one _ (generated_halt n);
+      halts_again = each_later_one _ (generated_halt n);
     }
