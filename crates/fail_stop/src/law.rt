@@ -38,6 +38,13 @@ pub fn kept_is_consistent()
     ensures { KeptIsConsistent }
 {}
 
+/// States that the draft that a processor makes of the snapshot of a frame is its draft in the one-thread trace.
+pub fn drafts_are_of_traces()
+    ensures { DraftsAreOfTraces }
+{
+    frame_model::laws::areas_are_kept();
+}
+
 /// States that each state of each schedule satisfies the invariant `Kept`.
 pub fn schedules_keep()
     ensures { SchedulesKeep }
@@ -69,10 +76,3 @@ pub fn banks_hold_the_last_stores()
 pub fn kernel_images_come_back()
     ensures { KernelImagesComeBack }
 {}
-
-/// States that the draft that a processor makes of the snapshot of a frame is its draft in the one-thread trace.
-pub fn drafts_are_of_traces()
-    ensures { DraftsAreOfTraces }
-{
-    frame_model::laws::areas_are_kept();
-}
