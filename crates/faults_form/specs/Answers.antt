@@ -1,13 +1,13 @@
 -- The answers of the form `faults`.
-use Rattle.std.specs.Prelude.{◌≡◌, ℕ, List, [], Option, Some, None}
+use Rattle.std.specs.Prelude.{◌≡◌, ℕ, List, [], Option, unwrap_or}
 use Rattle.scram_types.specs.Specification.{Parts}
 use Rattle.scram_io.specs.Outside.{History}
 use Rattle.coverage_check.specs.declared.shown.Shown.{Shown}
 use Rattle.coverage_check.specs.Acceptance.{Accepts, first_refusal}
-use Rattle.form_base.specs.declared.status.TheConstants.{ANSWERED, NOT_ACCEPTED}
+use Rattle.form_base.specs.declared.status.TheConstants.{ANSWERED}
+use Rattle.form_base.specs.Acceptance.{acceptance_refusal}
 use Rattle.form_base.specs.Answers.{Answer, Gives, WithoutFiles}
 use Rattle.form_base.specs.Assurance.{OfSpecification}
-use Rattle.form_base.specs.Lines.{shown_line}
 use Rattle.form_base.specs.Specifications.{AsksSpecification}
 use Rattle.faults_form.specs.declared.counts.FaultCount.{FaultCount}
 use Rattle.faults_form.specs.declared.forms.Family.{Family}
@@ -17,8 +17,7 @@ use Rattle.faults_form.specs.Families.{family_text}
 -- The status and the text with which `faults` answers. If `shown` is a refusal of the specification, the text is the
 -- line of the refusal. If `shown` is `None`, the text consists of the lines of the scripts with `count` faults.
 abbrev pub faults_answer : Parts → FaultCount → Option Shown → ℕ × List ℕ
-faults_answer spec count (Some shown) = (NOT_ACCEPTED, shown_line spec shown)
-faults_answer spec count None = (ANSWERED, family_text spec (number count))
+faults_answer spec count shown = unwrap_or (acceptance_refusal spec shown) (ANSWERED, family_text spec (number count))
 
 -- The status is 0, and the text consists of the lines of the family.
 abbrev pub GivesFamily : Family → ℕ → List ℕ → Type 0

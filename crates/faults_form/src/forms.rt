@@ -15,15 +15,15 @@ ghost use Rattle.faults_form.specs.Families.{extended_text, family_text, within_
 
 use crate::counts::FaultCount;
 use crate::lines::make_script_line;
-use coverage_check::{AcceptError, Accepted, accept};
+use coverage_check::Accepted;
 use fault_family::candidates::{Kinds, candidate, candidate_count, may_follow};
 use fault_family::faults::{Fault, FaultKind, Faults};
 use fault_family::scripts::FaultScript;
 use fault_family::within::is_within;
-use form_base::lines::make_shown_line;
+use form_base::acceptance::accept_specification;
 use form_base::loads::load;
 use form_base::printing::{print_refusal, status_after};
-use form_base::refusals::{Refusal, Refused};
+use form_base::refusals::Refusal;
 use form_base::specifications::Specification;
 use form_base::status::{ANSWERED, Status};
 use scram_io::{Files, Sink, SinkFault};
@@ -85,17 +85,9 @@ fn read_family<F: Files>(
 fn find_family(alloc: Global, spec: Spec, count: FaultCount) -> Result<Family, Refusal>
     ensures { PreparesWithoutFiles (Gives (faults_answer spec count (first_refusal spec))) GivesFamily result }
 {
-    match accept(alloc, spec) {
+    match accept_specification(alloc, spec) {
         Ok(spec) => Ok(Family { spec, count }),
-        Err(AcceptError::NotAccepted(spec, shown)) => {
-            let line = make_shown_line(&spec, &shown);
-            drop(spec);
-            Err(Refusal::new(Refused::Acceptance, line))
-        }
-        Err(AcceptError::NoMemory(spec)) => {
-            drop(spec);
-            Err(Refusal::out_of_memory())
-        }
+        Err(refusal) => Err(refusal),
     }
 }
 

@@ -2,6 +2,7 @@
 //! command's words name. A form reads its files, builds its text and prints it.
 #![tactic(auto)]
 
+pub mod acceptance;
 pub mod lines;
 pub mod loads;
 pub mod mission_files;

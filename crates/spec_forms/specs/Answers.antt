@@ -1,14 +1,14 @@
 -- The answers to questions about a specification.
-use Rattle.std.specs.Prelude.{◌≡◌, ℕ, List, [], Option, Some, None}
+use Rattle.std.specs.Prelude.{◌≡◌, ℕ, List, [], Option, unwrap_or}
 use Rattle.scram_types.specs.Specification.{Parts}
 use Rattle.scram_io.specs.Outside.{History}
 use Rattle.coverage_check.specs.declared.shown.Shown.{Shown}
 use Rattle.coverage_check.specs.Acceptance.{Accepts, first_refusal}
 use Rattle.coverage_check.specs.Form.{state_refusal}
-use Rattle.form_base.specs.declared.status.TheConstants.{ANSWERED, NOT_ACCEPTED}
+use Rattle.form_base.specs.declared.status.TheConstants.{ANSWERED}
+use Rattle.form_base.specs.Acceptance.{acceptance_refusal}
 use Rattle.form_base.specs.Answers.{Answer, Gives, WithoutFiles}
 use Rattle.form_base.specs.Assurance.{OfSpecification}
-use Rattle.form_base.specs.Lines.{shown_line}
 use Rattle.form_base.specs.Specifications.{AsksSpecification}
 use Rattle.spec_forms.specs.Bounds.{bounds_text}
 use Rattle.spec_forms.specs.Lines.{accepted_line}
@@ -16,14 +16,12 @@ use Rattle.spec_forms.specs.Lines.{accepted_line}
 -- The answer to `check` about a specification. `shown` is the reason why the specification is not accepted, or `None`
 -- if it is accepted.
 abbrev pub check_answer : Parts → Option Shown → ℕ × List ℕ
-check_answer spec (Some shown) = (NOT_ACCEPTED, shown_line spec shown)
-check_answer spec None = (ANSWERED, accepted_line spec)
+check_answer spec shown = unwrap_or (acceptance_refusal spec shown) (ANSWERED, accepted_line spec)
 
 -- The answer to `bounds` about a specification. `shown` is the refusal if too many environments are in scope, and
 -- `None` otherwise.
 abbrev pub bounds_answer : Parts → Option Shown → ℕ × List ℕ
-bounds_answer spec (Some shown) = (NOT_ACCEPTED, shown_line spec shown)
-bounds_answer spec None = (ANSWERED, bounds_text spec)
+bounds_answer spec shown = unwrap_or (acceptance_refusal spec shown) (ANSWERED, bounds_text spec)
 
 -- The answer to `check` about the specification in the file `specification`.
 abbrev pub CheckAnswers : List ℕ → Answer

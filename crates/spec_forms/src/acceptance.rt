@@ -8,11 +8,10 @@ ghost use Rattle.form_base.specs.declared.status.TheConstants.{ANSWERED};
 ghost use Rattle.spec_forms.specs.Answers.{CheckAnswers, check_answer};
 
 use crate::lines::make_accepted_line;
-use coverage_check::{AcceptError, accept};
-use form_base::lines::make_shown_line;
+use form_base::acceptance::accept_specification;
 use form_base::loads::load;
 use form_base::printing::{print_refusal, print_text};
-use form_base::refusals::{Refusal, Refused};
+use form_base::refusals::Refusal;
 use form_base::specifications::Specification;
 use form_base::status::{ANSWERED, Status};
 use scram_io::{Files, Sink};
@@ -52,20 +51,12 @@ fn read_line<F: Files>(alloc: Global, specification: &str, files: &mut F) -> Res
 fn accepted_line_of(alloc: Global, spec: Spec) -> Result<Line, Refusal>
     ensures { PreparesWithoutFiles (Gives (check_answer spec (first_refusal spec))) (λ (line : List ℕ). Gives (ANSWERED, line)) result }
 {
-    match accept(alloc, spec) {
+    match accept_specification(alloc, spec) {
         Ok(accepted) => {
             let line = make_accepted_line(accepted.spec());
             drop(accepted);
             Ok(line)
         }
-        Err(AcceptError::NotAccepted(spec, shown)) => {
-            let line = make_shown_line(&spec, &shown);
-            drop(spec);
-            Err(Refusal::new(Refused::Acceptance, line))
-        }
-        Err(AcceptError::NoMemory(spec)) => {
-            drop(spec);
-            Err(Refusal::out_of_memory())
-        }
+        Err(refusal) => Err(refusal),
     }
 }

@@ -19,6 +19,7 @@ use Rattle.trace_props.specs.Missions.{ReconfigurationsAreAssured}
 use Rattle.trace_props.specs.Properties.{KeepsSp3}
 use Rattle.flight_facts.specs.Margins.{bound_of, bound_to}
 use Rattle.form_base.specs.declared.status.TheConstants.{ANSWERED}
+use Rattle.form_base.specs.Acceptance.{acceptance_refusal}
 use Rattle.form_base.specs.Answers.{WithoutFiles}
 use Rattle.form_base.specs.Assurance.{IsAssuring}
 use Rattle.form_base.proofs.Assuring.{document_assures, not_zero, specification_assures}
@@ -28,7 +29,7 @@ use Rattle.flight_forms.specs.declared.flights_form.facts.FlightFacts.{FlightFac
 use Rattle.flight_forms.specs.declared.flights_form.limits.TheConstants.{MAX_SCRIPTS_BYTES}
 use Rattle.flight_forms.specs.declared.flights_form.outcomes.Outcome.{Outcome}
 use Rattle.flight_forms.specs.declared.flights_form.outcomes.Outcome.TheVariants.{Flown}
-use Rattle.flight_forms.specs.flights_form.Answers.{FlightsAnswers, ScriptsAnswers, GivesFlights, acceptance_refusal}
+use Rattle.flight_forms.specs.flights_form.Answers.{FlightsAnswers, ScriptsAnswers, GivesFlights}
 use Rattle.flight_forms.specs.flights_form.Assurance.{AreAssuredFlights, AssuresFlights, IsAssuredFlight, KeepsMargin}
 use Rattle.flight_forms.specs.flights_form.Facts.{facts_of, least_margin, margin_in, margin_to}
 use Rattle.flight_forms.proofs.flights_form.Kept.{gap_kept, gap_total_kept, margin_kept, margin_total_kept}

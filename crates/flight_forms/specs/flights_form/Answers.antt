@@ -1,11 +1,10 @@
 -- The answers of the form `flights`.
-use Rattle.std.specs.Prelude.{◌≡◌, ℕ, ◌+◌, List, [], ◌∷◌, ◌++◌, Option, Some, None}
+use Rattle.std.specs.Prelude.{◌≡◌, ℕ, ◌+◌, List, [], ◌∷◌, ◌++◌}
 use Rattle.scram_types.specs.Specification.{Parts}
-use Rattle.coverage_check.specs.declared.shown.Shown.{Shown}
 use Rattle.coverage_check.specs.Acceptance.{first_refusal}
-use Rattle.form_base.specs.declared.status.TheConstants.{ANSWERED, NOT_ACCEPTED}
+use Rattle.form_base.specs.declared.status.TheConstants.{ANSWERED}
+use Rattle.form_base.specs.Acceptance.{acceptance_refusal}
 use Rattle.form_base.specs.Answers.{Answer, WithoutFiles}
-use Rattle.form_base.specs.Lines.{shown_line}
 use Rattle.form_base.specs.Specifications.{AsksSpecification}
 use Rattle.form_base.specs.mission_files.Missions.{UnlessRefused}
 use Rattle.flight_forms.specs.declared.flights_form.outcomes.Outcome.{Outcome}
@@ -39,12 +38,6 @@ pub record IsFlightsText (spec : Parts) (scripts text : List ℕ) : Type 0 where
 -- `scripts`.
 abbrev pub GivesFlights : Parts → List ℕ → ℕ → List ℕ → Type 0
 GivesFlights spec scripts status text = (status ≡ ANSWERED) × IsFlightsText spec scripts text
-
--- The status and the line that refuse a specification with the given first refusal. If the specification has no
--- refusal, the value is `None`.
-abbrev pub acceptance_refusal : Parts → Option Shown → Option (ℕ × List ℕ)
-acceptance_refusal spec None = None
-acceptance_refusal spec (Some shown) = Some (NOT_ACCEPTED, shown_line spec shown)
 
 -- The answer after a specification and a file of scripts have been read.
 abbrev pub ScriptsAnswers : Parts → List ℕ → ℕ → List ℕ → Type 0

@@ -9,10 +9,10 @@ ghost use Rattle.flight_forms.specs.flights_form.Scripts.{AsksScripts};
 ghost use Rattle.flight_forms.specs.declared.flights_form.limits.TheConstants.{MAX_SCRIPTS_BYTES};
 
 use crate::flights_form::scripts::load_scripts;
-use coverage_check::{AcceptError, Accepted, accept};
-use form_base::lines::make_shown_line;
+use coverage_check::Accepted;
+use form_base::acceptance::accept_specification;
 use form_base::loads::load;
-use form_base::refusals::{Refusal, Refused};
+use form_base::refusals::Refusal;
 use form_base::specifications::Specification;
 use scram_io::Files;
 use scram_types::{List, Spec};
@@ -87,16 +87,11 @@ fn make_series(alloc: Global, spec: Spec, scripts: List<u8>) -> Result<Series, R
     ensures prepares { PreparesWithoutFiles (ScriptsAnswers spec scripts) GivesSeries result }
     ensures few { IfOk result (λ series. length series.scripts ≤ MAX_SCRIPTS_BYTES) }
 {
-    match accept(alloc, spec) {
+    match accept_specification(alloc, spec) {
         Ok(accepted) => Ok(Series { accepted, scripts }),
-        Err(AcceptError::NotAccepted(spec, shown)) => {
-            let line = make_shown_line(&spec, &shown);
-            drop((spec, scripts));
-            Err(Refusal::new(Refused::Acceptance, line))
-        }
-        Err(AcceptError::NoMemory(spec)) => {
-            drop((spec, scripts));
-            Err(Refusal::out_of_memory())
+        Err(refusal) => {
+            drop(scripts);
+            Err(refusal)
         }
     }
 }

@@ -8,9 +8,9 @@ use Rattle.coverage_check.specs.declared.shown.Shown.{Shown}
 use Rattle.coverage_check.specs.Acceptance.{first_refusal}
 use Rattle.coverage_check.specs.Missions.{MissionParts, mission_of}
 use Rattle.form_base.specs.declared.refusals.Refusal.{Refusal}
-use Rattle.form_base.specs.declared.status.TheConstants.{NOT_ACCEPTED, UNASSUMED_SCRIPT, UNREAD_FILE}
+use Rattle.form_base.specs.declared.status.TheConstants.{UNASSUMED_SCRIPT, UNREAD_FILE}
+use Rattle.form_base.specs.Acceptance.{acceptance_refusal}
 use Rattle.form_base.specs.Answers.{Gives}
-use Rattle.form_base.specs.Lines.{shown_line}
 use Rattle.form_base.specs.Loads.{IsOutOfMemory}
 use Rattle.form_base.specs.Refusals.{answer_of}
 use Rattle.form_base.specs.mission_files.Lines.{outside_line}
@@ -25,7 +25,7 @@ script_refusal (Some outside) = Some (UNASSUMED_SCRIPT, outside_line outside)
 -- `None` if the specification is accepted. The result is `None` if neither the specification nor the script is
 -- refused.
 abbrev pub refusal_by : Parts → ScriptParts → Option Shown → Option (ℕ × List ℕ)
-refusal_by spec script (Some shown) = Some (NOT_ACCEPTED, shown_line spec shown)
+refusal_by spec script (Some shown) = acceptance_refusal spec (Some shown)
 refusal_by spec script None = script_refusal (first_outside spec script)
 
 -- The refusal of a specification and a script for it, or `None` if the two form a mission.

@@ -8,13 +8,13 @@ ghost use Rattle.form_base.specs.mission_files.Answers.{FlightAnswers, ScriptAns
 ghost use Rattle.form_base.specs.mission_files.Documents.{AsksScript};
 ghost use Rattle.form_base.specs.mission_files.Missions.{JoinsMission, MakesMission};
 
-use crate::lines::make_shown_line;
+use crate::acceptance::accept_specification;
 use crate::loads::load;
 use crate::mission_files::documents::ScriptDocument;
 use crate::mission_files::lines::make_outside_line;
 use crate::refusals::{Refusal, Refused};
 use crate::specifications::Specification;
-use coverage_check::{AcceptError, Accepted, Mission, accept};
+use coverage_check::{Accepted, Mission};
 use scram_io::Files;
 use scram_types::{Script, Spec};
 use std::alloc::Global;
@@ -75,16 +75,11 @@ pub fn make_mission(alloc: Global, spec: Spec, script: Script) -> Result<Mission
     requires { Fits spec script }
     ensures { MakesMission spec script result }
 {
-    match accept(alloc, spec) {
+    match accept_specification(alloc, spec) {
         Ok(accepted) => join(accepted, script),
-        Err(AcceptError::NotAccepted(spec, shown)) => {
-            let line = make_shown_line(&spec, &shown);
-            drop((spec, script));
-            Err(Refusal::new(Refused::Acceptance, line))
-        }
-        Err(AcceptError::NoMemory(spec)) => {
-            drop((spec, script));
-            Err(Refusal::out_of_memory())
+        Err(refusal) => {
+            drop(script);
+            Err(refusal)
         }
     }
 }
