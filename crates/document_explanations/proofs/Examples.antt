@@ -9,9 +9,9 @@ use Rattle.document_explanations.specs.Objects.{list, signed, texts, whole}
 use Rattle.document_explanations.specs.Paths.{value_at, wanted_at}
 use Rattle.document_explanations.specs.Rules.{broken_rule}
 use Rattle.document_explanations.specs.Wants.{wanted_text}
-use Rattle.document_explanations.specs.declared.objects.Element.TheVariants as element
-use Rattle.document_explanations.specs.declared.objects.Object.TheVariants as object_kind
-use Rattle.document_explanations.specs.declared.objects.Text.TheVariants as text
+use Rattle.document_explanations.specs.declared.wanted_values.Element.TheVariants as element
+use Rattle.document_explanations.specs.declared.objects.ObjectKind.TheVariants as object_kind
+use Rattle.document_explanations.specs.declared.wanted_values.Text.TheVariants as text
 use Rattle.document_explanations.specs.declared.rules.DocumentKind.{DocumentKind}
 use Rattle.document_explanations.specs.declared.rules.DocumentKind.TheVariants.{Specification, Script}
 

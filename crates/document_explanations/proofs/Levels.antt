@@ -6,7 +6,7 @@ use Rattle.std.proofs.lemmas.List.Splits.{slice_split_at, slice_split_none}
 use Rattle.trace_text.specs.Pieces.{pieces_of}
 use Rattle.trace_text.proofs.Splitting.{some_piece}
 use Rattle.document_explanations.specs.Paths.{after_dot, all_but_last, wanted_below, wanted_along}
-use Rattle.document_explanations.specs.declared.objects.Wanted.{Wanted}
+use Rattle.document_explanations.specs.declared.wanted_values.Wanted.{Wanted}
 
 abbrev pub Lacks : List ℕ → Type 0
 Lacks text = (i : ℕ) → i < length text → get_or text i 0 ≢ 46

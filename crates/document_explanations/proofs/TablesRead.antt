@@ -8,10 +8,10 @@ use Rattle.fault_script.specs.declared.version.Version.TheVariants.{First, Secon
 use Rattle.document_explanations.specs.Laws.{TablesAreRead}
 use Rattle.document_explanations.specs.Objects.{Member, later, objects}
 use Rattle.scram_types.specs.declared.limits.TheConstants.{MAX_DEMANDS, MAX_PROCESSORS}
-use Rattle.document_explanations.specs.declared.objects.Object.TheVariants as object
-use Rattle.document_explanations.specs.declared.objects.Text.TheVariants as text
-use Rattle.document_explanations.specs.declared.objects.Versions.TheVariants as versions
-use Rattle.document_explanations.specs.declared.objects.Wanted.TheVariants as wanted
+use Rattle.document_explanations.specs.declared.objects.ObjectKind.TheVariants as object
+use Rattle.document_explanations.specs.declared.wanted_values.Text.TheVariants as text
+use Rattle.document_explanations.specs.declared.wanted_values.Versions.TheVariants as versions
+use Rattle.document_explanations.specs.declared.wanted_values.Wanted.TheVariants as wanted
 
 -- The members that only some versions of a specification or of a script have.
 abbrev policy_member : Member

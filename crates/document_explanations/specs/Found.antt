@@ -12,11 +12,11 @@ use Rattle.document_explanations.specs.Objects.{Member, member_named, known_memb
 use Rattle.document_explanations.specs.Paths.{value_at, wanted_at}
 use Rattle.document_explanations.specs.Values.{value_text}
 use Rattle.document_explanations.specs.Wants.{listed}
-use Rattle.document_explanations.specs.declared.objects.Object.{Object}
-use Rattle.document_explanations.specs.declared.objects.Versions.{Versions}
-use Rattle.document_explanations.specs.declared.objects.Versions.TheVariants as versions
-use Rattle.document_explanations.specs.declared.objects.Wanted.{Wanted}
-use Rattle.document_explanations.specs.declared.objects.Wanted.TheVariants as wanted
+use Rattle.document_explanations.specs.declared.objects.ObjectKind.{ObjectKind}
+use Rattle.document_explanations.specs.declared.wanted_values.Versions.{Versions}
+use Rattle.document_explanations.specs.declared.wanted_values.Versions.TheVariants as versions
+use Rattle.document_explanations.specs.declared.wanted_values.Wanted.{Wanted}
+use Rattle.document_explanations.specs.declared.wanted_values.Wanted.TheVariants as wanted
 use Rattle.document_explanations.specs.declared.rules.DocumentKind.{DocumentKind}
 
 -- Whether the version of a document is one of `versions`.
@@ -27,18 +27,18 @@ is_version_of d versions.Third = has_demands d
 is_version_of d versions.Second = has_version 2 d
 
 -- Whether the table of `object` has a member with this name for the version of document `d`.
-abbrev pub is_known : Data → Object → List ℕ → Bool
+abbrev pub is_known : Data → ObjectKind → List ℕ → Bool
 is_known d object name = option_map_or (λ (m : Member). is_version_of d m.versions) (member_named (known_members object) name) false
 
 -- The names of those members that the table of `object` does not have for the version of document `d`, in byte order.
-abbrev pub further_names : Data → Object → Members → List (List ℕ)
+abbrev pub further_names : Data → ObjectKind → Members → List (List ℕ)
 further_names d object no_members = []
 further_names d object (member name value members) =
     if is_known d object name then further_names d object members else name ∷ further_names d object members
 
 -- The names of those members that the table of `object` does not have for the version of document `d`, as JSON texts
 -- separated by a comma and a space.
-abbrev pub further_text : Data → Object → Members → List ℕ
+abbrev pub further_text : Data → ObjectKind → Members → List ℕ
 further_text d object members = listed (map quoted (further_names d object members))
 
 -- The names of the members of `value` that the table of the expected object does not have for the version of document

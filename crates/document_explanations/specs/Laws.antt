@@ -7,11 +7,11 @@ use Rattle.spec_reading.specs.Versions.{first_members, has_demands, has_policy, 
 use Rattle.fault_script.specs.Versions.{member_count, version_of}
 use Rattle.document_explanations.specs.Found.{cut, is_version_of}
 use Rattle.document_explanations.specs.Objects.{Member, known_members}
-use Rattle.document_explanations.specs.declared.objects.Object.{Object}
-use Rattle.document_explanations.specs.declared.objects.Object.TheVariants as object
+use Rattle.document_explanations.specs.declared.objects.ObjectKind.{ObjectKind}
+use Rattle.document_explanations.specs.declared.objects.ObjectKind.TheVariants as object
 
 -- The names of the members that the table of an object has for the version of a document.
-abbrev pub names_of : Data → Object → List (List ℕ)
+abbrev pub names_of : Data → ObjectKind → List (List ℕ)
 names_of d object = map (λ (m : Member). m.name) (filter (λ (m : Member). is_version_of d m.versions) (known_members object))
 
 -- The table of a specification has the members that the reader of specifications expects for the version of a

@@ -2,19 +2,19 @@
 -- order in which the members are read.
 use Rattle.std.specs.Prelude.{ℕ, ℤ, neg_ℤ, pos, List, [], ◌∷◌, Option, Some, None, codes, bytes_eq, if◌then◌else◌}
 use Rattle.scram_types.specs.declared.limits.TheConstants.{MAX_ALTITUDE, MAX_APPLICATIONS, MAX_ASSUMED_CHANGES, MAX_ASSUMED_HALTS, MAX_BOUND, MAX_BOUNDS, MAX_CHANGES, MAX_CONFIGURATIONS, MAX_DEMANDS, MAX_FACTORS, MAX_FRAMES, MAX_HEADING, MAX_INTERVAL_END, MAX_INTERVALS, MAX_LOAD, MAX_MODES, MAX_PHASE, MAX_PROCESSORS, MAX_RULES, MAX_VALUES, MAX_WINDOW, MIN_VALUES}
-use Rattle.document_explanations.specs.declared.objects.Element.{Element}
-use Rattle.document_explanations.specs.declared.objects.Element.TheVariants as element
-use Rattle.document_explanations.specs.declared.objects.Length.TheVariants as extent
+use Rattle.document_explanations.specs.declared.wanted_values.Element.{Element}
+use Rattle.document_explanations.specs.declared.wanted_values.Element.TheVariants as element
+use Rattle.document_explanations.specs.declared.wanted_values.Length.TheVariants as extent
 use Rattle.document_explanations.specs.declared.objects.Member.{Member as TableMember}
-use Rattle.document_explanations.specs.declared.objects.Number.TheVariants as number
-use Rattle.document_explanations.specs.declared.objects.Object.{Object}
-use Rattle.document_explanations.specs.declared.objects.Object.TheVariants as object
-use Rattle.document_explanations.specs.declared.objects.Text.{Text}
-use Rattle.document_explanations.specs.declared.objects.Text.TheVariants as text
-use Rattle.document_explanations.specs.declared.objects.Versions.{Versions}
-use Rattle.document_explanations.specs.declared.objects.Versions.TheVariants as versions
-use Rattle.document_explanations.specs.declared.objects.Wanted.{Wanted}
-use Rattle.document_explanations.specs.declared.objects.Wanted.TheVariants as wanted
+use Rattle.document_explanations.specs.declared.wanted_values.Number.TheVariants as number
+use Rattle.document_explanations.specs.declared.objects.ObjectKind.{ObjectKind}
+use Rattle.document_explanations.specs.declared.objects.ObjectKind.TheVariants as object
+use Rattle.document_explanations.specs.declared.wanted_values.Text.{Text}
+use Rattle.document_explanations.specs.declared.wanted_values.Text.TheVariants as text
+use Rattle.document_explanations.specs.declared.wanted_values.Versions.{Versions}
+use Rattle.document_explanations.specs.declared.wanted_values.Versions.TheVariants as versions
+use Rattle.document_explanations.specs.declared.wanted_values.Wanted.{Wanted}
+use Rattle.document_explanations.specs.declared.wanted_values.Wanted.TheVariants as wanted
 
 -- A member of an object, with its name, the versions of the document that have it, and its expected value.
 pub record Member : Type 0 where
@@ -39,7 +39,7 @@ abbrev pub list : ℕ → ℕ → Element → Wanted
 list least most element = wanted.List (extent.Within least most) element
 
 -- An expected list of `least` to `most` objects.
-abbrev pub objects : ℕ → ℕ → Object → Wanted
+abbrev pub objects : ℕ → ℕ → ObjectKind → Wanted
 objects least most object = list least most (element.Object object)
 
 -- An expected list of up to `most` texts.
@@ -68,7 +68,7 @@ interval_members =
     []
 
 -- The members that an object may have, in the order in which they are read.
-abbrev pub known_members : Object → List Member
+abbrev pub known_members : ObjectKind → List Member
 known_members object.Specification =
     has (codes "scram") (wanted.Number number.SpecificationVersion) ∷
     has (codes "processors") (objects 1 MAX_PROCESSORS object.Processor) ∷

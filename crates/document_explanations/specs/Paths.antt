@@ -9,10 +9,10 @@ use Rattle.trace_text.specs.Pieces.{pieces_of}
 use Rattle.trace_text.specs.Spelling.{spelled_number}
 use Rattle.document_explanations.specs.Objects.{Member, member_named, known_members}
 use Rattle.document_explanations.specs.Rules.{root_of}
-use Rattle.document_explanations.specs.declared.objects.Element.{Element}
-use Rattle.document_explanations.specs.declared.objects.Element.TheVariants as element
-use Rattle.document_explanations.specs.declared.objects.Wanted.{Wanted}
-use Rattle.document_explanations.specs.declared.objects.Wanted.TheVariants as wanted
+use Rattle.document_explanations.specs.declared.wanted_values.Element.{Element}
+use Rattle.document_explanations.specs.declared.wanted_values.Element.TheVariants as element
+use Rattle.document_explanations.specs.declared.wanted_values.Wanted.{Wanted}
+use Rattle.document_explanations.specs.declared.wanted_values.Wanted.TheVariants as wanted
 use Rattle.document_explanations.specs.declared.paths.TheConstants.{INDEX_END}
 use Rattle.document_explanations.specs.declared.rules.DocumentKind.{DocumentKind}
 

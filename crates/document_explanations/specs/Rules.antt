@@ -5,8 +5,8 @@ use Rattle.scram_types.specs.declared.limits.TheConstants.{MAX_SCRIPT_BYTES, MAX
 use Rattle.scram_doc.specs.declared.rule.TheConstants as rule
 use Rattle.spec_reading.specs.declared.rule.TheConstants as specification_rule
 use Rattle.fault_script.specs.declared.rule.TheConstants as script_rule
-use Rattle.document_explanations.specs.declared.objects.Object.{Object}
-use Rattle.document_explanations.specs.declared.objects.Object.TheVariants as object
+use Rattle.document_explanations.specs.declared.objects.ObjectKind.{ObjectKind}
+use Rattle.document_explanations.specs.declared.objects.ObjectKind.TheVariants as object
 use Rattle.document_explanations.specs.declared.rules.DocumentKind.{DocumentKind}
 use Rattle.document_explanations.specs.declared.rules.DocumentKind.TheVariants.{Specification, Script}
 use Rattle.document_explanations.specs.declared.rules.DocumentRule.{DocumentRule as TableRule}
@@ -14,7 +14,7 @@ use Rattle.document_explanations.specs.declared.rules.Shows.{Shows}
 use Rattle.document_explanations.specs.declared.rules.Shows.TheVariants.{Both, Found, Nothing, Wanted}
 
 -- The object that is the whole document.
-abbrev pub root_of : DocumentKind → Object
+abbrev pub root_of : DocumentKind → ObjectKind
 root_of Specification = object.Specification
 root_of Script = object.Script
 

@@ -10,16 +10,16 @@ use Rattle.fault_script.specs.Times.{words}
 use Rattle.fault_script.specs.Versions.{halts_limit}
 use Rattle.fault_script.specs.declared.version.Version.TheVariants.{First, Second}
 use Rattle.document_explanations.specs.Objects.{Member, known_members}
-use Rattle.document_explanations.specs.declared.objects.Length.{Length}
-use Rattle.document_explanations.specs.declared.objects.Length.TheVariants as extent
-use Rattle.document_explanations.specs.declared.objects.Number.{Number}
-use Rattle.document_explanations.specs.declared.objects.Number.TheVariants as number
-use Rattle.document_explanations.specs.declared.objects.Text.{Text}
-use Rattle.document_explanations.specs.declared.objects.Text.TheVariants as text
-use Rattle.document_explanations.specs.declared.objects.Versions.{Versions}
-use Rattle.document_explanations.specs.declared.objects.Versions.TheVariants as versions
-use Rattle.document_explanations.specs.declared.objects.Wanted.{Wanted}
-use Rattle.document_explanations.specs.declared.objects.Wanted.TheVariants as wanted
+use Rattle.document_explanations.specs.declared.wanted_values.Length.{Length}
+use Rattle.document_explanations.specs.declared.wanted_values.Length.TheVariants as extent
+use Rattle.document_explanations.specs.declared.wanted_values.Number.{Number}
+use Rattle.document_explanations.specs.declared.wanted_values.Number.TheVariants as number
+use Rattle.document_explanations.specs.declared.wanted_values.Text.{Text}
+use Rattle.document_explanations.specs.declared.wanted_values.Text.TheVariants as text
+use Rattle.document_explanations.specs.declared.wanted_values.Versions.{Versions}
+use Rattle.document_explanations.specs.declared.wanted_values.Versions.TheVariants as versions
+use Rattle.document_explanations.specs.declared.wanted_values.Wanted.{Wanted}
+use Rattle.document_explanations.specs.declared.wanted_values.Wanted.TheVariants as wanted
 use Rattle.spec_reading.specs.Names.{name_of_proc}
 
 -- The texts, each preceded by a comma and a space.

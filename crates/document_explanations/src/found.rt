@@ -7,10 +7,11 @@ ghost use Rattle.spec_reading.specs.Versions.{has_version};
 ghost use Rattle.document_explanations.specs.Found.{cut, elements_text, found_text_at, further_members, further_text, is_known, is_version_of};
 
 use crate::lines::Lines;
-use crate::objects::{Object, Versions, Wanted, find_member};
+use crate::objects::{ObjectKind, find_member};
 use crate::paths::{value_at, wanted_at};
 use crate::rules::DocumentKind;
 use crate::values::value_text;
+use crate::wanted_values::{Versions, Wanted};
 use scram_doc::{Path, count_items, field, rule};
 use scram_types::NoMemory;
 use serde_json::{Map, Value};
@@ -38,7 +39,7 @@ fn is_version_of(document: &Value, versions: Versions) -> bool
 }
 
 // Returns `true` if the table of `object` has a member with this name for the version of the document.
-fn is_known(document: &Value, object: Object, name: &str) -> bool
+fn is_known(document: &Value, object: ObjectKind, name: &str) -> bool
     ensures { result ≡ is_known (view document.now) object name.now }
 {
     match find_member(object, name) {
@@ -70,7 +71,7 @@ fn add_name(alloc: Global, lines: &mut Lines, is_later: bool, name: &String) -> 
 fn further_text(
     alloc: Global,
     document: &Value,
-    object: Object,
+    object: ObjectKind,
     members: &Map<String, Value>,
 ) -> Result<String, NoMemory>
     ensures { IfOk result (λ text. string_bytes text ≡ further_text (view document.now) object (members_view members.now.entries)) }

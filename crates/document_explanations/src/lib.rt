@@ -15,4 +15,5 @@ pub mod rules;
 pub mod scripts;
 pub mod specifications;
 pub mod values;
+pub mod wanted_values;
 pub mod wants;

@@ -5,7 +5,8 @@ ghost use Rattle.kind_table.specs.Kinds.{kind_read, kinds, variable_read};
 ghost use Rattle.document_explanations.specs.Wants.{further_listed, listed, name_spaced, names_spaced, spaced, variables_spaced, versions_text};
 
 use crate::lines::Lines;
-use crate::objects::{Member, Versions};
+use crate::objects::Member;
+use crate::wanted_values::Versions;
 use kind_table::table::{
     AUTOPILOT, DATA_LINK, FLIGHT_CONTROL, Kind, NAVIGATOR, POWER_MONITOR, TASK, Variable,
 };

@@ -3,6 +3,7 @@
 ghost use Rattle.std.specs.Prelude.{◌≡◌, map, option_map};
 ghost use Rattle.document_explanations.specs.Objects.{member_named, member_read, known_members};
 
+use crate::wanted_values::{Element, Length, Number, Text, Versions, Wanted};
 use scram_types::limits::{
     MAX_ALTITUDE, MAX_APPLICATIONS, MAX_ASSUMED_CHANGES, MAX_ASSUMED_HALTS, MAX_BOUND, MAX_BOUNDS,
     MAX_CHANGES, MAX_CONFIGURATIONS, MAX_DEMANDS, MAX_FACTORS, MAX_FRAMES, MAX_HEADING,
@@ -12,7 +13,7 @@ use scram_types::limits::{
 
 /// An object of a document.
 #[derive(Clone, Copy)]
-pub enum Object {
+pub enum ObjectKind {
     /// The whole specification.
     Specification,
     Processor,
@@ -40,91 +41,6 @@ pub enum Object {
     Change,
     Halt,
     Restart,
-}
-
-/// The versions of a document in which an object has a member.
-#[derive(Clone, Copy)]
-pub enum Versions {
-    /// Every version.
-    All,
-    /// Versions 2 and 3 of the specification.
-    SecondOn,
-    /// Version 3 of the specification.
-    Third,
-    /// Version 2 of the script.
-    Second,
-}
-
-/// The expected number of elements of a list.
-#[derive(Clone, Copy)]
-pub enum Length {
-    Within { least: usize, most: usize },
-    /// From 0 to the maximum number of halts, which depends on the version of the script.
-    Halts,
-}
-
-/// An expected number.
-#[derive(Clone, Copy)]
-pub enum Number {
-    /// The version of a specification.
-    SpecificationVersion,
-    /// The version of a script.
-    ScriptVersion,
-    /// A number from `least` to `greatest`.
-    Whole { least: u32, greatest: u32 },
-    /// A number from `least` to `greatest`, which may be negative.
-    Signed { least: i64, greatest: i64 },
-    /// The number of a frame of a script, from `least` to the number of the script's last frame.
-    Frame { least: u32 },
-    /// The step of a frame at which a processor halts.
-    Step,
-}
-
-/// An expected text.
-#[derive(Clone, Copy)]
-pub enum Text {
-    /// A name that the document defines.
-    Name,
-    /// The name of a processor of the same document.
-    Processor,
-    /// The name of an application of the same document.
-    Application,
-    /// The name of a configuration of the same document.
-    Configuration,
-    /// The name of a configuration of the same document, or `*`.
-    ConfigurationOrAny,
-    /// The name of a factor of the same document.
-    Factor,
-    /// The name of a factor's value in the same document.
-    Value,
-    /// The name of a kind of application.
-    Kind,
-    /// The name of a mode of an application.
-    Mode,
-    /// The name of a variable of an application.
-    Variable,
-    /// The name of a policy.
-    Policy,
-    /// The name of a factor, or of a factor's value, in the specification that a script is for.
-    ScriptFactor,
-    /// The name of a processor in the specification that a script is for.
-    ScriptProcessor,
-}
-
-/// The expected value of each element of a list, which is an object or a text.
-#[derive(Clone, Copy)]
-pub enum Element {
-    Object(Object),
-    Text(Text),
-}
-
-/// The expected value at a path of a document.
-#[derive(Clone, Copy)]
-pub enum Wanted {
-    Object(Object),
-    List { length: Length, element: Element },
-    Number(Number),
-    Text(Text),
 }
 
 /// A member of an object, with its name, the versions of the document that have it, and its expected value.
@@ -186,7 +102,7 @@ macro_rules! text {
 
 macro_rules! object {
     ($object:ident) => {
-        Element::Object(Object::$object)
+        Element::Object(ObjectKind::$object)
     };
 }
 
@@ -220,13 +136,13 @@ const SPECIFICATION: &[Member] = &[
     member!("rules", list!(0, MAX_RULES, object!(Rule))),
     member!("bounds", list!(0, MAX_BOUNDS, object!(Bound))),
     member!("start", text!(Configuration)),
-    member!("goal", Wanted::Object(Object::Goal)),
+    member!("goal", Wanted::Object(ObjectKind::Goal)),
     member!("invariants", list!(0, MAX_INTERVALS, object!(Invariant))),
     member!(
         "preconditions",
         list!(0, MAX_INTERVALS, object!(Precondition))
     ),
-    member!("assumption", Wanted::Object(Object::Assumption)),
+    member!("assumption", Wanted::Object(ObjectKind::Assumption)),
     member!("policy", Versions::SecondOn, text!(Policy)),
     member!(
         "demands",
@@ -371,35 +287,35 @@ const RESTART: &[Member] = &[
 ];
 
 /// Returns the members that an object may have, in the order in which they are read.
-pub fn known_members(object: Object) -> &'static [Member]
+pub fn known_members(object: ObjectKind) -> &'static [Member]
     ensures { map member_read result.now ≡ known_members object }
 {
     match object {
-        Object::Specification => SPECIFICATION,
-        Object::Processor => PROCESSOR,
-        Object::Application => APPLICATION,
-        Object::Mode => MODE,
-        Object::Configuration => CONFIGURATION,
-        Object::Place => PLACE,
-        Object::Factor => FACTOR,
-        Object::Rule => RULE,
-        Object::RequiredValue => REQUIRED_VALUE,
-        Object::Bound => BOUND,
-        Object::Goal => GOAL,
-        Object::Invariant => INVARIANT,
-        Object::Precondition => PRECONDITION,
-        Object::Assumption => ASSUMPTION,
-        Object::Demand => DEMAND,
-        Object::RequiredApplication => REQUIRED_APPLICATION,
-        Object::Script => SCRIPT,
-        Object::Change => CHANGE,
-        Object::Halt => HALT,
-        Object::Restart => RESTART,
+        ObjectKind::Specification => SPECIFICATION,
+        ObjectKind::Processor => PROCESSOR,
+        ObjectKind::Application => APPLICATION,
+        ObjectKind::Mode => MODE,
+        ObjectKind::Configuration => CONFIGURATION,
+        ObjectKind::Place => PLACE,
+        ObjectKind::Factor => FACTOR,
+        ObjectKind::Rule => RULE,
+        ObjectKind::RequiredValue => REQUIRED_VALUE,
+        ObjectKind::Bound => BOUND,
+        ObjectKind::Goal => GOAL,
+        ObjectKind::Invariant => INVARIANT,
+        ObjectKind::Precondition => PRECONDITION,
+        ObjectKind::Assumption => ASSUMPTION,
+        ObjectKind::Demand => DEMAND,
+        ObjectKind::RequiredApplication => REQUIRED_APPLICATION,
+        ObjectKind::Script => SCRIPT,
+        ObjectKind::Change => CHANGE,
+        ObjectKind::Halt => HALT,
+        ObjectKind::Restart => RESTART,
     }
 }
 
 /// Returns the member of `object` with the name `name`, or `None` if there is none.
-pub fn find_member(object: Object, name: &str) -> Option<Member>
+pub fn find_member(object: ObjectKind, name: &str) -> Option<Member>
     ensures { option_map member_read result ≡ member_named (known_members object) name.now }
 {
     for member in known_members(object) {

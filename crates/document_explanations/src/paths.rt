@@ -5,8 +5,9 @@ ghost use Rattle.serde_json.specs.View.{view};
 ghost use Rattle.trace_text.specs.Pieces.{pieces_of};
 ghost use Rattle.document_explanations.specs.Paths.{after_dot, all_but_last, child, wanted_below, value_along, value_at, wanted_along, wanted_at, wanted_element};
 
-use crate::objects::{Element, Wanted, find_member};
+use crate::objects::find_member;
 use crate::rules::DocumentKind;
+use crate::wanted_values::{Element, Wanted};
 use scram_doc::{Path, rule};
 use serde_json::Value;
 use trace_text::numbers::read_number;

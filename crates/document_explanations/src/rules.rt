@@ -4,7 +4,7 @@ ghost use Rattle.std.specs.Prelude.{◌≡◌, ◌++◌, OnOk, map, option_map};
 ghost use Rattle.document_explanations.specs.Rules.{broken_rule, common_rules, limit_text, own_rules, root_of, rule_in, plain_rule, rule_words, shows_found, shows_wanted};
 
 use crate::lines::Lines;
-use crate::objects::Object;
+use crate::objects::ObjectKind;
 use fault_script::rule as script_rule;
 use scram_doc::rule;
 use scram_types::NoMemory;
@@ -20,12 +20,12 @@ pub enum DocumentKind {
 
 impl DocumentKind {
     /// Returns the object that is the whole document.
-    pub fn root(self) -> Object
+    pub fn root(self) -> ObjectKind
         ensures { result ≡ root_of self }
     {
         match self {
-            DocumentKind::Specification => Object::Specification,
-            DocumentKind::Script => Object::Script,
+            DocumentKind::Specification => ObjectKind::Specification,
+            DocumentKind::Script => ObjectKind::Script,
         }
     }
 }

@@ -8,7 +8,8 @@ use crate::lines::Lines;
 use crate::listed::{
     FactorText, KindText, MemberText, ModesText, ProcText, VariablesText, add_listed, kinds,
 };
-use crate::objects::{Length, Member, Number, Text, Wanted, known_members};
+use crate::objects::{Member, known_members};
+use crate::wanted_values::{Length, Number, Text, Wanted};
 use kind_table::table::Kind;
 use scram_types::limits::MAX_PROCESSORS;
 use scram_types::{Factor, NoMemory, Proc, Spec};
