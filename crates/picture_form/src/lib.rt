@@ -7,6 +7,7 @@ mod curves;
 mod lanes;
 pub mod laws;
 mod pictures;
+mod quantities;
 mod reconfigurations;
 mod sheets;
 mod spans;

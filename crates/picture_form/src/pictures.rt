@@ -5,20 +5,18 @@ ghost use Rattle.scram_io.specs.Outside.{Prints};
 ghost use Rattle.form_base.specs.Endings.{Ends, IsTaken};
 ghost use Rattle.form_base.specs.Texts.{texts_below};
 ghost use Rattle.form_base.specs.trace_files.Looks.{ViewAnswers};
-ghost use Rattle.picture_form.specs.Curves.{curve_text, curve_line_text, point_text, points_text};
-ghost use Rattle.picture_form.specs.Picture.{altitude_text, body_text, curves_text, foot_text, front_text, grid_text, head_text, heading_text, lanes_and_foot, legend_line, legend_text, names_text, open_line, picture_text, quantity_name, quantity_text, quantity_unit, sheet_text, stable_spans, tick_line, tick_text, ticks_text, top_text};
+ghost use Rattle.picture_form.specs.Picture.{body_text, curves_text, foot_text, front_text, grid_text, head_text, lanes_and_foot, legend_line, legend_text, open_line, picture_text, sheet_text, stable_spans, tick_line, tick_text, ticks_text, top_text};
 ghost use Rattle.picture_form.specs.Reconfigurations.{begin_text, reconfiguration_boxes};
 ghost use Rattle.picture_form.specs.Sheets.{IsWithinLimits};
 ghost use Rattle.picture_form.specs.Styles.{part_text};
 
 use crate::boxes::add_number;
-use crate::curves::{Curve, make_curve_begin, make_curve_end, make_curve_names, make_point};
 use crate::lanes::{put_lanes, put_spans};
+use crate::quantities::put_curves;
 use crate::reconfigurations::{make_begin, make_reconfiguration};
 use crate::sheets::{Sheet, sheet_of};
 use crate::spans::Strip;
 use crate::styles::{Part, part_text};
-use flight_facts::extremes::{Quantity, extremes_of};
 use flight_facts::spans::Lane;
 use form_base::printing::{print_refusal, status_after};
 use form_base::status::{ANSWERED, Status};
@@ -288,144 +286,10 @@ fn put_foot<K: Sink>(out: &mut K, sheet: Sheet, rows: &[Row]) -> Result<(), Sink
     }
 }
 
-fn put_curves<K: Sink>(out: &mut K, sheet: Sheet, rows: &[Row]) -> Result<(), SinkFault>
-    requires { IsWithinLimits sheet }
-    ensures { Prints result (K.state out.old) (K.state out.new) (curves_text sheet rows.now) }
-{
-    match put_altitude(out, sheet, rows) {
-        Ok(()) => put_heading(out, sheet, rows),
-        Err(fault) => Err(fault),
-    }
-}
-
-fn put_altitude<K: Sink>(out: &mut K, sheet: Sheet, rows: &[Row]) -> Result<(), SinkFault>
-    requires { IsWithinLimits sheet }
-    ensures { Prints result (K.state out.old) (K.state out.new) (altitude_text sheet rows.now) }
-{
-    put_quantity(out, sheet, rows, Quantity::Altitude, sheet.curves_y())
-}
-
-fn put_heading<K: Sink>(out: &mut K, sheet: Sheet, rows: &[Row]) -> Result<(), SinkFault>
-    requires { IsWithinLimits sheet }
-    ensures { Prints result (K.state out.old) (K.state out.new) (heading_text sheet rows.now) }
-{
-    put_quantity(out, sheet, rows, Quantity::Heading, sheet.curves_y() + 64)
-}
-
-fn put_quantity<K: Sink>(
-    out: &mut K,
-    sheet: Sheet,
-    rows: &[Row],
-    quantity: Quantity,
-    y: u64,
-) -> Result<(), SinkFault>
-    requires { y ≤ 6100 }
-    ensures { Prints result (K.state out.old) (K.state out.new) (quantity_text sheet rows.now quantity y) }
-{
-    match out.put(make_names(quantity, y).as_bytes()) {
-        Ok(()) => put_curve(out, sheet, rows, quantity, y),
-        Err(fault) => Err(fault),
-    }
-}
-
-fn make_names(quantity: Quantity, y: u64) -> Line
-    requires { y ≤ 6100 }
-    ensures { result ≡ names_text quantity y }
-{
-    make_curve_names(y, name_of_quantity(quantity), unit_of_quantity(quantity))
-}
-
-fn name_of_quantity(quantity: Quantity) -> &'static str
-    ensures name { result.now ≡ quantity_name quantity }
-    ensures short { length result.now ≤ 16 }
-{
-    match quantity {
-        Quantity::Altitude => "altitude",
-        Quantity::Climb => "climb",
-        Quantity::Heading => "heading",
-        Quantity::Bank => "bank",
-    }
-}
-
-fn unit_of_quantity(quantity: Quantity) -> &'static str
-    ensures unit { result.now ≡ quantity_unit quantity }
-    ensures short { length result.now ≤ 16 }
-{
-    match quantity {
-        Quantity::Altitude => "ft",
-        Quantity::Climb => "0.1 ft",
-        Quantity::Heading => "0.1 deg",
-        Quantity::Bank => "0.1 deg",
-    }
-}
-
 fn put_part<K: Sink>(out: &mut K, part: Part) -> Result<(), SinkFault>
     ensures { Prints result (K.state out.old) (K.state out.new) (part_text part) }
 {
     out.put(part_text(part).as_bytes())
-}
-
-fn put_curve<K: Sink>(
-    out: &mut K,
-    sheet: Sheet,
-    rows: &[Row],
-    quantity: Quantity,
-    y: u64,
-) -> Result<(), SinkFault>
-    requires { y ≤ 6100 }
-    ensures { Prints result (K.state out.old) (K.state out.new) (curve_text sheet rows.now quantity y) }
-{
-    match extremes_of(quantity, rows) {
-        Some(extremes) => put_line(
-            out,
-            sheet,
-            rows,
-            Curve {
-                quantity,
-                y,
-                extremes,
-            },
-        ),
-        None => Ok(()),
-    }
-}
-
-fn put_line<K: Sink>(out: &mut K, sheet: Sheet, rows: &[Row], curve: Curve) -> Result<(), SinkFault>
-    requires { curve.y ≤ 6100 }
-    ensures { Prints result (K.state out.old) (K.state out.new) (curve_line_text sheet rows.now curve) }
-{
-    match out.put(make_curve_begin(sheet, curve.y).as_bytes()) {
-        Ok(()) => put_points(out, sheet, rows, curve),
-        Err(fault) => Err(fault),
-    }
-}
-
-// Writes the points of a curve, followed by the end of its path.
-fn put_points<K: Sink>(
-    out: &mut K,
-    sheet: Sheet,
-    rows: &[Row],
-    curve: Curve,
-) -> Result<(), SinkFault>
-    requires { curve.y ≤ 6100 }
-    ensures { Prints result (K.state out.old) (K.state out.new) (points_text sheet rows.now curve) }
-{
-    match put_all_points(out, rows, curve) {
-        Ok(()) => out.put(make_curve_end(sheet, curve.y, &curve.extremes).as_bytes()),
-        Err(fault) => Err(fault),
-    }
-}
-
-fn put_all_points<K: Sink>(out: &mut K, rows: &[Row], curve: Curve) -> Result<(), SinkFault>
-    ensures { Prints result (K.state out.old) (K.state out.new) (texts_below (point_text rows.now curve) (length rows.now)) }
-{
-    for k in 0..rows.len() {
-        match out.put(make_point(rows, curve, k).as_bytes()) {
-            Ok(()) => {}
-            Err(fault) => return Err(fault),
-        }
-    }
-    Ok(())
 }
 
 // Writes the legend, followed by the end of the document.

@@ -1,6 +1,6 @@
 use Rattle.scram_io.proofs.Puts.{cut_more, prints_more}
 use Rattle.picture_form.specs.Curves.{curve_begin, points_text}
-use Rattle.picture_form.proofs.pictures.put_line.Goals as goal
+use Rattle.picture_form.proofs.quantities.put_line.Goals as goal
 
 pub returns-in-Ok : goal.returns-in-Ok
 returns-in-Ok g c =

@@ -1,7 +1,7 @@
 use Rattle.scram_io.proofs.Puts.{cut_more, prints_more}
 use Rattle.picture_form.specs.Picture.{names_text}
 use Rattle.picture_form.specs.Curves.{curve_text}
-use Rattle.picture_form.proofs.pictures.put_quantity.Goals as goal
+use Rattle.picture_form.proofs.quantities.put_quantity.Goals as goal
 
 pub returns-in-Ok : goal.returns-in-Ok
 returns-in-Ok g c =

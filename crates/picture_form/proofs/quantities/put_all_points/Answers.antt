@@ -1,7 +1,7 @@
 use Rattle.std.proofs.Common.{arith, length}
 use Rattle.form_base.proofs.TextsBelow.{cut_below, printed_next}
 use Rattle.picture_form.specs.Curves.{point_text}
-use Rattle.picture_form.proofs.pictures.put_all_points.Goals as goal
+use Rattle.picture_form.proofs.quantities.put_all_points.Goals as goal
 
 pub returns-in-Err : goal.returns-in-Err
 returns-in-Err g c =

@@ -2,7 +2,7 @@ use Rattle.std.proofs.Common.{length}
 use Rattle.scram_io.proofs.Puts.{cut_more, prints_more}
 use Rattle.form_base.specs.Texts.{texts_below}
 use Rattle.picture_form.specs.Curves.{curve_end, point_text}
-use Rattle.picture_form.proofs.pictures.put_points.Goals as goal
+use Rattle.picture_form.proofs.quantities.put_points.Goals as goal
 
 pub returns-in-Ok : goal.returns-in-Ok
 returns-in-Ok g c =
