@@ -1,5 +1,6 @@
 pub mod AppsBack
 pub mod ConfsBack
+mod DemandSizes
 pub mod DemandsBack
 pub mod Lookups
 pub mod Plain

@@ -1,5 +1,5 @@
 -- Lemmas that bound the length of the canonical text of a specification.
-use Rattle.std.proofs.Common.{◌≡◌, ◌+◌, ◌*◌, ◌≤◌, ◌<◌, ℕ, zero, suc, Bool, true, false, List, [], ◌∷◌, length, arith, refl}
+use Rattle.std.proofs.Common.{◌≡◌, ◌+◌, ◌*◌, ◌≤◌, ◌<◌, ℕ, zero, suc, Bool, true, false, cond, List, [], ◌∷◌, length, arith, refl}
 use Rattle.std.specs.Prelude.{Option, Some, None, ℤ, pos, negsuc, ◌≤ℤ◌, ◌&&◌, nat_le, slice_get}
 use Rattle.std.specs.Char.{is_ascii_lowercase}
 use Rattle.std.specs.List.{list_all}
@@ -7,14 +7,18 @@ use Rattle.std.specs.Option.{option_map_or}
 use Rattle.std.proofs.lemmas.Bool.{leb-true}
 use Rattle.std.proofs.lemmas.Int.{ints}
 use Rattle.std.proofs.lemmas.Fmt.{length-decimal-le, length_signed_le}
+use Rattle.std.proofs.Math.Nat.{suc-mul}
+use Rattle.serde_json.specs.Data.{Data, Items, Members, null, boolean, number, string, array, object, no_items, item, no_members, member}
+use Rattle.serde_json.specs.View.{items_of}
+use Rattle.scram_types.specs.Bits.{has_bit}
 use Rattle.scram_types.specs.declared.specification.AppSpec.{AppSpec}
 use Rattle.scram_types.specs.Names.{is_name, is_name_byte}
 use Rattle.scram_types.specs.Numbers.{minus}
 use Rattle.scram_types.specs.Specification.{Each}
 use Rattle.kind_table.specs.Names.{kind_names, mode_names, name_in, variable_names}
-use Rattle.reconf_spec.specs.Texts.{name_of_app_mode, name_of_kind, name_of_mode, name_of_item, name_or_nothing, name_of_kind_variable, name_of_variable}
+use Rattle.reconf_spec.specs.Texts.{name_of_app_mode, name_of_kind, name_of_mode, name_of_item, name_or_nothing, names_data, name_of_kind_variable, name_of_variable}
 use Rattle.scram_doc.specs.Canonical.{count_data, integer_data}
-use Rattle.scram_doc.proofs.TextLengths.{weight}
+use Rattle.scram_doc.proofs.TextLengths.{escaped_length, exact, items_weight, members_weight, weight}
 use Rattle.kind_table.proofs.ShortNames.{AreShort, mode_names_short, variable_names_short}
 
 -- The maximum length of a text in JSON: six bytes for each byte, between two quotes.
@@ -71,3 +75,40 @@ integer_short (pos n) low high =
 integer_short (negsuc n) low high =
     let few : n < 1000000000 = omega (arith, ints, low) in
     length_signed_le 10 (negsuc n) (omega (arith, few)) (omega (arith, few))
+
+-- Lemmas on the names in a set. Each name takes at most `long` bytes.
+names_short_by : (measure : List ℕ → ℕ) (long : ℕ) (b : Bool) (name : List ℕ) (rest : List Data) (most : ℕ) → measure name ≤ long → items_weight measure (items_of rest) ≤ most
+    → items_weight measure (items_of (cond b (string name ∷ rest) rest)) ≤ most + (long + 1)
+names_short_by measure long true name rest most short few = omega (arith, short, few)
+names_short_by measure long false name rest most short few = omega (arith, few)
+
+pub names_short : {A : Type 0} (measure : List ℕ → ℕ) (long : ℕ) (name : A → List ℕ) (set n : ℕ) (xs : List A) → Each (λ (x : A). measure (name x) ≤ long) xs
+    → items_weight measure (items_of (names_data name set n xs)) ≤ length xs * (long + 1) + 1
+names_short measure long name set n [] each = omega arith
+names_short measure long name set n (x ∷ xs) each =
+    let rest = names_short measure long name set (suc n) xs (λ i y e. each (suc i) y e) in
+    let here = names_short_by measure long (has_bit set n) (name x) (names_data name set (suc n) xs) (length xs * (long + 1) + 1) (each zero x refl) rest in
+    let sum : suc (length xs) * (long + 1) ≡ length xs * (long + 1) + (long + 1) = suc-mul (length xs) (long + 1) in
+    omega (arith, here, sum)
+
+-- The weight of a value by the exact lengths of its texts is at most its weight by `widest`.
+mutual
+  pub lighter : (d : Data) → weight exact d ≤ weight widest d
+  lighter null = omega arith
+  lighter (boolean b) = omega arith
+  lighter (number n) = omega arith
+  lighter (string s) = escaped_length s
+  lighter (array ds) = let rest = items_lighter ds in omega (arith, rest)
+  lighter (object ms) = let rest = members_lighter ms in omega (arith, rest)
+
+  pub items_lighter : (ds : Items) → items_weight exact ds ≤ items_weight widest ds
+  items_lighter no_items = omega arith
+  items_lighter (item d ds) = let here = lighter d in let rest = items_lighter ds in omega (arith, here, rest)
+
+  members_lighter : (ms : Members) → members_weight exact ms ≤ members_weight widest ms
+  members_lighter no_members = omega arith
+  members_lighter (member k d ms) =
+      let name = escaped_length k in
+      let here = lighter d in
+      let rest = members_lighter ms in
+      omega (arith, name, here, rest)

@@ -1,15 +1,12 @@
 -- The canonical text of a specification has at most 1,048,576 bytes.
-use Rattle.std.proofs.Common.{◌≡◌, ◌+◌, ◌*◌, ◌≤◌, ℕ, zero, suc, Bool, true, false, cond, List, [], ◌∷◌, length, map, arith, refl}
+use Rattle.std.proofs.Common.{◌≡◌, ◌+◌, ◌*◌, ◌≤◌, ℕ, suc, true, List, [], ◌∷◌, length, map, arith, refl}
 use Rattle.std.specs.Prelude.{Option, Some, None, codes, slice_get}
-use Rattle.std.specs.Option.{option_map_or}
-use Rattle.std.proofs.Math.Nat.{suc-mul}
 use Rattle.std.proofs.lemmas.Int.{ints}
-use Rattle.serde_json.specs.Data.{Data, Items, Members, null, boolean, number, string, array, object, no_items, item, no_members, member}
+use Rattle.serde_json.specs.Data.{string}
 use Rattle.serde_json.specs.View.{items_of}
 use Rattle.scram_types.specs.declared.limits.TheConstants.{MAX_SPECIFICATION_BYTES}
 use Rattle.scram_types.specs.declared.ids.AppId.{AppId}
 use Rattle.scram_types.specs.declared.ids.ConfId.{ConfId}
-use Rattle.scram_types.specs.declared.ids.Mode.{Mode}
 use Rattle.scram_types.specs.declared.rows.Goal.{Goal}
 use Rattle.scram_types.specs.declared.specification.AppSpec.{AppSpec}
 use Rattle.scram_types.specs.declared.specification.Bound.{Bound}
@@ -26,13 +23,13 @@ use Rattle.scram_types.specs.declared.specification.Precondition.{Precondition}
 use Rattle.scram_types.specs.declared.specification.Proc.{Proc}
 use Rattle.scram_types.specs.declared.specification.Want.{Want}
 use Rattle.scram_types.specs.Names.{is_name}
-use Rattle.scram_types.specs.Specification.{Each, HasNames, HasValueNames, IsAppSpec, IsChoice, IsConf, IsDemand, IsFactor, IsGoal, IsInterval, IsModeSpec, IsProc, IsSpec, Parts}
+use Rattle.scram_types.specs.Specification.{HasNames, HasValueNames, IsAppSpec, IsChoice, IsConf, IsFactor, IsGoal, IsInterval, IsModeSpec, IsProc, IsSpec, Parts}
 use Rattle.spec_reading.specs.Names.{name_of_app, name_of_conf, name_of_factor, name_of_proc}
-use Rattle.scram_types.specs.Bits.{has_bit}
 use Rattle.spec_reading.specs.Numbering.{itself}
-use Rattle.reconf_spec.specs.Texts.{app_data, assumption_data, bound_data, choice_data, conf_data, data_by, demand_data, demanding_data, factor_data, goal_data, invariant_data, mode_data, name_of_app_mode, name_of_item, name_of_value, names_data, need_data, on_app_data, on_data, place_data, places_data, policy_name, precondition_data, proc_data, source_name, spec_data, spec_text, start_data, want_data}
-use Rattle.reconf_spec.proofs.TextLengths.{widest, app_mode_short, count_short, integer_short, item_short, kind_short, mode_short, name_short, text_short, variable_short}
-use Rattle.scram_doc.proofs.TextLengths.{escaped_length, exact, found_length, items_weight, list_weight, members_weight, name_length, no_longer, quoted_length, weight}
+use Rattle.reconf_spec.specs.Texts.{app_data, assumption_data, bound_data, choice_data, conf_data, data_by, demand_data, demanding_data, factor_data, goal_data, invariant_data, mode_data, name_of_item, name_of_value, need_data, place_data, places_data, policy_name, precondition_data, proc_data, source_name, spec_data, spec_text, start_data, want_data}
+use Rattle.reconf_spec.proofs.DemandSizes.{demands_exact}
+use Rattle.reconf_spec.proofs.TextLengths.{items_lighter, lighter, names_short, widest, app_mode_short, count_short, integer_short, item_short, kind_short, mode_short, name_short, text_short, variable_short}
+use Rattle.scram_doc.proofs.TextLengths.{exact, items_weight, list_weight, no_longer, quoted_length, weight}
 
 proc_short : (proc : Proc) → IsProc proc → is_name proc.name ≡ true → weight widest (proc_data proc) ≤ 200
 proc_short proc is named =
@@ -110,21 +107,6 @@ source_short : (spec : Parts) → HasNames spec → (from : Option ConfId) → l
 source_short spec names None = omega arith
 source_short spec names (Some c) = item_short name_of_conf spec.confs c.0 names.confs
 
--- Lemmas on the names in a set. Each name takes at most `long` bytes.
-names_short_by : (measure : List ℕ → ℕ) (long : ℕ) (b : Bool) (name : List ℕ) (rest : List Data) (most : ℕ) → measure name ≤ long → items_weight measure (items_of rest) ≤ most
-    → items_weight measure (items_of (cond b (string name ∷ rest) rest)) ≤ most + (long + 1)
-names_short_by measure long true name rest most short few = omega (arith, short, few)
-names_short_by measure long false name rest most short few = omega (arith, few)
-
-names_short : {A : Type 0} (measure : List ℕ → ℕ) (long : ℕ) (name : A → List ℕ) (set n : ℕ) (xs : List A) → Each (λ (x : A). measure (name x) ≤ long) xs
-    → items_weight measure (items_of (names_data name set n xs)) ≤ length xs * (long + 1) + 1
-names_short measure long name set n [] each = omega arith
-names_short measure long name set n (x ∷ xs) each =
-    let rest = names_short measure long name set (suc n) xs (λ i y e. each (suc i) y e) in
-    let here = names_short_by measure long (has_bit set n) (name x) (names_data name set (suc n) xs) (length xs * (long + 1) + 1) (each zero x refl) rest in
-    let sum : suc (length xs) * (long + 1) ≡ length xs * (long + 1) + (long + 1) = suc-mul (length xs) (long + 1) in
-    omega (arith, here, sum)
-
 choice_short : (spec : Parts) → IsSpec spec → HasNames spec → (rule : Choice) → IsChoice spec.procs spec.confs spec.factors rule → weight widest (choice_data spec rule) ≤ 4000
 choice_short spec is names rule fits =
     let from = source_short spec names rule.from in
@@ -179,108 +161,6 @@ assumption_short spec is =
     let changes = count_short spec.changes (omega (arith, few_changes)) in
     let window = count_short spec.window (omega (arith, most)) in
     omega (arith, halts, changes, window)
-
--- Lemmas on the length of a demand's text. The names in the text need no escapes, so their lengths are counted
--- exactly.
-
--- The weight of a value by the exact lengths of its texts is at most its weight by `widest`.
-mutual
-  lighter : (d : Data) → weight exact d ≤ weight widest d
-  lighter null = omega arith
-  lighter (boolean b) = omega arith
-  lighter (number n) = omega arith
-  lighter (string s) = escaped_length s
-  lighter (array ds) = let rest = items_lighter ds in omega (arith, rest)
-  lighter (object ms) = let rest = members_lighter ms in omega (arith, rest)
-
-  items_lighter : (ds : Items) → items_weight exact ds ≤ items_weight widest ds
-  items_lighter no_items = omega arith
-  items_lighter (item d ds) = let here = lighter d in let rest = items_lighter ds in omega (arith, here, rest)
-
-  members_lighter : (ms : Members) → members_weight exact ms ≤ members_weight widest ms
-  members_lighter no_members = omega arith
-  members_lighter (member k d ms) =
-      let name = escaped_length k in
-      let here = lighter d in
-      let rest = members_lighter ms in
-      omega (arith, name, here, rest)
-
-set_exact : {A : Type 0} (name : A → List ℕ) (xs : List A) (set : ℕ) → Each (λ (x : A). is_name (name x) ≡ true) xs → items_weight exact (items_of (names_data name set 0 xs)) ≤ length xs * 19 + 1
-set_exact name xs set named = names_short exact 18 name set 0 xs (λ i x e. name_length (name x) (named i x e))
-
-want_exact : (spec : Parts) → HasNames spec → (want : Want) → weight exact (want_data spec.factors want) ≤ 60
-want_exact spec names want =
-    let factor = found_length name_of_factor (slice_get spec.factors want.factor.0) (names.factors want.factor.0) in
-    let value = value_exact (slice_get spec.factors want.factor.0) want.value (names.values want.factor.0) in
-    omega (arith, factor, value, quoted_length (codes "factor") refl, quoted_length (codes "value") refl)
-  where
-    value_exact : (found : Option Factor) (value : ℕ) → ((factor : Factor) → found ≡ Some factor → HasValueNames factor)
-        → exact (option_map_or (λ (factor : Factor). name_of_item itself factor.values value) found []) ≤ 18
-    value_exact None value named = omega arith
-    value_exact (Some factor) value named = found_length itself (slice_get factor.values value) (named factor refl value)
-
-on_app_exact : (spec : Parts) → HasNames spec → (a : ℕ) (modes : List Mode) → length modes ≤ 3 → weight exact (on_app_data spec a modes) ≤ 340
-on_app_exact spec names a modes few =
-    let app = found_length name_of_app (slice_get spec.apps a) (names.apps a) in
-    let each = list_weight exact (λ (mode : Mode). string (name_of_app_mode spec.apps a mode.0)) 98 modes
-    (λ i x e. let short = app_mode_short spec.apps a x.0 in let written = escaped_length (name_of_app_mode spec.apps a x.0) in omega (arith, short, written)) in
-    omega (arith, app, each, few, quoted_length (codes "app") refl, quoted_length (codes "modes") refl)
-
-on_exact : (spec : Parts) → HasNames spec → (a : ℕ) (on : List (Option (List Mode))) → ((i : ℕ) (modes : List Mode) → slice_get on i ≡ Some (Some modes) → length modes ≤ 3)
-    → items_weight exact (items_of (on_data spec a on)) ≤ length on * 341 + 1
-on_exact spec names a [] few = omega arith
-on_exact spec names a (None ∷ on) few = let rest = on_exact spec names (suc a) on (λ i modes e. few (suc i) modes e) in omega (arith, rest)
-on_exact spec names a (Some modes ∷ on) few =
-    let here = on_app_exact spec names a modes (few zero modes refl) in
-    let rest = on_exact spec names (suc a) on (λ i modes e. few (suc i) modes e) in
-    omega (arith, here, rest)
-
-demand_exact : (spec : Parts) → IsSpec spec → (demand : Demand) → IsDemand spec.procs spec.apps spec.confs spec.factors demand → is_name demand.name ≡ true → weight exact (demand_data spec demand) ≤ 4500
-demand_exact spec is demand fits named =
-    let names = is.names in
-    let few_procs = is.procs_count.few in
-    let few_apps = is.apps_count.few in
-    let few_confs = is.confs_count.few in
-    let few_wants = fits.few in
-    let width = fits.width in
-    let down = set_exact name_of_proc spec.procs demand.down names.procs in
-    let from = set_exact name_of_conf spec.confs demand.from names.confs in
-    let name = name_length demand.name named in
-    let off = set_exact name_of_app spec.apps demand.off names.apps in
-    let on = on_exact spec names 0 demand.on (λ i modes e. (fits.on i modes (rw (e) refl)).few) in
-    let to = set_exact name_of_conf spec.confs demand.to names.confs in
-    let up = set_exact name_of_proc spec.procs demand.up names.procs in
-    let wants = list_weight exact (want_data spec.factors) 60 demand.wants (λ i x e. want_exact spec names x) in
-    omega (
-      arith,
-      few_procs,
-      few_apps,
-      few_confs,
-      few_wants,
-      width,
-      down,
-      from,
-      name,
-      off,
-      on,
-      to,
-      up,
-      wants,
-      quoted_length (codes "down") refl,
-      quoted_length (codes "from") refl,
-      quoted_length (codes "name") refl,
-      quoted_length (codes "off") refl,
-      quoted_length (codes "on") refl,
-      quoted_length (codes "to") refl,
-      quoted_length (codes "up") refl,
-      quoted_length (codes "when") refl,
-    )
-
-demands_exact : (spec : Parts) → IsSpec spec → items_weight exact (items_of (map (demand_data spec) spec.demands)) ≤ 300000
-demands_exact spec is =
-    let few = is.demands_count in
-    let sum = list_weight exact (demand_data spec) 4500 spec.demands (λ i x e. demand_exact spec is x (is.demands i x e) (is.names.demands i x e)) in
-    omega (arith, few, sum)
 
 -- The weight of each list of the specification's canonical value is at most the bound for this list.
 record HasShortLists (spec : Parts) : Type 0 where
