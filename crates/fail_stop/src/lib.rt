@@ -6,6 +6,7 @@
 
 mod drafts;
 pub mod flyers;
+pub mod halts;
 pub mod law;
 pub mod notes;
 pub mod openings;

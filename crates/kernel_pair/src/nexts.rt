@@ -94,13 +94,7 @@ fn is_below(frame: Option<u32>, release: u64) -> bool
 fn is_unit_next(setup: &Setup, state: &PairState, u: u8, event: PairEvent) -> bool
     ensures { IsTrue result ↔ ((u < 2) × (next_unit (flight_by setup.now) setup.now.halt (pair_of state.now) u ≡ Some event)) }
 {
-    u < 2 && is_event(next_unit(setup, state, u), event)
-}
-
-fn is_event(next: Option<PairEvent>, event: PairEvent) -> bool
-    ensures { IsTrue result ↔ (next ≡ Some event) }
-{
-    next == Some(event)
+    u < 2 && next_unit(setup, state, u) == Some(event)
 }
 
 /// Returns the next event of unit `u`, or `None` if it has none.

@@ -89,14 +89,7 @@ fn bank_opened(words: &[u64], p: u8, b: usize) -> [u64; 64]
 fn units_opened(frames: u32, first: &[u64; 20]) -> [UnitState; 2]
     ensures { (u : ℕ) → u < 2 → IsUnitOpened frames first.now (slice_index_or result u blank_unit) }
 {
-    let unit = unit_opened(frames, first);
-    [unit, unit]
-}
-
-fn unit_opened(frames: u32, first: &[u64; 20]) -> UnitState
-    ensures { IsUnitOpened frames first.now result }
-{
-    UnitState {
+    let unit = UnitState {
         frame: 0,
         step: 0,
         stopped: None,
@@ -105,5 +98,6 @@ fn unit_opened(frames: u32, first: &[u64; 20]) -> UnitState
         words: *first,
         marks: [0; 8],
         images: [[0; 64]; 8],
-    }
+    };
+    [unit, unit]
 }

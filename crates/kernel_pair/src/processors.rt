@@ -3,7 +3,7 @@
 ghost use Rattle.std.specs.Prelude.{◌≡◌, ℕ, suc, ◌<◌, ◌≤◌, ◌+◌, ◌-◌, ◌*◌, ◌%◌, ◌^◌, length, option_map, if◌then◌else◌, nat_eq, nat_lt, slice_index_or, ◌&&◌};
 ghost use Rattle.scram_types.specs.declared.scripts.HaltAt.{HaltAt};
 ghost use Rattle.fail_stop.specs.Events.{after_frame};
-ghost use Rattle.fail_stop.specs.Flights.{end_word_after, reaches_mark, stores_by, word_in};
+ghost use Rattle.fail_stop.specs.Flights.{reaches_mark, word_in};
 ghost use Rattle.fail_stop.specs.ScriptFlights.{draft_words};
 ghost use Rattle.kernel_pair.specs.Pairs.{frame_made};
 ghost use Rattle.kernel_pair.specs.States.{bank_word, flight_by, processor_of, stand_place};
@@ -11,6 +11,7 @@ ghost use Rattle.kernel_pair.specs.declared.setups.Setup.{Setup};
 
 use crate::setups::Setup;
 use bank_words::words;
+use fail_stop::halts::{end_word_after, reaches_mark, stores_by};
 use fault_script::halt_in;
 use scram_types::{HaltAt, ProcId};
 
@@ -62,34 +63,6 @@ fn after_frame(frame: u32, halt: Option<HaltAt>) -> Stand
     match halt {
         Some(_) => Stand::Halted(frame),
         None => Stand::Before(frame + 1),
-    }
-}
-
-fn reaches_mark(width: u32, halt: Option<HaltAt>) -> bool
-    ensures { result ≡ reaches_mark width (option_map (λ (halt : HaltAt). halt.step) halt) }
-{
-    match halt {
-        Some(halt) => width < u32::from(halt.step),
-        None => true,
-    }
-}
-
-fn end_word_after(frame: u32, halt: Option<HaltAt>) -> u64
-    ensures { result ≡ end_word_after frame (option_map (λ (halt : HaltAt). halt.step) halt) }
-{
-    match halt {
-        Some(_) => 2 * u64::from(frame) + 1,
-        None => 2 * (u64::from(frame) + 1),
-    }
-}
-
-fn stores_by(width: u32, halt: Option<HaltAt>) -> u32
-    ensures same { result ≡ stores_by width (option_map (λ (halt : HaltAt). halt.step) halt) }
-    ensures few { result ≤ width }
-{
-    match halt {
-        Some(halt) => u32::from(halt.step).min(width),
-        None => width,
     }
 }
 

@@ -13,7 +13,6 @@ ghost use Rattle.kernel_pair.specs.States.{blank_unit, pair_of, word_decoded, wo
 
 use crate::processors::ProcessorState;
 use crate::states::PairState;
-use crate::units::UnitState;
 use bank_words::{decode, encode, kernel_decode, pick};
 use fail_stop::Snapshot;
 use fail_stop::law::kernel_images_come_back;
@@ -47,14 +46,7 @@ fn words_of(state: &PairState, u: u8) -> [u64; 20]
     ensures words { result ≡ (slice_index_or state.now.units u blank_unit).words }
     ensures long { length result ≡ 20 }
 {
-    unit_words(&state.units[usize::from(u)])
-}
-
-fn unit_words(x: &UnitState) -> [u64; 20]
-    ensures words { result ≡ x.now.words }
-    ensures long { length result ≡ 20 }
-{
-    copied(&x.words)
+    copied(&state.units[usize::from(u)].words)
 }
 
 fn copied(words: &[u64; 20]) -> [u64; 20]
