@@ -109,17 +109,25 @@ module _ (spec : Parts) (made : IsSpec spec) (cube : Cube) where
       let few = made.factors_count in
       length-append (values_of spec.factors n) zeros ∙ rw (values_length spec.factors n, length-replicate {A = ℕ} (6 - length spec.factors) 0) (omega arith)
 
-  -- Suppose that digit 0 is open at each place past the last factor. The environment with number `n` is held by the
-  -- cube and in scope if and only if its set of processors is allowed and its combination of values is open.
-  held_number : (n : ℕ) → are_open cube (length spec.factors) zeros ≡ true → passes_at spec (holds cube) n
-      ≡ (is_down_held spec cube (n / combinations spec.factors) && are_open cube 0 (values_of spec.factors (n % combinations spec.factors)))
-  held_number n shut =
+  -- `last` says whether digit 0 is open at each place past the last factor. The environment with number `n` is held by
+  -- the cube and in scope if and only if it is in scope, the cube allows its set of processors, its combination of
+  -- values is open, and `last` is true.
+  held_parts : (n : ℕ) (last : Bool) → are_open cube (length spec.factors) zeros ≡ last → passes_at spec (holds cube) n
+      ≡ (is_number_in_scope spec n && ((are_open cube 0 (values_of spec.factors (n % combinations spec.factors)) && last) && allows_up cube (numbered spec n).up))
+  held_parts n last shut =
       ap (λ (b : Bool). is_number_in_scope spec n && b)
       (held_by_parts cube (numbered spec n) (six_values (n % combinations spec.factors))
       ∙ ap (λ (b : Bool). b && allows_up cube (numbered spec n).up)
       (open_both cube 0 (values_of spec.factors (n % combinations spec.factors)) zeros
       ∙ ap (λ (k : ℕ). are_open cube 0 (values_of spec.factors (n % combinations spec.factors)) && are_open cube k zeros) (from_first _ ∙ values_length spec.factors (n % combinations spec.factors))
       ∙ ap (λ (b : Bool). are_open cube 0 (values_of spec.factors (n % combinations spec.factors)) && b) shut))
+
+  -- If digit 0 is open there, the environment is held and in scope if and only if its set of processors is allowed and
+  -- its combination of values is open.
+  held_number : (n : ℕ) → are_open cube (length spec.factors) zeros ≡ true → passes_at spec (holds cube) n
+      ≡ (is_down_held spec cube (n / combinations spec.factors) && are_open cube 0 (values_of spec.factors (n % combinations spec.factors)))
+  held_number n shut =
+      held_parts n true shut
       ∙ turn (is_number_in_scope spec n) (are_open cube 0 (values_of spec.factors (n % combinations spec.factors))) (allows_up cube (numbered spec n).up)
     where
       turn : (s a u : Bool) → (s && ((a && true) && u)) ≡ ((u && s) && a)
@@ -132,12 +140,7 @@ module _ (spec : Parts) (made : IsSpec spec) (cube : Cube) where
 
   none_number : (n : ℕ) → are_open cube (length spec.factors) zeros ≡ false → passes_at spec (holds cube) n ≡ false
   none_number n shut =
-      ap (λ (b : Bool). is_number_in_scope spec n && b)
-      (held_by_parts cube (numbered spec n) (six_values (n % combinations spec.factors))
-      ∙ ap (λ (b : Bool). b && allows_up cube (numbered spec n).up)
-      (open_both cube 0 (values_of spec.factors (n % combinations spec.factors)) zeros
-      ∙ ap (λ (k : ℕ). are_open cube 0 (values_of spec.factors (n % combinations spec.factors)) && are_open cube k zeros) (from_first _ ∙ values_length spec.factors (n % combinations spec.factors))
-      ∙ ap (λ (b : Bool). are_open cube 0 (values_of spec.factors (n % combinations spec.factors)) && b) shut))
+      held_parts n false shut
       ∙ turn (is_number_in_scope spec n) (are_open cube 0 (values_of spec.factors (n % combinations spec.factors))) (allows_up cube (numbered spec n).up)
     where
       turn : (s a u : Bool) → (s && ((a && false) && u)) ≡ false
