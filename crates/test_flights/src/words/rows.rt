@@ -76,7 +76,9 @@ fn fly(rt: &HostRuntime, words: Words, kseat: KSeat, pair: Pair, row: &str) -> i
     }
 }
 
-// Makes the turns that the lines of a row request.
+// Makes the turns that the lines of a row request: those of `rounds N WHO ..`, those of `turns WHO ..`, of which it
+// prints the results, and those of `order WHO ..` to the end of the flight, whose rows it compares with the rows of the
+// flight on one thread.
 fn fly_actors(
     rt: &HostRuntime,
     mission: &Mission,
@@ -87,64 +89,18 @@ fn fly_actors(
     requires { ActorsFit words.now mission.now actors.old }
     ensures { ActorsFit words.now mission.now actors.new }
 {
-    repeat_asked(mission, words, actors, row)?;
-    print_asked(rt, mission, words, actors, row)?;
-    fly_asked(rt, mission, words, actors, row)
-}
-
-// If the row has the line `rounds N WHO ..`, makes the turns of this line.
-fn repeat_asked(
-    mission: &Mission,
-    words: &WordTable,
-    actors: &mut Actors,
-    row: &str,
-) -> io::Result<()>
-    requires { ActorsFit words.now mission.now actors.old }
-    ensures { ActorsFit words.now mission.now actors.new }
-{
-    match line_after(row, "rounds ") {
-        Some(line) => repeat_turns(mission, words, actors, line),
-        None => Ok(()),
+    if let Some(line) = line_after(row, "rounds ") {
+        repeat_turns(mission, words, actors, line)?;
     }
-}
-
-// If the row has the line `turns WHO ..`, makes the turns of this line and prints their results.
-fn print_asked(
-    rt: &HostRuntime,
-    mission: &Mission,
-    words: &WordTable,
-    actors: &mut Actors,
-    row: &str,
-) -> io::Result<()>
-    requires { ActorsFit words.now mission.now actors.old }
-    ensures { ActorsFit words.now mission.now actors.new }
-{
-    match line_after(row, "turns ") {
-        Some(names) => print_turns(rt, mission, words, actors, names),
-        None => Ok(()),
+    if let Some(names) = line_after(row, "turns ") {
+        print_turns(rt, mission, words, actors, names)?;
     }
-}
-
-// If the row has the line `order WHO ..`, makes the turns of this line to the end of the flight, and compares the
-// rows with the rows of the flight on one thread.
-fn fly_asked(
-    rt: &HostRuntime,
-    mission: &Mission,
-    words: &WordTable,
-    actors: &mut Actors,
-    row: &str,
-) -> io::Result<()>
-    requires { ActorsFit words.now mission.now actors.old }
-    ensures { ActorsFit words.now mission.now actors.new }
-{
-    match line_after(row, "order ") {
-        Some(names) => {
-            let rounds = fly_rounds(mission, words, actors, names)?;
-            print!(rt; "rounds {rounds} ")?;
-            print_compared(rt, mission, actors.kernel.rows())
-        }
-        None => Ok(()),
+    if let Some(names) = line_after(row, "order ") {
+        let rounds = fly_rounds(mission, words, actors, names)?;
+        print!(rt; "rounds {rounds} ")?;
+        print_compared(rt, mission, actors.kernel.rows())?;
     }
+    Ok(())
 }
 
 // Compares rows with those of the flight on one thread, and prints the result.
