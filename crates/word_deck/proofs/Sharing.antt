@@ -14,7 +14,7 @@ use Rattle.atomic_table.proofs.shared.Shared.TheSendSync as shared
 use Rattle.atomic_table.proofs.send_lease.SendLease.TheSendSync as lease
 use Rattle.scram_types.specs.contracts.scripts.Script as script
 use Rattle.scram_types.specs.contracts.mode_lists.Modes as modes
-use Rattle.scram_types.specs.contracts.specification.Demand as demand
+use Rattle.scram_types.specs.contracts.demands.Demand as demand
 use Rattle.scram_types.specs.contracts.specification.Spec as spec
 use Rattle.coverage_check.specs.contracts.missions.Mission as mission
 use Rattle.word_table.specs.contracts.tables.WordTable as table

@@ -7,6 +7,9 @@ use Rattle.faults_form.specs.Counts.{number}
 use Rattle.faults_form.specs.Families.{family_text}
 use Rattle.faults_form.proofs.forms.find_family.Goals as goal
 
+pub returns-in-Ok : goal.returns-in-Ok
+returns-in-Ok c = λ status text is. rw (c.in-Ok.ensures.holds, ← c.in-Ok.ensures.accepted) is
+
 pub returns-in-Err : goal.returns-in-Err
 returns-in-Err c =
     let spec = c.args.spec in
