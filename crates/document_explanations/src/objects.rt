@@ -11,7 +11,7 @@ use scram_types::limits::{
     MAX_VALUES, MAX_WINDOW, MIN_VALUES,
 };
 
-/// An object of a document.
+/// A kind of object in a document.
 #[derive(Clone, Copy)]
 pub enum ObjectKind {
     /// The whole specification.
