@@ -1,8 +1,8 @@
 pub mod Answers
 pub mod Assurance
 pub mod Documents
+pub mod Laws
 pub mod Lines
 pub mod Replays
 pub mod Summaries
 pub mod Texts
-pub mod flights_form

@@ -1,10 +1,9 @@
-//! The forms that fly or generate missions: `run`, `watch`, `pair`, `replay`, `gen` and `fly`, and `flights` in
-//! [`flights_form`]. The output of a form is the answer to its arguments and to the bytes of the files that the
-//! arguments name. If a mission was flown and the status is 0, the flight is assured.
+//! The forms that fly or generate missions: `run`, `watch`, `pair`, `replay`, `gen` and `fly`. The output of a form is
+//! the answer to its arguments and to the bytes of the files that the arguments name. If a mission was flown and the
+//! status is 0, the flight is assured.
 #![tactic(auto)]
 
 mod documents;
-pub mod flights_form;
 mod generated;
 pub mod laws;
 mod lines;

@@ -6,7 +6,7 @@ use Rattle.form_base.proofs.Assuring.{not_zero, text_of_gives}
 use Rattle.explain_form.proofs.Assuring.{explain_assures, explain_script_assures}
 use Rattle.faults_form.proofs.Assuring.{faults_assure}
 use Rattle.fill_form.proofs.Assuring.{fill_assures}
-use Rattle.flight_forms.proofs.flights_form.Assuring.{flights_assure}
+use Rattle.flights_form.proofs.Assuring.{flights_assure}
 use Rattle.spec_forms.proofs.choice_forms.Assuring.{choices_assure, choose_assures}
 use Rattle.spec_forms.proofs.Assuring.{bounds_assure, check_assures}
 use Rattle.form_base.proofs.trace_files.Viewing.{view_assures}

@@ -8,7 +8,7 @@ use Rattle.form_base.specs.trace_files.Looks.{ViewAnswers}
 use Rattle.explain_form.specs.Answers.{ExplainAnswers, ExplainScriptAnswers}
 use Rattle.faults_form.specs.Answers.{FaultsAnswers}
 use Rattle.fill_form.specs.Answers.{FillAnswers}
-use Rattle.flight_forms.specs.flights_form.Answers.{FlightsAnswers}
+use Rattle.flights_form.specs.Answers.{FlightsAnswers}
 use Rattle.spec_forms.specs.choice_forms.Answers.{ChoicesAnswers, ChooseAnswers}
 use Rattle.trace_forms.specs.Answers.{PropsAnswers}
 use Rattle.trace_forms.specs.summary_form.Summary.{summary_text}

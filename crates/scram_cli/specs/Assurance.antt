@@ -6,7 +6,7 @@ use Rattle.form_base.specs.trace_files.Looks.{AssuresView}
 use Rattle.explain_form.specs.Answers.{AssuresExplain, AssuresExplainScript}
 use Rattle.faults_form.specs.Answers.{AssuresFaults}
 use Rattle.fill_form.specs.Answers.{AssuresFill}
-use Rattle.flight_forms.specs.flights_form.Assurance.{AssuresFlights}
+use Rattle.flights_form.specs.Assurance.{AssuresFlights}
 use Rattle.spec_forms.specs.choice_forms.Answers.{AssuresChoices, AssuresChoose}
 use Rattle.trace_forms.specs.Answers.{AssuresProps}
 use Rattle.trace_forms.specs.summary_form.Summary.{summary_text}

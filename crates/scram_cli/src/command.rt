@@ -18,11 +18,11 @@ use app_model::Boxes;
 use explain_form::{explain, explain_script};
 use faults_form::{FaultsQuestion, faults};
 use fill_form::fill;
-use flight_forms::flights_form::{ScriptsFiles, flights};
 use flight_forms::laws::flights_are_assured;
 use flight_forms::{
     PairFiles, ReplayFiles, fly_generated, pair_form, print_generated, replay_form, run, watch,
 };
+use flights_form::{ScriptsFiles, flights};
 use form_base::mission_files::MissionFiles;
 use form_base::printing::{print_refusal, print_text};
 use form_base::refusals::{Refusal, Refused};

@@ -1,7 +1,0 @@
-pub mod Assuring
-pub mod Cuts
-pub mod Flown
-pub mod Gaps
-pub mod Kept
-pub mod Runs
-pub mod Summed
