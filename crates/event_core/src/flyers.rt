@@ -131,22 +131,9 @@ impl Flyers {
         ensures image { result ≡ draft core.now.spec core.now.script p.0 (frame_of ((core_places core.now).proc p.0)) }
         ensures fits { FlyersFitCore core.now self.new }
     {
-        let frame = core.frame_of(p);
-        match drafted_in(&self.drafted[usize::from(p.0)], frame) {
-            Some(image) => image,
-            None => self.draft(core, spec, p),
+        if let Some(image) = drafted_in(&self.drafted[usize::from(p.0)], core.frame_of(p)) {
+            return image;
         }
-    }
-
-    fn draft(&mut self, core: &Core, spec: &Spec, p: ProcId) -> Image
-        requires spec { core.now.spec ≡ spec.now }
-        requires known { p.0 < length spec.now.procs }
-        requires few { p.0 < 8 }
-        requires looked { HasLooked (core_flight core.now) ((core_places core.now).proc p.0) }
-        requires fits { FlyersFitCore core.now self.old }
-        ensures image { result ≡ draft core.now.spec core.now.script p.0 (frame_of ((core_places core.now).proc p.0)) }
-        ensures fits { FlyersFitCore core.now self.new }
-    {
         let _procs = spec.procs.items().len();
         let snap = core.snapshot(p);
         let mut image = [0; 64];

@@ -8,11 +8,11 @@ use Rattle.fail_stop.specs.Flyers.{IsFlyerAt, unit_proc}
 use Rattle.event_core.specs.Cores.{core_places, core_flight}
 use Rattle.event_core.specs.Flyers.{IsLastDraft}
 use Rattle.event_core.proofs.Following.{drafts_with, drafted_by, flyers_drafted, looked_flies}
-use Rattle.event_core.proofs.flyers.Flyers.draft.Goals as goal
+use Rattle.event_core.proofs.flyers.Flyers.image.Goals as goal
 
 pub returns-clause-image : goal.returns-clause-image
 returns-clause-image g c =
-    let place : c.from.result ≡ c.args.p.0 = search rules in
+    let place : c.from-2.result ≡ c.args.p.0 = search rules in
     let was = c.index_mut.result.now in
     let is : IsFlyerAt (core_flight c.args.core.now) c.args.p.0 ((core_places c.args.core.now).proc c.args.p.0) was =
     subst (IsFlyerAt (core_flight c.args.core.now) c.args.p.0 ((core_places c.args.core.now).proc c.args.p.0)) (sym (c.index_mut.ensures.value ∙ ap (λ p. slice_index_or c.args.self.now.all.items p was) place)) (c.requires.fits.all.each c.args.p.0 was c.requires.few) in
@@ -21,8 +21,8 @@ returns-clause-image g c =
 
 pub returns-clause-fits : goal.returns-clause-fits
 returns-clause-fits g c =
-    let place : c.from.result ≡ c.args.p.0 = search rules in
-    let again : c.from-2.result ≡ c.args.p.0 = search rules in
+    let place : c.from-2.result ≡ c.args.p.0 = search rules in
+    let again : c.from-3.result ≡ c.args.p.0 = search rules in
     let few = c.requires.few in
     let spec = c.args.core.now.spec in
     let script = c.args.core.now.script in
