@@ -1,6 +1,6 @@
 -- If a line of a trace can be read, its contents can be drawn.
 use Rattle.std.proofs.Common.{ℕ, ℤ, suc, zero, ◌≡◌, ◌<◌, ◌≤◌, ◌+◌, ◌-◌, ◌^◌, Bool, true, false, cond, List, [], ◌∷◌, Option, Some, None, Ok, Err, length, replicate, arith, refl, ap}
-use Rattle.std.specs.Prelude.{◌==◌, ◌&&◌, IsSome, bytes_eq, codes, nat_le, nat_lt, option_map, option_and_then, slice_get, slice_index, slice_index_or, slice_set}
+use Rattle.std.specs.Prelude.{◌==◌, ◌&&◌, IsSome, bytes_eq, codes, nat_le, nat_lt, slice_get, slice_index, slice_index_or, slice_set}
 use Rattle.std.specs.Fmt.{signed_decimal}
 use Rattle.std.specs.Str.Parse.{signed_digits_value}
 use Rattle.std.proofs.lemmas.Bool.{and_parts, eqb-false, eqb-true, leb-true, ltb-true}
@@ -39,7 +39,7 @@ use Rattle.trace_text.specs.declared.app_reading.Phase.{Phase}
 use Rattle.trace_text.specs.declared.app_reading.Phase.TheVariants.{Halting, Preparing, Initialising}
 use Rattle.trace_text.specs.declared.rule.TheConstants.{NOT_NEXT, NO_FORM, OUT_OF_ORDER, UNKNOWN_NAME, WRONG_COUNT, WRONG_NUMBER}
 use Rattle.trace_text.proofs.Found.{place_named}
-use Rattle.trace_text.proofs.Inversion.{if_ok, kept_says, map_some, or_rule_ok, some_says, then_some}
+use Rattle.trace_text.proofs.Inversion.{if_ok, kept_says, map_some, or_rule_ok, some_says, then_some, world_found}
 use Rattle.trace_text.proofs.Spelling.{number_spelled}
 use Rattle.picture_form.specs.Laws.{IsReportDrawn, IsRowDrawn}
 
@@ -71,19 +71,8 @@ record IsWorldRead (world : World) : Type 0 where
 
 world_read : (ws : List (List ℕ)) (at : ℕ) (world : World) → world_at ws at ≡ Some world → IsWorldRead world
 world_read ws at world h =
-    let a = then_some (λ (alt : ℤ). option_and_then (λ (climb : ℤ). option_and_then (λ (heading : ℤ). option_map (λ (bank : ℤ).
-    record { alt = alt; climb = climb; heading = heading; bank = bank })
-    (signed_of (word_at ws (at + 3)))) (signed_of (word_at ws (at + 2)))) (signed_of (word_at ws (at + 1)))) (signed_of (word_at ws at)) world h in
-    let b = then_some (λ (climb : ℤ). option_and_then (λ (heading : ℤ). option_map (λ (bank : ℤ).
-    record { alt = a.0; climb = climb; heading = heading; bank = bank })
-    (signed_of (word_at ws (at + 3)))) (signed_of (word_at ws (at + 2)))) (signed_of (word_at ws (at + 1))) world a.2 in
-    let c = then_some (λ (heading : ℤ). option_map (λ (bank : ℤ).
-    record { alt = a.0; climb = b.0; heading = heading; bank = bank })
-    (signed_of (word_at ws (at + 3)))) (signed_of (word_at ws (at + 2))) world b.2 in
-    let d = map_some (λ (bank : ℤ). record { alt = a.0; climb = b.0; heading = c.0; bank = bank }) (signed_of (word_at ws (at + 3))) world c.2 in
-    let made : IsWorldRead (record { alt = a.0; climb = b.0; heading = c.0; bank = d.0 })
-    = record { altitude = signed_small (word_at ws at) a.0 a.1; heading = signed_small (word_at ws (at + 2)) c.0 c.1 } in
-    rw (← d.2) made
+    let found = world_found ws at world h in
+    record { altitude = signed_small (word_at ws at) world.alt found.alt; heading = signed_small (word_at ws (at + 2)) world.heading found.heading }
 
 -- The values of factors are bytes.
 

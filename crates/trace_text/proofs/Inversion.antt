@@ -1,13 +1,16 @@
 -- If the result of a reading is `Ok`, each of its tests has passed.
-use Rattle.std.proofs.Common.{ℕ, suc, zero, ◌≡◌, ◌+◌, ◌∙◌, Bool, true, false, cond, List, [], ◌∷◌, Option, Some, None, Result, Ok, Err, drop, length, arith, refl, sym, ap}
+use Rattle.std.proofs.Common.{ℕ, ℤ, suc, zero, ◌≡◌, ◌+◌, ◌∙◌, Bool, true, false, cond, List, [], ◌∷◌, Option, Some, None, Result, Ok, Err, drop, length, arith, refl, sym, ap}
 use Rattle.std.specs.Prelude.{◌==◌, ◌&&◌, nat_le, option_map, option_and_then}
 use Rattle.std.specs.List.{join_with_byte, list_all}
 use Rattle.std.proofs.lemmas.Bool.{eqb-true}
 use Rattle.std.proofs.lemmas.List.{drop_all, drop_more}
 use Rattle.std.proofs.lemmas.List.Splits.{join_with_byte-slice_split}
+use Rattle.scram_types.specs.declared.rows.World.{World}
 use Rattle.scram_types.proofs.Equality.{same_text}
 use Rattle.trace_text.specs.Pieces.{words_of, words_in, is_word, is_filled, word_at}
+use Rattle.trace_text.specs.RowReading.{world_at}
 use Rattle.trace_text.specs.Rules.{or_rule}
+use Rattle.trace_text.specs.Spelling.{signed_of}
 
 pub or_rule_ok : {A B : Type 0} (rule : ℕ) (o : Option A) (next : A → Result B ℕ) (b : B) → or_rule rule o next ≡ Ok b →
     (a : A) × (o ≡ Some a) × (next a ≡ Ok b)
@@ -17,10 +20,6 @@ or_rule_ok rule (Some a) next b h = (a, refl, h)
 pub if_ok : {B : Type 0} (t : Bool) (r : Result B ℕ) (rule : ℕ) (b : B) → cond t r (Err rule) ≡ Ok b → (t ≡ true) × (r ≡ Ok b)
 if_ok true r rule b h = (refl, h)
 if_ok false r rule b h = absurd (let e = h in cc)
-
-pub unless_not : {B : Type 0} (t : Bool) (r : Result B ℕ) (rule : ℕ) (b : B) → cond t (Err rule) r ≡ Ok b → r ≡ Ok b
-unless_not true r rule b h = absurd (let e = h in cc)
-unless_not false r rule b h = h
 
 pub some_says : {A : Type 0} (b : Bool) (x y : A) → cond b (Some x) None ≡ Some y → (b ≡ true) × (x ≡ y)
 some_says true x y h = (refl, cc)
@@ -64,3 +63,25 @@ line_joined line ws h =
 
 pub words_are : (line : List ℕ) (ws : List (List ℕ)) → words_in line ≡ Some ws → words_of line ≡ ws
 words_are line ws h = (some_says (nat_le (length (words_of line)) 16 && list_all is_filled (words_of line)) (words_of line) ws h).1
+
+-- The four words from index `at` on spell the numbers of `world`.
+pub record WorldFound (ws : List (List ℕ)) (at : ℕ) (world : World) : Type 0 where
+  pub alt : signed_of (word_at ws at) ≡ Some world.alt
+  pub climb : signed_of (word_at ws (at + 1)) ≡ Some world.climb
+  pub heading : signed_of (word_at ws (at + 2)) ≡ Some world.heading
+  pub bank : signed_of (word_at ws (at + 3)) ≡ Some world.bank
+
+pub world_found : (ws : List (List ℕ)) (at : ℕ) (world : World) → world_at ws at ≡ Some world → WorldFound ws at world
+world_found ws at world h =
+    let a = then_some (λ (alt : ℤ). option_and_then (λ (climb : ℤ). option_and_then (λ (heading : ℤ). option_map (λ (bank : ℤ).
+    record { alt = alt; climb = climb; heading = heading; bank = bank })
+    (signed_of (word_at ws (at + 3)))) (signed_of (word_at ws (at + 2)))) (signed_of (word_at ws (at + 1)))) (signed_of (word_at ws at)) world h in
+    let b = then_some (λ (climb : ℤ). option_and_then (λ (heading : ℤ). option_map (λ (bank : ℤ).
+    record { alt = a.0; climb = climb; heading = heading; bank = bank })
+    (signed_of (word_at ws (at + 3)))) (signed_of (word_at ws (at + 2)))) (signed_of (word_at ws (at + 1))) world a.2 in
+    let c = then_some (λ (heading : ℤ). option_map (λ (bank : ℤ).
+    record { alt = a.0; climb = b.0; heading = heading; bank = bank })
+    (signed_of (word_at ws (at + 3)))) (signed_of (word_at ws (at + 2))) world b.2 in
+    let d = map_some (λ (bank : ℤ). record { alt = a.0; climb = b.0; heading = c.0; bank = bank }) (signed_of (word_at ws (at + 3))) world c.2 in
+    let made : WorldFound ws at (record { alt = a.0; climb = b.0; heading = c.0; bank = d.0 }) = record { alt = a.1; climb = b.1; heading = c.1; bank = d.1 } in
+    rw (← d.2) made

@@ -1,6 +1,6 @@
 -- A line that is read as the first line of a row is the printed text of the row that is read.
-use Rattle.std.proofs.Common.{ℕ, ℤ, pos, ◌≡◌, ◌<◌, ◌≤◌, ◌+◌, ◌*◌, ◌∙◌, Bool, true, false, cond, List, [], ◌∷◌, ◌++◌, Some, Ok, Err, length, decimal, replicate, arith, refl, sym, ap, append-nil, length-set}
-use Rattle.std.specs.Prelude.{◌==◌, ◌&&◌, ◌/◌, ◌%◌, bytes_eq, codes, option_map, option_and_then, slice_index, slice_set}
+use Rattle.std.proofs.Common.{ℕ, pos, ◌≡◌, ◌<◌, ◌≤◌, ◌+◌, ◌*◌, ◌∙◌, Bool, true, false, cond, List, [], ◌∷◌, ◌++◌, Some, Ok, Err, length, decimal, replicate, arith, refl, sym, ap, append-nil, length-set}
+use Rattle.std.specs.Prelude.{◌==◌, ◌&&◌, ◌/◌, ◌%◌, bytes_eq, codes, slice_index, slice_set}
 use Rattle.std.specs.Fmt.{signed_decimal}
 use Rattle.std.specs.List.{join_with_byte, list_all}
 use Rattle.std.proofs.lemmas.Bool.{and_parts, eqb-true}
@@ -21,13 +21,13 @@ use Rattle.scram_types.specs.Lookups.{value_named, conf_named, value_name, conf_
 use Rattle.trace_text.specs.Names.{conf_or_dash, joined, names_up, values_named, further_joined}
 use Rattle.trace_text.specs.Pieces.{items_of, pieces_of, words_in, words_of, is_word, word_at}
 use Rattle.trace_text.specs.RowReading.{are_values, env_names, env_read, is_env_form, is_moving_form, is_proc_name, is_stable_form, moving_row, row_begun, row_end, row_of_words, row_read, stable_row, up_from, up_in, values_from, values_in, with_bit, world_at}
-use Rattle.trace_text.specs.Spelling.{signed_of, spelled_number}
+use Rattle.trace_text.specs.Spelling.{spelled_number}
 use Rattle.trace_text.specs.Text.{row_line, up_text, values_text}
 use Rattle.trace_text.specs.TraceReading.{begins}
 use Rattle.trace_text.specs.declared.rule.TheConstants.{NOT_NEXT, NO_FORM, OUT_OF_ORDER, UNKNOWN_NAME, WRONG_NUMBER}
 use Rattle.trace_text.proofs.Found.{conf_found, conf_or_dash_found, value_found}
 use Rattle.scram_types.proofs.Equality.{same_text}
-use Rattle.trace_text.proofs.Inversion.{both, if_ok, is_text, kept_says, line_joined, map_some, or_rule_ok, then_some, words_are, words_listed}
+use Rattle.trace_text.proofs.Inversion.{both, if_ok, is_text, kept_says, line_joined, or_rule_ok, then_some, words_are, words_listed, world_found}
 use Rattle.trace_text.proofs.Shapes.{moving_shape, stable_shape}
 use Rattle.trace_text.proofs.Spelling.{number_spelled, signed_spelled}
 use Rattle.trace_text.proofs.Splitting.{some_piece}
@@ -140,24 +140,12 @@ record WorldWords (ws : List (List ℕ)) (at : ℕ) (world : World) : Type 0 whe
   bank : word_at ws (at + 3) ≡ signed_decimal world.bank
 
 world_words : (ws : List (List ℕ)) (at : ℕ) (world : World) → world_at ws at ≡ Some world → WorldWords ws at world
-world_words ws at world h =
-    let a = then_some (λ (alt : ℤ). option_and_then (λ (climb : ℤ). option_and_then (λ (heading : ℤ). option_map (λ (bank : ℤ).
-    record { alt = alt; climb = climb; heading = heading; bank = bank })
-    (signed_of (word_at ws (at + 3)))) (signed_of (word_at ws (at + 2)))) (signed_of (word_at ws (at + 1)))) (signed_of (word_at ws at)) world h in
-    let b = then_some (λ (climb : ℤ). option_and_then (λ (heading : ℤ). option_map (λ (bank : ℤ).
-    record { alt = a.0; climb = climb; heading = heading; bank = bank })
-    (signed_of (word_at ws (at + 3)))) (signed_of (word_at ws (at + 2)))) (signed_of (word_at ws (at + 1))) world a.2 in
-    let c = then_some (λ (heading : ℤ). option_map (λ (bank : ℤ).
-    record { alt = a.0; climb = b.0; heading = heading; bank = bank })
-    (signed_of (word_at ws (at + 3)))) (signed_of (word_at ws (at + 2))) world b.2 in
-    let d = map_some (λ (bank : ℤ). record { alt = a.0; climb = b.0; heading = c.0; bank = bank }) (signed_of (word_at ws (at + 3))) world c.2 in
-    let e : record { alt = a.0; climb = b.0; heading = c.0; bank = d.0 } ≡ world = d.2 in
-    record {
-      alt = signed_spelled a.0 _ a.1 ∙ ap (λ (w : World). signed_decimal w.alt) e;
-      climb = signed_spelled b.0 _ b.1 ∙ ap (λ (w : World). signed_decimal w.climb) e;
-      heading = signed_spelled c.0 _ c.1 ∙ ap (λ (w : World). signed_decimal w.heading) e;
-      bank = signed_spelled d.0 _ d.1 ∙ ap (λ (w : World). signed_decimal w.bank) e;
-    }
+world_words ws at world h = let found = world_found ws at world h in record {
+  alt = signed_spelled world.alt _ found.alt;
+  climb = signed_spelled world.climb _ found.climb;
+  heading = signed_spelled world.heading _ found.heading;
+  bank = signed_spelled world.bank _ found.bank;
+}
 
 -- The words spell the frame `next`, a world and the processors that are up, and `row` has these parts and no acts.
 record RowEnd (spec : Parts) (next : ℕ) (ws : List (List ℕ)) (at : ℕ) (mode : KMode) (values : List ℕ) (row : Row) : Type 0 where
@@ -225,70 +213,69 @@ row_told spec next frame line mode up values world row is same text = record {
   areas = ap (λ (r : Row). r.areas) (sym is);
 }
 
-stable_read : (spec : Parts) (next : ℕ) (line : List ℕ) (ws : List (List ℕ)) (row : Row) → length spec.factors ≤ 6 → line ≡ join_with_byte 32 ws →
-    word_at ws 0 ≡ codes "frame" → is_stable_form spec ws ≡ true → stable_row spec next ws ≡ Ok row → RowRead spec next line row
-stable_read spec next line ws row few joined_is w0 form h =
-    let b = and_parts ((length ws == 13) && is_word ws 2 (codes "stable")) (is_env_form spec ws 4) form in
-    let a = and_parts (length ws == 13) (is_word ws 2 (codes "stable")) b.0 in
-    let env = env_form spec ws 4 b.1 in
-    let c = or_rule_ok UNKNOWN_NAME (conf_named spec (word_at ws 3)) _ row h in
-    let v = or_rule_ok UNKNOWN_NAME (env_names spec ws 4) _ row c.2 in
-    let told = row_ended spec next ws 4 (Stable c.0) v.0 row v.2 in
-    let w1 : word_at ws 1 ≡ decimal told.frame = told.spelled in
-    let w2 : word_at ws 2 ≡ codes "stable" = is_text ws 2 (codes "stable") a.1 in
-    let w3 : word_at ws 3 ≡ conf_name spec c.0.0 = conf_found spec (word_at ws 3) c.0 c.1 in
-    let w4 : word_at ws 4 ≡ codes "env" = env.env in
-    let w5 : word_at ws 5 ≡ values_text spec v.0 = env_values spec ws 4 v.0 few env v.1 in
-    let w6 : word_at ws 6 ≡ codes "up" = env.up_is in
-    let w7 : word_at ws 7 ≡ up_text spec told.up = told.listed in
-    let w8 : word_at ws 8 ≡ codes "world" = env.world_is in
-    let w9 : word_at ws 9 ≡ signed_decimal told.world.alt = told.numbers.alt in
-    let w10 : word_at ws 10 ≡ signed_decimal told.world.climb = told.numbers.climb in
-    let w11 : word_at ws 11 ≡ signed_decimal told.world.heading = told.numbers.heading in
-    let w12 : word_at ws 12 ≡ signed_decimal told.world.bank = told.numbers.bank in
-    let listed : ws ≡ codes "frame" ∷ decimal told.frame ∷ codes "stable" ∷ conf_name spec c.0.0 ∷ codes "env" ∷ values_text spec v.0 ∷ codes "up" ∷ up_text spec told.up ∷ codes "world"
-    ∷ signed_decimal told.world.alt ∷ signed_decimal told.world.climb ∷ signed_decimal told.world.heading ∷ signed_decimal told.world.bank ∷ []
-    = words_listed 13 ws a.0 ∙ both w0 (both w1 (both w2 (both w3 (both w4 (both w5 (both w6 (both w7 (both w8 (both w9 (both w10 (both w11 (both w12 refl)))))))))))) in
-    row_told spec next told.frame line (Stable c.0) told.up v.0 told.world row told.row_is told.is_next
-    (sym (stable_shape (decimal told.frame) (conf_name spec c.0.0) (values_text spec v.0) (up_text spec told.up)
-    (signed_decimal told.world.alt) (signed_decimal told.world.climb) (signed_decimal told.world.heading) (signed_decimal told.world.bank))
-    ∙ ap (λ (text : List ℕ). text ++ codes "\n") (sym (joined_is ∙ ap (join_with_byte 32) listed)))
+module _ (spec : Parts) (next : ℕ) (line : List ℕ) (ws : List (List ℕ)) (row : Row) (few : length spec.factors ≤ 6) (joined_is : line ≡ join_with_byte 32 ws) (w0 : word_at ws 0 ≡ codes "frame") where
+  stable_read : is_stable_form spec ws ≡ true → stable_row spec next ws ≡ Ok row → RowRead spec next line row
+  stable_read form h =
+      let b = and_parts ((length ws == 13) && is_word ws 2 (codes "stable")) (is_env_form spec ws 4) form in
+      let a = and_parts (length ws == 13) (is_word ws 2 (codes "stable")) b.0 in
+      let env = env_form spec ws 4 b.1 in
+      let c = or_rule_ok UNKNOWN_NAME (conf_named spec (word_at ws 3)) _ row h in
+      let v = or_rule_ok UNKNOWN_NAME (env_names spec ws 4) _ row c.2 in
+      let told = row_ended spec next ws 4 (Stable c.0) v.0 row v.2 in
+      let w1 : word_at ws 1 ≡ decimal told.frame = told.spelled in
+      let w2 : word_at ws 2 ≡ codes "stable" = is_text ws 2 (codes "stable") a.1 in
+      let w3 : word_at ws 3 ≡ conf_name spec c.0.0 = conf_found spec (word_at ws 3) c.0 c.1 in
+      let w4 : word_at ws 4 ≡ codes "env" = env.env in
+      let w5 : word_at ws 5 ≡ values_text spec v.0 = env_values spec ws 4 v.0 few env v.1 in
+      let w6 : word_at ws 6 ≡ codes "up" = env.up_is in
+      let w7 : word_at ws 7 ≡ up_text spec told.up = told.listed in
+      let w8 : word_at ws 8 ≡ codes "world" = env.world_is in
+      let w9 : word_at ws 9 ≡ signed_decimal told.world.alt = told.numbers.alt in
+      let w10 : word_at ws 10 ≡ signed_decimal told.world.climb = told.numbers.climb in
+      let w11 : word_at ws 11 ≡ signed_decimal told.world.heading = told.numbers.heading in
+      let w12 : word_at ws 12 ≡ signed_decimal told.world.bank = told.numbers.bank in
+      let listed : ws ≡ codes "frame" ∷ decimal told.frame ∷ codes "stable" ∷ conf_name spec c.0.0 ∷ codes "env" ∷ values_text spec v.0 ∷ codes "up" ∷ up_text spec told.up ∷ codes "world"
+      ∷ signed_decimal told.world.alt ∷ signed_decimal told.world.climb ∷ signed_decimal told.world.heading ∷ signed_decimal told.world.bank ∷ []
+      = words_listed 13 ws a.0 ∙ both w0 (both w1 (both w2 (both w3 (both w4 (both w5 (both w6 (both w7 (both w8 (both w9 (both w10 (both w11 (both w12 refl)))))))))))) in
+      row_told spec next told.frame line (Stable c.0) told.up v.0 told.world row told.row_is told.is_next
+      (sym (stable_shape (decimal told.frame) (conf_name spec c.0.0) (values_text spec v.0) (up_text spec told.up)
+      (signed_decimal told.world.alt) (signed_decimal told.world.climb) (signed_decimal told.world.heading) (signed_decimal told.world.bank))
+      ∙ ap (λ (text : List ℕ). text ++ codes "\n") (sym (joined_is ∙ ap (join_with_byte 32) listed)))
 
-moving_read : (spec : Parts) (next : ℕ) (line : List ℕ) (ws : List (List ℕ)) (row : Row) → length spec.factors ≤ 6 → line ≡ join_with_byte 32 ws →
-    word_at ws 0 ≡ codes "frame" → is_moving_form spec ws ≡ true → moving_row spec next ws ≡ Ok row → RowRead spec next line row
-moving_read spec next line ws row few joined_is w0 form h =
-    let b = and_parts ((length ws == 16) && is_word ws 2 (codes "moving")) (is_env_form spec ws 7) form in
-    let a = and_parts (length ws == 16) (is_word ws 2 (codes "moving")) b.0 in
-    let env = env_form spec ws 7 b.1 in
-    let c = or_rule_ok UNKNOWN_NAME (conf_named spec (word_at ws 3)) _ row h in
-    let d = or_rule_ok UNKNOWN_NAME (conf_or_none spec (word_at ws 4)) _ row c.2 in
-    let e = or_rule_ok UNKNOWN_NAME (conf_named spec (word_at ws 5)) _ row d.2 in
-    let v = or_rule_ok UNKNOWN_NAME (env_names spec ws 7) _ row e.2 in
-    let s = or_rule_ok WRONG_NUMBER (spelled_number MAX_FRAMES (word_at ws 6)) _ row v.2 in
-    let told = row_ended spec next ws 7 (Moving c.0 d.0 e.0 s.0) v.0 row s.2 in
-    let w1 : word_at ws 1 ≡ decimal told.frame = told.spelled in
-    let w2 : word_at ws 2 ≡ codes "moving" = is_text ws 2 (codes "moving") a.1 in
-    let w3 : word_at ws 3 ≡ conf_name spec c.0.0 = conf_found spec (word_at ws 3) c.0 c.1 in
-    let w4 : word_at ws 4 ≡ conf_or_dash spec d.0 = conf_or_dash_found spec (word_at ws 4) d.0 d.1 in
-    let w5 : word_at ws 5 ≡ conf_name spec e.0.0 = conf_found spec (word_at ws 5) e.0 e.1 in
-    let w6 : word_at ws 6 ≡ decimal s.0 = (number_spelled MAX_FRAMES s.0 (word_at ws 6) s.1).0 in
-    let w7 : word_at ws 7 ≡ codes "env" = env.env in
-    let w8 : word_at ws 8 ≡ values_text spec v.0 = env_values spec ws 7 v.0 few env v.1 in
-    let w9 : word_at ws 9 ≡ codes "up" = env.up_is in
-    let w10 : word_at ws 10 ≡ up_text spec told.up = told.listed in
-    let w11 : word_at ws 11 ≡ codes "world" = env.world_is in
-    let w12 : word_at ws 12 ≡ signed_decimal told.world.alt = told.numbers.alt in
-    let w13 : word_at ws 13 ≡ signed_decimal told.world.climb = told.numbers.climb in
-    let w14 : word_at ws 14 ≡ signed_decimal told.world.heading = told.numbers.heading in
-    let w15 : word_at ws 15 ≡ signed_decimal told.world.bank = told.numbers.bank in
-    let listed : ws ≡ codes "frame" ∷ decimal told.frame ∷ codes "moving" ∷ conf_name spec c.0.0 ∷ conf_or_dash spec d.0 ∷ conf_name spec e.0.0 ∷ decimal s.0
-    ∷ codes "env" ∷ values_text spec v.0 ∷ codes "up" ∷ up_text spec told.up ∷ codes "world"
-    ∷ signed_decimal told.world.alt ∷ signed_decimal told.world.climb ∷ signed_decimal told.world.heading ∷ signed_decimal told.world.bank ∷ []
-    = words_listed 16 ws a.0 ∙ both w0 (both w1 (both w2 (both w3 (both w4 (both w5 (both w6 (both w7 (both w8 (both w9 (both w10 (both w11 (both w12 (both w13 (both w14 (both w15 refl))))))))))))))) in
-    row_told spec next told.frame line (Moving c.0 d.0 e.0 s.0) told.up v.0 told.world row told.row_is told.is_next
-    (sym (moving_shape (decimal told.frame) (conf_name spec c.0.0) (conf_or_dash spec d.0) (conf_name spec e.0.0) (decimal s.0) (values_text spec v.0) (up_text spec told.up)
-    (signed_decimal told.world.alt) (signed_decimal told.world.climb) (signed_decimal told.world.heading) (signed_decimal told.world.bank))
-    ∙ ap (λ (text : List ℕ). text ++ codes "\n") (sym (joined_is ∙ ap (join_with_byte 32) listed)))
+  moving_read : is_moving_form spec ws ≡ true → moving_row spec next ws ≡ Ok row → RowRead spec next line row
+  moving_read form h =
+      let b = and_parts ((length ws == 16) && is_word ws 2 (codes "moving")) (is_env_form spec ws 7) form in
+      let a = and_parts (length ws == 16) (is_word ws 2 (codes "moving")) b.0 in
+      let env = env_form spec ws 7 b.1 in
+      let c = or_rule_ok UNKNOWN_NAME (conf_named spec (word_at ws 3)) _ row h in
+      let d = or_rule_ok UNKNOWN_NAME (conf_or_none spec (word_at ws 4)) _ row c.2 in
+      let e = or_rule_ok UNKNOWN_NAME (conf_named spec (word_at ws 5)) _ row d.2 in
+      let v = or_rule_ok UNKNOWN_NAME (env_names spec ws 7) _ row e.2 in
+      let s = or_rule_ok WRONG_NUMBER (spelled_number MAX_FRAMES (word_at ws 6)) _ row v.2 in
+      let told = row_ended spec next ws 7 (Moving c.0 d.0 e.0 s.0) v.0 row s.2 in
+      let w1 : word_at ws 1 ≡ decimal told.frame = told.spelled in
+      let w2 : word_at ws 2 ≡ codes "moving" = is_text ws 2 (codes "moving") a.1 in
+      let w3 : word_at ws 3 ≡ conf_name spec c.0.0 = conf_found spec (word_at ws 3) c.0 c.1 in
+      let w4 : word_at ws 4 ≡ conf_or_dash spec d.0 = conf_or_dash_found spec (word_at ws 4) d.0 d.1 in
+      let w5 : word_at ws 5 ≡ conf_name spec e.0.0 = conf_found spec (word_at ws 5) e.0 e.1 in
+      let w6 : word_at ws 6 ≡ decimal s.0 = (number_spelled MAX_FRAMES s.0 (word_at ws 6) s.1).0 in
+      let w7 : word_at ws 7 ≡ codes "env" = env.env in
+      let w8 : word_at ws 8 ≡ values_text spec v.0 = env_values spec ws 7 v.0 few env v.1 in
+      let w9 : word_at ws 9 ≡ codes "up" = env.up_is in
+      let w10 : word_at ws 10 ≡ up_text spec told.up = told.listed in
+      let w11 : word_at ws 11 ≡ codes "world" = env.world_is in
+      let w12 : word_at ws 12 ≡ signed_decimal told.world.alt = told.numbers.alt in
+      let w13 : word_at ws 13 ≡ signed_decimal told.world.climb = told.numbers.climb in
+      let w14 : word_at ws 14 ≡ signed_decimal told.world.heading = told.numbers.heading in
+      let w15 : word_at ws 15 ≡ signed_decimal told.world.bank = told.numbers.bank in
+      let listed : ws ≡ codes "frame" ∷ decimal told.frame ∷ codes "moving" ∷ conf_name spec c.0.0 ∷ conf_or_dash spec d.0 ∷ conf_name spec e.0.0 ∷ decimal s.0
+      ∷ codes "env" ∷ values_text spec v.0 ∷ codes "up" ∷ up_text spec told.up ∷ codes "world"
+      ∷ signed_decimal told.world.alt ∷ signed_decimal told.world.climb ∷ signed_decimal told.world.heading ∷ signed_decimal told.world.bank ∷ []
+      = words_listed 16 ws a.0 ∙ both w0 (both w1 (both w2 (both w3 (both w4 (both w5 (both w6 (both w7 (both w8 (both w9 (both w10 (both w11 (both w12 (both w13 (both w14 (both w15 refl))))))))))))))) in
+      row_told spec next told.frame line (Moving c.0 d.0 e.0 s.0) told.up v.0 told.world row told.row_is told.is_next
+      (sym (moving_shape (decimal told.frame) (conf_name spec c.0.0) (conf_or_dash spec d.0) (conf_name spec e.0.0) (decimal s.0) (values_text spec v.0) (up_text spec told.up)
+      (signed_decimal told.world.alt) (signed_decimal told.world.climb) (signed_decimal told.world.heading) (signed_decimal told.world.bank))
+      ∙ ap (λ (text : List ℕ). text ++ codes "\n") (sym (joined_is ∙ ap (join_with_byte 32) listed)))
 
 forms_by : (s m : Bool) (spec : Parts) (next : ℕ) (line : List ℕ) (ws : List (List ℕ)) (row : Row) →
     (s ≡ true → stable_row spec next ws ≡ Ok row → RowRead spec next line row) → (m ≡ true → moving_row spec next ws ≡ Ok row → RowRead spec next line row) →
