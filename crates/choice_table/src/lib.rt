@@ -11,4 +11,4 @@ pub mod numbering;
 pub use choices::{choose, has_rule, has_source, runnable};
 pub use demands::{applies_from, applies_in, has_demand_in, is_met, meets_all};
 pub use environments::in_scope;
-pub use numbering::{Numbered, env_of, next_in_scope, number_of, states};
+pub use numbering::{NumberedEnv, env_of, next_in_scope, number_of, states};

@@ -11,7 +11,7 @@ use scram_types::{Env, Spec};
 
 /// An environment and its number.
 #[derive(Clone, Copy)]
-pub struct Numbered {
+pub struct NumberedEnv {
     pub number: u32,
     pub env: Env,
 }
@@ -58,7 +58,7 @@ pub fn states(spec: &Spec) -> u32
 /// Returns the environment in scope with the smallest number that is at least `low`, or `None` if there is no such
 /// environment. If a set of processors may not be down together, the function skips all environments in which exactly
 /// these processors are down.
-pub fn next_in_scope(spec: &Spec, low: u32) -> Option<Numbered>
+pub fn next_in_scope(spec: &Spec, low: u32) -> Option<NumberedEnv>
     ensures next { MatchOption result (NoneInScope spec.now low) (λ found. IsNextInScope spec.now low found.number) }
     ensures env { IfSome result (λ found. env_of spec.now found.number ≡ Some found.env) }
 {
@@ -66,7 +66,7 @@ pub fn next_in_scope(spec: &Spec, low: u32) -> Option<Numbered>
     for down in low / combinations..count_sets(spec) {
         if can_be_down(spec, down) {
             let number = low.max(down * combinations);
-            return Some(Numbered {
+            return Some(NumberedEnv {
                 number,
                 env: env_numbered(spec, number),
             });
