@@ -48,32 +48,31 @@ first_fit (rule ∷ rules) c v (suc k) d low before = by_bool (rule_fits c v rul
     let rest = first_fit rules c v k d (omega arith) (omega (arith, more)) in
     (λ fits. rw (fails) (ap suc (rest.0 fits)), λ gone. rw (fails) (let less = rest.1 gone in omega (arith, less))))
 
-pub fits_first : (rules : List Choice) (c : ConfId) (v : Env) (k : ℕ) (d : Choice) → k < length rules
-    → (nat_le k (first_rule rules c v) && rule_fits c v (get_or rules k d)) ≡ (first_rule rules c v == k)
-fits_first rules c v k d low = same_test _ _
-    (λ both. equal_test _ k ((first_fit rules c v k d low (at_most k _ (and_left (nat_le k (first_rule rules c v)) _ both))).0 (and_right (nat_le k (first_rule rules c v)) _ both)))
-    (λ here.
-    let same = equal (first_rule rules c v) k here in
-    let parts = first_fit rules c v k d low (omega arith) in
-    and_true (nat_le k (first_rule rules c v)) _ (at_most_test k _ (omega arith))
-    (by_bool (rule_fits c v (get_or rules k d)) (λ fits. fits) (λ fails. let less = parts.1 fails in absurd (omega arith))))
+module _ (rules : List Choice) (c : ConfId) (v : Env) (k : ℕ) (d : Choice) (low : k < length rules) where
+  pub fits_first : (nat_le k (first_rule rules c v) && rule_fits c v (get_or rules k d)) ≡ (first_rule rules c v == k)
+  fits_first = same_test _ _
+      (λ both. equal_test _ k ((first_fit rules c v k d low (at_most k _ (and_left (nat_le k (first_rule rules c v)) _ both))).0 (and_right (nat_le k (first_rule rules c v)) _ both)))
+      (λ here.
+      let same = equal (first_rule rules c v) k here in
+      let parts = first_fit rules c v k d low (omega arith) in
+      and_true (nat_le k (first_rule rules c v)) _ (at_most_test k _ (omega arith))
+      (by_bool (rule_fits c v (get_or rules k d)) (λ fits. fits) (λ fails. let less = parts.1 fails in absurd (omega arith))))
 
-pub rest_first : (rules : List Choice) (c : ConfId) (v : Env) (k : ℕ) (d : Choice) → k < length rules
-    → (if rule_fits c v (get_or rules k d) then 0 else once (nat_le k (first_rule rules c v))) ≡ once (nat_le (k + 1) (first_rule rules c v))
-rest_first rules c v k d low = by_bool (nat_le k (first_rule rules c v))
-    (λ before.
-    let parts = first_fit rules c v k d low (at_most k _ before) in
-    by_bool (rule_fits c v (get_or rules k d))
-    (λ fits. let same = parts.0 fits in rw (fits, above_test (k + 1) (first_rule rules c v) (omega arith)) refl)
-    (λ fails. let less = parts.1 fails in rw (fails, before, at_most_test (k + 1) (first_rule rules c v) (omega arith)) refl))
-    (λ passed.
-    let past : nat_le (k + 1) (first_rule rules c v) ≡ false = by_bool (nat_le (k + 1) (first_rule rules c v))
-    (λ more. let less = at_most (k + 1) _ more in let clash : true ≡ false = sym (at_most_test k (first_rule rules c v) (omega arith)) ∙ passed in absurd (cc)) (λ e. e) in
-    rw (passed, past) (none (rule_fits c v (get_or rules k d))))
-  where
-    none : (b : Bool) → (if b then 0 else once false) ≡ once false
-    none true = refl
-    none false = refl
+  pub rest_first : (if rule_fits c v (get_or rules k d) then 0 else once (nat_le k (first_rule rules c v))) ≡ once (nat_le (k + 1) (first_rule rules c v))
+  rest_first = by_bool (nat_le k (first_rule rules c v))
+      (λ before.
+      let parts = first_fit rules c v k d low (at_most k _ before) in
+      by_bool (rule_fits c v (get_or rules k d))
+      (λ fits. let same = parts.0 fits in rw (fits, above_test (k + 1) (first_rule rules c v) (omega arith)) refl)
+      (λ fails. let less = parts.1 fails in rw (fails, before, at_most_test (k + 1) (first_rule rules c v) (omega arith)) refl))
+      (λ passed.
+      let past : nat_le (k + 1) (first_rule rules c v) ≡ false = by_bool (nat_le (k + 1) (first_rule rules c v))
+      (λ more. let less = at_most (k + 1) _ more in let clash : true ≡ false = sym (at_most_test k (first_rule rules c v) (omega arith)) ∙ passed in absurd (cc)) (λ e. e) in
+      rw (passed, past) (none (rule_fits c v (get_or rules k d))))
+    where
+      none : (b : Bool) → (if b then 0 else once false) ≡ once false
+      none true = refl
+      none false = refl
 
 pub last_rule : (rules : List Choice) (c : ConfId) (v : Env) (k : ℕ) → length rules ≤ k → k ≤ length rules → nat_le k (first_rule rules c v) ≡ (first_rule rules c v == k)
 last_rule rules c v k past low = let most = ruled_below rules c v in same_test _ _

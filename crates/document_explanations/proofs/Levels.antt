@@ -30,14 +30,12 @@ above_more level (next ∷ levels) w some = refl
 
 -- The expected value along all levels of a text, or along all but the last, is reached by descending the first level
 -- and then the others.
-pub step_whole : (text level rest : List ℕ) (w : Wanted) → pieces_of 46 text ≡ level ∷ pieces_of 46 rest
-    → wanted_along (pieces_of 46 text) w ≡ option_and_then (wanted_along (pieces_of 46 rest)) (wanted_below w level)
-step_whole text level rest w pieces = ap (λ (levels : List (List ℕ)). wanted_along levels w) pieces
+module _ (text level rest : List ℕ) (w : Wanted) (pieces : pieces_of 46 text ≡ level ∷ pieces_of 46 rest) where
+  pub step_whole : wanted_along (pieces_of 46 text) w ≡ option_and_then (wanted_along (pieces_of 46 rest)) (wanted_below w level)
+  step_whole = ap (λ (levels : List (List ℕ)). wanted_along levels w) pieces
 
-pub step_above : (text level rest : List ℕ) (w : Wanted) → pieces_of 46 text ≡ level ∷ pieces_of 46 rest
-    → wanted_along (all_but_last (pieces_of 46 text)) w ≡ option_and_then (wanted_along (all_but_last (pieces_of 46 rest))) (wanted_below w level)
-step_above text level rest w pieces =
-    ap (λ (levels : List (List ℕ)). wanted_along (all_but_last levels) w) pieces ∙ above_more level (pieces_of 46 rest) w (some_piece 46 rest)
+  pub step_above : wanted_along (all_but_last (pieces_of 46 text)) w ≡ option_and_then (wanted_along (all_but_last (pieces_of 46 rest))) (wanted_below w level)
+  step_above = ap (λ (levels : List (List ℕ)). wanted_along (all_but_last levels) w) pieces ∙ above_more level (pieces_of 46 rest) w (some_piece 46 rest)
 
 -- If a path does not begin with a dot, `after_dot` is the empty text.
 pub no_dot_first : (path : List ℕ) → ((rest : List ℕ) → path ≢ 46 ∷ rest) → after_dot path ≡ []

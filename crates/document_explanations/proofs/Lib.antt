@@ -1,7 +1,6 @@
 pub mod CharCounts
 pub mod Examples
 pub mod Explained
-pub mod ExplainedReading
 pub mod Floats
 pub mod Joining
 pub mod Levels

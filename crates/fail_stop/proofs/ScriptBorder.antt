@@ -112,42 +112,40 @@ pub committed_same : (spec : Parts) (script : ScriptParts) → Fits spec script 
 unfolding is_committed
 committed_same spec script fits p f = ap (λ (b : Bool). is_up script p f && b) (mark_reached (words spec) (halt_in script p f)) ∙ sym (commits_by spec script fits p f)
 
--- Proof that the flight of a script has the images of the one-thread trace.
-
 image_more : (spec : Parts) (script : ScriptParts) (p f : ℕ) → commits spec script p f ≡ true → image_after spec script p (suc f) ≡ draft spec script p f
 image_more spec script p f c = rw c refl
 
 image_stays : (spec : Parts) (script : ScriptParts) (p f : ℕ) → commits spec script p f ≡ false → image_after spec script p (suc f) ≡ image_after spec script p f
 image_stays spec script p f c = rw c refl
 
-images_next : (spec : Parts) (script : ScriptParts) → Fits spec script → (p f : ℕ) (b : Bool) → commits spec script p f ≡ b
-    → image_before (flight_of spec script) p f ≡ image_words_after spec script p f → image_before (flight_of spec script) p (suc f) ≡ image_words_after spec script p (suc f)
-images_next spec script fits p f true c rest =
-    img_yes (flight_of spec script) p f (committed_same spec script fits p f ∙ c) ∙ ap image_words (sym (image_more spec script p f c))
-images_next spec script fits p f false c rest =
-    img_no (flight_of spec script) p f (committed_same spec script fits p f ∙ c) ∙ rest ∙ ap image_words (sym (image_stays spec script p f c))
+-- Proof that the flight of a script has the images and the marks of the one-thread trace. Each lemma `.._next` is on
+-- a frame `f` in which processor `p` commits if and only if `b` is `true`.
+
+module _ (spec : Parts) (script : ScriptParts) (fits : Fits spec script) (p f : ℕ) where
+  images_next : (b : Bool) → commits spec script p f ≡ b → image_before (flight_of spec script) p f ≡ image_words_after spec script p f
+      → image_before (flight_of spec script) p (suc f) ≡ image_words_after spec script p (suc f)
+  images_next true c rest = img_yes (flight_of spec script) p f (committed_same spec script fits p f ∙ c) ∙ ap image_words (sym (image_more spec script p f c))
+  images_next false c rest = img_no (flight_of spec script) p f (committed_same spec script fits p f ∙ c) ∙ rest ∙ ap image_words (sym (image_stays spec script p f c))
+
+  sides_next : (b : Bool) → commits spec script p f ≡ b → side (flight_of spec script) p f ≡ image_bank_after spec script p f
+      → side (flight_of spec script) p (suc f) ≡ image_bank_after spec script p (suc f)
+  sides_next true c rest = side_yes (flight_of spec script) p f (committed_same spec script fits p f ∙ c) ∙ rw (c, rest) refl
+  sides_next false c rest = side_no (flight_of spec script) p f (committed_same spec script fits p f ∙ c) ∙ rw (c, rest) refl
+
+  counts_next : (b : Bool) → commits spec script p f ≡ b → last_commit (flight_of spec script) p f ≡ last_count spec script p f
+      → last_commit (flight_of spec script) p (suc f) ≡ last_count spec script p (suc f)
+  counts_next true c rest = last_yes (flight_of spec script) p f (committed_same spec script fits p f ∙ c) ∙ rw c refl
+  counts_next false c rest = last_no (flight_of spec script) p f (committed_same spec script fits p f ∙ c) ∙ rw (c, rest) refl
 
 pub images_same : (spec : Parts) (script : ScriptParts) → Fits spec script → (p f : ℕ) → image_before (flight_of spec script) p f ≡ image_words_after spec script p f
 unfolding image_before
 images_same spec script fits p zero = refl
 images_same spec script fits p (suc f) = images_next spec script fits p f (commits spec script p f) refl (images_same spec script fits p f)
 
--- Proof that the flight of a script has the marks of the one-thread trace.
-
-sides_next : (spec : Parts) (script : ScriptParts) → Fits spec script → (p f : ℕ) (b : Bool) → commits spec script p f ≡ b
-    → side (flight_of spec script) p f ≡ image_bank_after spec script p f → side (flight_of spec script) p (suc f) ≡ image_bank_after spec script p (suc f)
-sides_next spec script fits p f true c rest = side_yes (flight_of spec script) p f (committed_same spec script fits p f ∙ c) ∙ rw (c, rest) refl
-sides_next spec script fits p f false c rest = side_no (flight_of spec script) p f (committed_same spec script fits p f ∙ c) ∙ rw (c, rest) refl
-
 pub sides_same : (spec : Parts) (script : ScriptParts) → Fits spec script → (p f : ℕ) → side (flight_of spec script) p f ≡ image_bank_after spec script p f
 unfolding side
 sides_same spec script fits p zero = refl
 sides_same spec script fits p (suc f) = sides_next spec script fits p f (commits spec script p f) refl (sides_same spec script fits p f)
-
-counts_next : (spec : Parts) (script : ScriptParts) → Fits spec script → (p f : ℕ) (b : Bool) → commits spec script p f ≡ b
-    → last_commit (flight_of spec script) p f ≡ last_count spec script p f → last_commit (flight_of spec script) p (suc f) ≡ last_count spec script p (suc f)
-counts_next spec script fits p f true c rest = last_yes (flight_of spec script) p f (committed_same spec script fits p f ∙ c) ∙ rw c refl
-counts_next spec script fits p f false c rest = last_no (flight_of spec script) p f (committed_same spec script fits p f ∙ c) ∙ rw (c, rest) refl
 
 counts_same : (spec : Parts) (script : ScriptParts) → Fits spec script → (p f : ℕ) → last_commit (flight_of spec script) p f ≡ last_count spec script p f
 unfolding last_commit

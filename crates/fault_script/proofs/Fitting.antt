@@ -93,32 +93,30 @@ pub record Read {A : Type 0} (Good : List A → Type 0) (count : ℕ) (xs : List
   pub good : Good xs
   pub count_is : length xs ≡ count
 
--- If each element that is read keeps a property of the elements before it, the whole list has the property.
-elements_ok : {A : Type 0} (Good : List A → Type 0) (read : List ℕ → List A → Data → Result A DocFault)
-    → ((at : List ℕ) (before : List A) (x : A) (d : Data) → Good before → read at before d ≡ Ok x → Good (before ++ x ∷ []))
-    → (at : List ℕ) (i : ℕ) (before xs : List A) (ds : Items) → Good before → elements_from read at i before ds ≡ Ok xs → Read Good (length before + items_len ds) xs
-elements_ok Good read more at i before xs no_items good e =
-    let same : before ≡ xs = cc in let long = ap length same in
-    record { good = subst Good same good; count_is = omega (arith, long) }
-elements_ok Good read more at i before xs (item d ds) good e =
-    chain_ok (read (item_path at i) before d) _ xs e (λ x is rest.
-    let next = elements_ok Good read more at (suc i) (before ++ x ∷ []) xs ds (more (item_path at i) before x d good is) rest in
-    let long = length-append before (x ∷ []) in let count = next.count_is in
-    record { good = next.good; count_is = omega (arith, long, count) })
-
 -- A list that was read has the property `Good` and at most `most` items.
 pub record Listed {A : Type 0} (Good : List A → Type 0) (most : ℕ) (xs : List A) : Type 0 where
   pub good : Good xs
   pub few : length xs ≤ most
 
-list_ok : {A : Type 0} (Good : List A → Type 0) (read : List ℕ → List A → Data → Result A DocFault)
-    → ((at : List ℕ) (before : List A) (x : A) (d : Data) → Good before → read at before d ≡ Ok x → Good (before ++ x ∷ []))
-    → (most : ℕ) (at : List ℕ) (d : Data) (xs : List A) → Good [] → elements_at read 0 most at d ≡ Ok xs → Listed Good most xs
-list_ok Good read more most at d xs none e = chain_ok (list_at 0 most at d) _ xs e (λ ds is rest.
-    let short = list_at_ok 0 most at d ds is in
-    let all = elements_ok Good read more at 0 [] xs ds none rest in
-    let count = all.count_is in
-    record { good = all.good; few = omega (arith, short, count) })
+-- If each element that is read keeps a property of the elements before it, the whole list has the property.
+module _ {A : Type 0} (Good : List A → Type 0) (read : List ℕ → List A → Data → Result A DocFault)
+  (more : (at : List ℕ) (before : List A) (x : A) (d : Data) → Good before → read at before d ≡ Ok x → Good (before ++ x ∷ [])) where
+  elements_ok : (at : List ℕ) (i : ℕ) (before xs : List A) (ds : Items) → Good before → elements_from read at i before ds ≡ Ok xs → Read Good (length before + items_len ds) xs
+  elements_ok at i before xs no_items good e =
+      let same : before ≡ xs = cc in let long = ap length same in
+      record { good = subst Good same good; count_is = omega (arith, long) }
+  elements_ok at i before xs (item d ds) good e =
+      chain_ok (read (item_path at i) before d) _ xs e (λ x is rest.
+      let next = elements_ok at (suc i) (before ++ x ∷ []) xs ds (more (item_path at i) before x d good is) rest in
+      let long = length-append before (x ∷ []) in let count = next.count_is in
+      record { good = next.good; count_is = omega (arith, long, count) })
+
+  list_ok : (most : ℕ) (at : List ℕ) (d : Data) (xs : List A) → Good [] → elements_at read 0 most at d ≡ Ok xs → Listed Good most xs
+  list_ok most at d xs none e = chain_ok (list_at 0 most at d) _ xs e (λ ds is rest.
+      let short = list_at_ok 0 most at d ds is in
+      let all = elements_ok at 0 [] xs ds none rest in
+      let count = all.count_is in
+      record { good = all.good; few = omega (arith, short, count) })
 
 next_change_ok : (spec : Parts) (frames : ℕ) (at : List ℕ) (before : List Change) (c : Change) (d : Data) → GoodChanges spec frames before
     → read_next_change spec frames at before d ≡ Ok c → GoodChanges spec frames (before ++ c ∷ [])

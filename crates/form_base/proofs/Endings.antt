@@ -235,19 +235,16 @@ zero_answer : (A : Answer) (Assures : History → List ℕ → Type 0) (names : 
 zero_answer A Assures names before after reads code status text law zero same (inl is) = law before after reads text (rw (sym same ∙ zero) at is)
 zero_answer A Assures names before after reads code status text law zero same (inr is) = absurd (omega (arith, zero, same, is.0.0))
 
-assured_by : (A : Answer) (Assures : History → List ℕ → Type 0) (names : List (List ℕ)) (before after : FilesState) (old new : SinkState) (code : ℕ)
-    (ends : Ends A names before after (IsSent old new code)) → IsAssuring A Assures → code ≡ ANSWERED
-    → ((code ≡ ends.status) × WentOut old new ends.text) ⊎ ((code ≡ UNWRITTEN_OUTPUT) × StoppedIn old new ends.text)
-    → Assured Assures before after (WentOut old new)
-assured_by A Assures names before after old new code ends law zero (inl is) = record {
-  reads = ends.decides.reads;
-  text = ends.text;
-  grew = ends.decides.grew;
-  assures = zero_answer A Assures names before after ends.decides.reads code ends.status ends.text law zero is.0 ends.decides.answer;
-  shown = is.1;
-}
-assured_by A Assures names before after old new code ends law zero (inr is) = absurd (omega (arith, zero, is.0))
-
 pub assured_of : (A : Answer) (Assures : History → List ℕ → Type 0) (names : List (List ℕ)) (before after : FilesState) (old new : SinkState) (code : ℕ)
     → IsAssuring A Assures → Ends A names before after (IsSent old new code) → code ≡ ANSWERED → Assured Assures before after (WentOut old new)
-assured_of A Assures names before after old new code law ends zero = assured_by A Assures names before after old new code ends law zero ends.shown.shown
+assured_of A Assures names before after old new code law ends zero = by_printing ends.shown.shown
+  where
+    by_printing : ((code ≡ ends.status) × WentOut old new ends.text) ⊎ ((code ≡ UNWRITTEN_OUTPUT) × StoppedIn old new ends.text) → Assured Assures before after (WentOut old new)
+    by_printing (inl is) = record {
+      reads = ends.decides.reads;
+      text = ends.text;
+      grew = ends.decides.grew;
+      assures = zero_answer A Assures names before after ends.decides.reads code ends.status ends.text law zero is.0 ends.decides.answer;
+      shown = is.1;
+    }
+    by_printing (inr is) = absurd (omega (arith, zero, is.0))

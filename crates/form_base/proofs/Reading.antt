@@ -95,85 +95,76 @@ told_ends A files old new code below tells = record {
 rose_since : (before between now : ℕ) → before ≤ between → Rose between now → Rose before now
 rose_since before between now count rose = omega (arith, count, rose)
 
-first_answer : {T : Type 0} (Says : T → List ℕ → Type 0) (Breaks : ℕ × List ℕ → List ℕ → Type 0) (limit : ℕ) (long : ℕ × List ℕ) (name : List ℕ) (names : List (List ℕ)) (Then : T → Answer)
-    (value : T) (before mid after : FilesState) (has : HasRead limit name (Says value) before mid) (reads : History) (status : ℕ) (text : List ℕ) → Then value mid after reads status text
-    → AnswersFile limit long name (AnswersDocument Says Breaks Then) before after ((name, has.bytes) ∷ reads) status text
-first_answer {T} Says Breaks limit long name names Then value before mid after has reads status text is =
-    inl (record { bytes = has.bytes; rest = reads; first = refl; fits = has.fits; between = mid; grew = has.grew; answers = inl (value, has.fact, is) })
-
 turn_first : (name bytes : List ℕ) (names : List (List ℕ)) (reads : History) → AreInTurn names reads → AreInTurn (name ∷ names) ((name, bytes) ∷ reads)
 turn_first name bytes names reads turn = (turn.0, ap (λ (more : List (List ℕ)). name ∷ more) turn.1)
-
-first_decided : {T : Type 0} (Says : T → List ℕ → Type 0) (Breaks : ℕ × List ℕ → List ℕ → Type 0) (limit : ℕ) (long : ℕ × List ℕ) (name : List ℕ) (names : List (List ℕ)) (Then : T → Answer)
-    (value : T) (before mid after : FilesState) (has : HasRead limit name (Says value) before mid) (reads : History) (status : ℕ) (text : List ℕ)
-    → Then value mid after reads status text ⊎ (IsMemoryRefusal status text × AreInTurn names reads)
-    → AnswersFile limit long name (AnswersDocument Says Breaks Then) before after ((name, has.bytes) ∷ reads) status text
-    ⊎ (IsMemoryRefusal status text × AreInTurn (name ∷ names) ((name, has.bytes) ∷ reads))
-first_decided {T} Says Breaks limit long name names Then value before mid after has reads status text (inl is) =
-    inl (first_answer Says Breaks limit long name names Then value before mid after has reads status text is)
-first_decided {T} Says Breaks limit long name names Then value before mid after has reads status text (inr is) = inr (is.0, turn_first name has.bytes names reads is.1)
-
--- If a document was read and the answer to its value was prepared, the answer to the document is prepared.
-pub document_reads : {T U : Type 0} (Says : T → List ℕ → Type 0) (Breaks : ℕ × List ℕ → List ℕ → Type 0) (limit : ℕ) (long : ℕ × List ℕ) (name : List ℕ) (names : List (List ℕ)) (Then : T → Answer)
-    (Rest : U → ℕ → List ℕ → Type 0) (value : T) (before mid after : FilesState) (result : Result U Refusal)
-    → HasRead limit name (Says value) before mid → StaysSteady before mid name → Prepares (Then value) Rest names mid after result
-    → Prepares (AnswersFile limit long name (AnswersDocument Says Breaks Then)) Rest (name ∷ names) before after result
-document_reads {T} {U} Says Breaks limit long name names Then Rest value before mid after (Ok rest) has steady finds = record {
-  reads = (name, has.bytes) ∷ finds.reads;
-  grew = grew_more before mid after ((name, has.bytes) ∷ []) finds.reads has.grew finds.grew;
-  quiet = quiet_since name names before mid after ((name, has.bytes) ∷ []) has.grew steady finds.quiet;
-  turn = turn_first name has.bytes names finds.reads finds.turn;
-  answers = λ status text is. first_answer Says Breaks limit long name names Then value before mid after has finds.reads status text (finds.answers status text is);
-}
-document_reads {T} {U} Says Breaks limit long name names Then Rest value before mid after (Err refusal) has steady decides = record {
-  reads = (name, has.bytes) ∷ decides.reads;
-  grew = grew_more before mid after ((name, has.bytes) ∷ []) decides.reads has.grew decides.grew;
-  quiet = quiet_since name names before mid after ((name, has.bytes) ∷ []) has.grew steady decides.quiet;
-  answer = first_decided Says Breaks limit long name names Then value before mid after has decides.reads (answer_of refusal).0 (answer_of refusal).1 decides.answer;
-  unread = λ same. rose_since before.faults mid.faults after.faults has.grew.count (decides.unread same);
-}
-
--- Lemmas on answers to a first file that was not loaded.
-
-record Unloaded {T : Type 0} (Says : T → List ℕ → Type 0) (Breaks : ℕ × List ℕ → List ℕ → Type 0) (limit : ℕ) (long : ℕ × List ℕ) (name : List ℕ) (names : List (List ℕ)) (Then : T → Answer)
-    (before after : FilesState) (status : ℕ) (text : List ℕ) : Type 0 where
-  reads : History
-  grew : Grew before after reads
-  answer : AnswersFile limit long name (AnswersDocument Says Breaks Then) before after reads status text ⊎ (IsMemoryRefusal status text × AreInTurn (name ∷ names) reads)
 
 pub memory_refusal : (refusal : ℕ × List ℕ) → IsOutOfMemory refusal → IsMemoryRefusal refusal.0 refusal.1
 memory_refusal refusal is = (ap (λ (told : ℕ × List ℕ). told.0) is, ap (λ (told : ℕ × List ℕ). told.1) is)
 
-memory_unloaded : {T : Type 0} (Says : T → List ℕ → Type 0) (Breaks : ℕ × List ℕ → List ℕ → Type 0) (limit : ℕ) (long : ℕ × List ℕ) (name : List ℕ) (names : List (List ℕ)) (Then : T → Answer)
-    (before after : FilesState) (refusal : ℕ × List ℕ) → IsOutOfMemory refusal → Grew before after [] ⊎ HasRead limit name (λ (bytes : List ℕ). ⊤) before after
-    → Unloaded Says Breaks limit long name names Then before after refusal.0 refusal.1
-memory_unloaded {T} Says Breaks limit long name names Then before after refusal is (inl grew) =
-    record { reads = []; grew = grew; answer = inr (memory_refusal refusal is, (name ∷ names, refl)) }
-memory_unloaded {T} Says Breaks limit long name names Then before after refusal is (inr has) =
-    record { reads = (name, has.bytes) ∷ []; grew = has.grew; answer = inr (memory_refusal refusal is, (names, refl)) }
+module _ {T : Type 0} (Says : T → List ℕ → Type 0) (Breaks : ℕ × List ℕ → List ℕ → Type 0) (limit : ℕ) (long : ℕ × List ℕ) (name : List ℕ) (names : List (List ℕ)) (Then : T → Answer) where
+  -- The answer to the file `name`, which holds a document. `Then` is the answer to the document's value.
+  abbrev AsksFile : Answer
+  AsksFile = AnswersFile limit long name (AnswersDocument Says Breaks Then)
 
-unloaded : {T : Type 0} (Says : T → List ℕ → Type 0) (Breaks : ℕ × List ℕ → List ℕ → Type 0) (limit : ℕ) (long : ℕ × List ℕ) (name : List ℕ) (names : List (List ℕ)) (Then : T → Answer)
-    (before after : FilesState) (refusal : ℕ × List ℕ) → IsUnloaded Breaks limit long name before after refusal
-    → Unloaded Says Breaks limit long name names Then before after refusal.0 refusal.1
-unloaded {T} Says Breaks limit long name names Then before after refusal (inl has) = record {
-  reads = (name, has.bytes) ∷ [];
-  grew = has.grew;
-  answer = inl (inl (record { bytes = has.bytes; rest = []; first = refl; fits = has.fits; between = after; grew = has.grew; answers = inr (refl, has.fact) }));
-}
-unloaded {T} Says Breaks limit long name names Then before after refusal (inr (inl is)) = record {
-  reads = (name, is.0.bytes) ∷ [];
-  grew = is.0.grew;
-  answer = inl (inr (inl (record { bytes = is.0.bytes; read = refl; longer = is.0.longer; counted = is.0.counted; gives = sym is.1 })));
-}
-unloaded {T} Says Breaks limit long name names Then before after refusal (inr (inr (inl is))) =
-    record { reads = []; grew = is.0; answer = inl (inr (inr (refl, is.1, sym is.2))) }
-unloaded {T} Says Breaks limit long name names Then before after refusal (inr (inr (inr is))) =
-    memory_unloaded Says Breaks limit long name names Then before after refusal is.1 is.0
+  first_answer : (value : T) (before mid after : FilesState) (has : HasRead limit name (Says value) before mid) (reads : History) (status : ℕ) (text : List ℕ)
+      → Then value mid after reads status text → AsksFile before after ((name, has.bytes) ∷ reads) status text
+  first_answer value before mid after has reads status text is =
+      inl (record { bytes = has.bytes; rest = reads; first = refl; fits = has.fits; between = mid; grew = has.grew; answers = inl (value, has.fact, is) })
 
-pub refused_reads : {T : Type 0} (Says : T → List ℕ → Type 0) (Breaks : ℕ × List ℕ → List ℕ → Type 0) (limit : ℕ) (long : ℕ × List ℕ) (name : List ℕ) (names : List (List ℕ)) (Then : T → Answer)
-    (before after : FilesState) (refusal : Refusal) → IsUnloaded Breaks limit long name before after (answer_of refusal) → StaysSteady before after name
-    → ((answer_of refusal).0 ≡ UNREAD_FILE → Rose before.faults after.faults)
-    → Decides (AnswersFile limit long name (AnswersDocument Says Breaks Then)) (name ∷ names) before after (answer_of refusal).0 (answer_of refusal).1
-refused_reads {T} Says Breaks limit long name names Then before after refusal is steady unread =
-    let found = unloaded Says Breaks limit long name names Then before after (answer_of refusal) is in
-    record { reads = found.reads; grew = found.grew; quiet = quiet_last name names before after steady; answer = found.answer; unread = unread }
+  first_decided : (value : T) (before mid after : FilesState) (has : HasRead limit name (Says value) before mid) (reads : History) (status : ℕ) (text : List ℕ)
+      → Then value mid after reads status text ⊎ (IsMemoryRefusal status text × AreInTurn names reads)
+      → AsksFile before after ((name, has.bytes) ∷ reads) status text ⊎ (IsMemoryRefusal status text × AreInTurn (name ∷ names) ((name, has.bytes) ∷ reads))
+  first_decided value before mid after has reads status text (inl is) = inl (first_answer value before mid after has reads status text is)
+  first_decided value before mid after has reads status text (inr is) = inr (is.0, turn_first name has.bytes names reads is.1)
+
+  -- If a document was read and the answer to its value was prepared, the answer to the document is prepared.
+  pub document_reads : {U : Type 0} (Rest : U → ℕ → List ℕ → Type 0) (value : T) (before mid after : FilesState) (result : Result U Refusal)
+      → HasRead limit name (Says value) before mid → StaysSteady before mid name → Prepares (Then value) Rest names mid after result
+      → Prepares AsksFile Rest (name ∷ names) before after result
+  document_reads Rest value before mid after (Ok rest) has steady finds = record {
+    reads = (name, has.bytes) ∷ finds.reads;
+    grew = grew_more before mid after ((name, has.bytes) ∷ []) finds.reads has.grew finds.grew;
+    quiet = quiet_since name names before mid after ((name, has.bytes) ∷ []) has.grew steady finds.quiet;
+    turn = turn_first name has.bytes names finds.reads finds.turn;
+    answers = λ status text is. first_answer value before mid after has finds.reads status text (finds.answers status text is);
+  }
+  document_reads Rest value before mid after (Err refusal) has steady decides = record {
+    reads = (name, has.bytes) ∷ decides.reads;
+    grew = grew_more before mid after ((name, has.bytes) ∷ []) decides.reads has.grew decides.grew;
+    quiet = quiet_since name names before mid after ((name, has.bytes) ∷ []) has.grew steady decides.quiet;
+    answer = first_decided value before mid after has decides.reads (answer_of refusal).0 (answer_of refusal).1 decides.answer;
+    unread = λ same. rose_since before.faults mid.faults after.faults has.grew.count (decides.unread same);
+  }
+
+  -- Lemmas on answers to a first file that was not loaded.
+
+  record Unloaded (before after : FilesState) (status : ℕ) (text : List ℕ) : Type 0 where
+    reads : History
+    grew : Grew before after reads
+    answer : AsksFile before after reads status text ⊎ (IsMemoryRefusal status text × AreInTurn (name ∷ names) reads)
+
+  memory_unloaded : (before after : FilesState) (refusal : ℕ × List ℕ) → IsOutOfMemory refusal → Grew before after [] ⊎ HasRead limit name (λ (bytes : List ℕ). ⊤) before after
+      → Unloaded before after refusal.0 refusal.1
+  memory_unloaded before after refusal is (inl grew) = record { reads = []; grew = grew; answer = inr (memory_refusal refusal is, (name ∷ names, refl)) }
+  memory_unloaded before after refusal is (inr has) = record { reads = (name, has.bytes) ∷ []; grew = has.grew; answer = inr (memory_refusal refusal is, (names, refl)) }
+
+  unloaded : (before after : FilesState) (refusal : ℕ × List ℕ) → IsUnloaded Breaks limit long name before after refusal → Unloaded before after refusal.0 refusal.1
+  unloaded before after refusal (inl has) = record {
+    reads = (name, has.bytes) ∷ [];
+    grew = has.grew;
+    answer = inl (inl (record { bytes = has.bytes; rest = []; first = refl; fits = has.fits; between = after; grew = has.grew; answers = inr (refl, has.fact) }));
+  }
+  unloaded before after refusal (inr (inl is)) = record {
+    reads = (name, is.0.bytes) ∷ [];
+    grew = is.0.grew;
+    answer = inl (inr (inl (record { bytes = is.0.bytes; read = refl; longer = is.0.longer; counted = is.0.counted; gives = sym is.1 })));
+  }
+  unloaded before after refusal (inr (inr (inl is))) = record { reads = []; grew = is.0; answer = inl (inr (inr (refl, is.1, sym is.2))) }
+  unloaded before after refusal (inr (inr (inr is))) = memory_unloaded before after refusal is.1 is.0
+
+  pub refused_reads : (before after : FilesState) (refusal : Refusal) → IsUnloaded Breaks limit long name before after (answer_of refusal) → StaysSteady before after name
+      → ((answer_of refusal).0 ≡ UNREAD_FILE → Rose before.faults after.faults)
+      → Decides AsksFile (name ∷ names) before after (answer_of refusal).0 (answer_of refusal).1
+  refused_reads before after refusal is steady unread =
+      let found = unloaded before after (answer_of refusal) is in
+      record { reads = found.reads; grew = found.grew; quiet = quiet_last name names before after steady; answer = found.answer; unread = unread }

@@ -42,21 +42,20 @@ up_given spec facts script f sys is =
     let few = facts.procs_count.few in
     ap (λ (v : Env). bit_and v.up (bit_not w8 (bit_or (input_at spec script f).early (input_at spec script f).late))) (env_given spec script f sys is) ∙ up_next spec script f few
 
-pub row_is : (spec : Parts) → IsSpec spec → (script : ScriptParts) (sys : Sys) (walk : Walk) → StandsBefore spec script sys.frame sys walk
-    → row_given spec sys (input_at spec script sys.frame) ≡ row_at spec script sys.frame
-row_is spec facts script sys walk stands =
-    row_same spec facts sys.frame (frame_env sys (input_at spec script sys.frame)) (commits_in sys (input_at spec script sys.frame)) (λ p. commits spec script p sys.frame) (state_of sys)
-    (agree_given spec facts script sys.frame sys stands.up)
-    ∙ ap (λ v. row_of spec sys.frame v (λ p. commits spec script p sys.frame) (state_of sys)) (env_given spec script sys.frame sys stands.up)
-    ∙ ap (row_of spec sys.frame (env_at spec script sys.frame) (λ p. commits spec script p sys.frame)) stands.state
+module _ (spec : Parts) (facts : IsSpec spec) (script : ScriptParts) (sys : Sys) (walk : Walk) (stands : StandsBefore spec script sys.frame sys walk) where
+  pub row_is : row_given spec sys (input_at spec script sys.frame) ≡ row_at spec script sys.frame
+  row_is =
+      row_same spec facts sys.frame (frame_env sys (input_at spec script sys.frame)) (commits_in sys (input_at spec script sys.frame)) (λ p. commits spec script p sys.frame) (state_of sys)
+      (agree_given spec facts script sys.frame sys stands.up)
+      ∙ ap (λ v. row_of spec sys.frame v (λ p. commits spec script p sys.frame) (state_of sys)) (env_given spec script sys.frame sys stands.up)
+      ∙ ap (row_of spec sys.frame (env_at spec script sys.frame) (λ p. commits spec script p sys.frame)) stands.state
 
-state_is : (spec : Parts) → IsSpec spec → (script : ScriptParts) (sys : Sys) (walk : Walk) → StandsBefore spec script sys.frame sys walk
-    → state_given spec sys (input_at spec script sys.frame) ≡ state_after spec script (suc sys.frame)
-state_is spec facts script sys walk stands =
-    step_same spec facts sys.frame (frame_env sys (input_at spec script sys.frame)) (commits_in sys (input_at spec script sys.frame)) (λ p. commits spec script p sys.frame) (state_of sys)
-    (agree_given spec facts script sys.frame sys stands.up)
-    ∙ ap (λ v. step spec sys.frame v (λ p. commits spec script p sys.frame) (state_of sys)) (env_given spec script sys.frame sys stands.up)
-    ∙ ap (step spec sys.frame (env_at spec script sys.frame) (λ p. commits spec script p sys.frame)) stands.state
+  state_is : state_given spec sys (input_at spec script sys.frame) ≡ state_after spec script (suc sys.frame)
+  state_is =
+      step_same spec facts sys.frame (frame_env sys (input_at spec script sys.frame)) (commits_in sys (input_at spec script sys.frame)) (λ p. commits spec script p sys.frame) (state_of sys)
+      (agree_given spec facts script sys.frame sys stands.up)
+      ∙ ap (λ v. step spec sys.frame v (λ p. commits spec script p sys.frame) (state_of sys)) (env_given spec script sys.frame sys stands.up)
+      ∙ ap (step spec sys.frame (env_at spec script sys.frame) (λ p. commits spec script p sys.frame)) stands.state
 
 stands_next : (spec : Parts) → IsSpec spec → (script : ScriptParts) (sys : Sys) (old new : Walk) → StandsBefore spec script sys.frame sys old → IsWalk spec script (suc sys.frame) new
     → StandsBefore spec script (suc sys.frame) (sys_after spec sys (input_at spec script sys.frame)) new

@@ -96,40 +96,40 @@ left_row spec c g left out = rw out refl
 
 -- If each row before a row runs `c` and the row itself does not, the reading after the row is `Leaving`, with `c` and
 -- the frame of the row.
-leaves_ended : (spec : Parts) (c : ConfId) (f : ℕ) (before : List Row) (left : Row) (on : List Row) → All (Runs spec c) before → runs spec left.acts c ≡ false
-    → ended_in spec (Steady c) f (before ++ (left ∷ on)) ≡ ended_in spec (Leaving c (f + length before)) (suc (f + length before)) on
-leaves_ended spec c f before left on all out =
-    ended_append spec (Steady c) f before (left ∷ on)
-    ∙ ap (λ l. l ++ ended_in spec (reading_after spec (Steady c) f before) (f + length before) (left ∷ on)) (quiet_ended spec c f before all)
-    ∙ ap (λ r. ended_in spec r (f + length before) (left ∷ on)) (quiet_reading spec c f before all)
-    ∙ ap (λ r. ended_in spec r (suc (f + length before)) on) (left_row spec c (f + length before) left out)
+module _ (spec : Parts) (c : ConfId) (f : ℕ) (before : List Row) (left : Row) (on : List Row) (all : All (Runs spec c) before) (out : runs spec left.acts c ≡ false) where
+  leaves_ended : ended_in spec (Steady c) f (before ++ (left ∷ on)) ≡ ended_in spec (Leaving c (f + length before)) (suc (f + length before)) on
+  leaves_ended =
+      ended_append spec (Steady c) f before (left ∷ on)
+      ∙ ap (λ l. l ++ ended_in spec (reading_after spec (Steady c) f before) (f + length before) (left ∷ on)) (quiet_ended spec c f before all)
+      ∙ ap (λ r. ended_in spec r (f + length before) (left ∷ on)) (quiet_reading spec c f before all)
+      ∙ ap (λ r. ended_in spec r (suc (f + length before)) on) (left_row spec c (f + length before) left out)
 
-leaves_reading : (spec : Parts) (c : ConfId) (f : ℕ) (before : List Row) (left : Row) (on : List Row) → All (Runs spec c) before → runs spec left.acts c ≡ false
-    → reading_after spec (Steady c) f (before ++ (left ∷ on)) ≡ reading_after spec (Leaving c (f + length before)) (suc (f + length before)) on
-leaves_reading spec c f before left on all out =
-    reading_append spec (Steady c) f before (left ∷ on)
-    ∙ ap (λ r. reading_after spec r (f + length before) (left ∷ on)) (quiet_reading spec c f before all)
-    ∙ ap (λ r. reading_after spec r (suc (f + length before)) on) (left_row spec c (f + length before) left out)
+  leaves_reading : reading_after spec (Steady c) f (before ++ (left ∷ on)) ≡ reading_after spec (Leaving c (f + length before)) (suc (f + length before)) on
+  leaves_reading =
+      reading_append spec (Steady c) f before (left ∷ on)
+      ∙ ap (λ r. reading_after spec r (f + length before) (left ∷ on)) (quiet_reading spec c f before all)
+      ∙ ap (λ r. reading_after spec r (suc (f + length before)) on) (left_row spec c (f + length before) left out)
 
-arrives_ended : (spec : Parts) (c : ConfId) (s f e : ℕ) (between : List Row) (arrived : Row) (rest : List Row) (j : ConfId) → All (RunsNone spec) between → RunsFirst spec j arrived → e ≡ f + length between
-    → ended_in spec (Leaving c s) f (between ++ (arrived ∷ rest)) ≡ record { from = c; to = Some j; begin = s; end = e } ∷ ended_in spec (Steady j) (e + 1) rest
-arrives_ended spec c s f e between arrived rest j all first is =
-    let next : suc (f + length between) ≡ e + 1 = omega arith in
-    ended_append spec (Leaving c s) f between (arrived ∷ rest)
-    ∙ ap (λ l. l ++ ended_in spec (reading_after spec (Leaving c s) f between) (f + length between) (arrived ∷ rest)) (moving_ended spec c s f between all)
-    ∙ ap (λ r. ended_in spec r (f + length between) (arrived ∷ rest)) (moving_reading spec c s f between all)
-    ∙ ap (λ o. as_list (arrival c s (f + length between) o) ++ ended_in spec (arrive c s o) (suc (f + length between)) rest) (running_first spec arrived j first)
-    ∙ ap (λ g. record { from = c; to = Some j; begin = s; end = f + length between } ∷ ended_in spec (Steady j) g rest) next
-    ∙ ap (λ g. record { from = c; to = Some j; begin = s; end = g } ∷ ended_in spec (Steady j) (e + 1) rest) (sym is)
+-- If no row before a row runs a configuration and the row itself first runs `j`, the row ends the reconfiguration.
+module _ (spec : Parts) (c : ConfId) (s f e : ℕ) (between : List Row) (arrived : Row) (rest : List Row) (j : ConfId) (all : All (RunsNone spec) between) (first : RunsFirst spec j arrived) (is : e ≡ f + length between) where
+  next_frame : suc (f + length between) ≡ e + 1
+  next_frame = omega (arith, is)
 
-arrives_reading : (spec : Parts) (c : ConfId) (s f e : ℕ) (between : List Row) (arrived : Row) (rest : List Row) (j : ConfId) → All (RunsNone spec) between → RunsFirst spec j arrived → e ≡ f + length between
-    → reading_after spec (Leaving c s) f (between ++ (arrived ∷ rest)) ≡ reading_after spec (Steady j) (e + 1) rest
-arrives_reading spec c s f e between arrived rest j all first is =
-    let next : suc (f + length between) ≡ e + 1 = omega arith in
-    reading_append spec (Leaving c s) f between (arrived ∷ rest)
-    ∙ ap (λ r. reading_after spec r (f + length between) (arrived ∷ rest)) (moving_reading spec c s f between all)
-    ∙ ap (λ o. reading_after spec (arrive c s o) (suc (f + length between)) rest) (running_first spec arrived j first)
-    ∙ ap (λ g. reading_after spec (Steady j) g rest) next
+  arrives_ended : ended_in spec (Leaving c s) f (between ++ (arrived ∷ rest)) ≡ record { from = c; to = Some j; begin = s; end = e } ∷ ended_in spec (Steady j) (e + 1) rest
+  arrives_ended =
+      ended_append spec (Leaving c s) f between (arrived ∷ rest)
+      ∙ ap (λ l. l ++ ended_in spec (reading_after spec (Leaving c s) f between) (f + length between) (arrived ∷ rest)) (moving_ended spec c s f between all)
+      ∙ ap (λ r. ended_in spec r (f + length between) (arrived ∷ rest)) (moving_reading spec c s f between all)
+      ∙ ap (λ o. as_list (arrival c s (f + length between) o) ++ ended_in spec (arrive c s o) (suc (f + length between)) rest) (running_first spec arrived j first)
+      ∙ ap (λ g. record { from = c; to = Some j; begin = s; end = f + length between } ∷ ended_in spec (Steady j) g rest) next_frame
+      ∙ ap (λ g. record { from = c; to = Some j; begin = s; end = g } ∷ ended_in spec (Steady j) (e + 1) rest) (sym is)
+
+  arrives_reading : reading_after spec (Leaving c s) f (between ++ (arrived ∷ rest)) ≡ reading_after spec (Steady j) (e + 1) rest
+  arrives_reading =
+      reading_append spec (Leaving c s) f between (arrived ∷ rest)
+      ∙ ap (λ r. reading_after spec r (f + length between) (arrived ∷ rest)) (moving_reading spec c s f between all)
+      ∙ ap (λ o. reading_after spec (arrive c s o) (suc (f + length between)) rest) (running_first spec arrived j first)
+      ∙ ap (λ g. reading_after spec (Steady j) g rest) next_frame
 
 pub reads : ReadsReconfigurations
 reads spec c f = record {

@@ -144,40 +144,41 @@ record SameParts (spec : Parts) (rows others : List Row) (reports reported : Lis
   pub lanes : (n : ℕ) → n < lanes_of (sheet_of spec rows) → boxes spec rows n ≡ boxes spec others n
   pub foot : drop 2 (foot_text (sheet_of spec rows) rows) ≡ drop 2 (foot_text (sheet_of spec others) others)
 
-parts_same : (spec : Parts) (rows others : List Row) (reports reported : List Report) → IsSpec spec → IsDrawn spec rows reports → IsDrawn spec others reported
-    → picture_text spec rows reports ≡ picture_text spec others reported → SameParts spec rows others reports reported
-parts_same spec rows others reports reported sound mine theirs e =
-    let sheet = sheet_of spec rows in
-    let other_sheet = sheet_of spec others in
-    let begins = lanes_begin (name_rest spec sheet) (boxes spec rows) (lanes_of sheet) (drop 2 (foot_text sheet rows)) in
-    let other_begins = lanes_begin (name_rest spec other_sheet) (boxes spec others) (lanes_of other_sheet) (drop 2 (foot_text other_sheet others)) in
-    let fronts = fronts_same (part_text Style) (drop 2 (part_text Names)) (open_line sheet) (open_line other_sheet)
-    (grid_text sheet reports) (grid_text other_sheet reported)
-    (spans_text spec sheet rows conf_strip) (reports_text spec sheet reports) (spans_text spec other_sheet others conf_strip) (reports_text spec other_sheet reported)
-    (lanes_text spec sheet rows ++ foot_text sheet rows) (lanes_text spec other_sheet others ++ foot_text other_sheet others) begins.0 other_begins.0
-    (open_ends sheet (small spec rows sound mine.few)) (open_ends other_sheet (small spec others sound theirs.few))
-    (grid_walk sheet reports (small spec rows sound mine.few) mine.reports_drawn) (grid_walk other_sheet reported (small spec others sound theirs.few) theirs.reports_drawn)
-    (walk_both no_name (spans_text spec sheet rows conf_strip) (reports_text spec sheet reports) (stable_spans_walk no_name spec sheet rows refl sound mine.few) (reports_walk spec sheet reports sound (small spec rows sound mine.few) mine.reports_drawn))
-    (walk_both no_name (spans_text spec other_sheet others conf_strip) (reports_text spec other_sheet reported) (stable_spans_walk no_name spec other_sheet others refl sound theirs.few) (reports_walk spec other_sheet reported sound (small spec others sound theirs.few) theirs.reports_drawn))
-    begins.1 other_begins.1 e in
-    let lanes = lanes_same (name_rest spec sheet) (boxes spec rows) (boxes spec others) (lanes_of sheet) (drop 2 (foot_text sheet rows)) (drop 2 (foot_text other_sheet others))
-    (λ n less. boxes_lines spec rows reports n sound mine less) (λ n less. boxes_lines spec others reported n sound theirs less) fronts.rest in
-    record { top = fronts.front; lanes = lanes.0; foot = lanes.1 }
+module _ (spec : Parts) (rows others : List Row) (reports reported : List Report) (sound : IsSpec spec) (mine : IsDrawn spec rows reports) (theirs : IsDrawn spec others reported) where
+  abbrev sheet : Sheet
+  sheet = sheet_of spec rows
 
-reports_same : (spec : Parts) (rows others : List Row) (reports reported : List Report) → IsSpec spec → IsDrawn spec rows reports → IsDrawn spec others reported
-    → spans_text spec (sheet_of spec rows) rows conf_strip ++ reports_text spec (sheet_of spec rows) reports
-    ≡ spans_text spec (sheet_of spec others) others conf_strip ++ reports_text spec (sheet_of spec others) reported
-    → drawn_titles spec (length rows) reports ≡ drawn_titles spec (length others) reported
-reports_same spec rows others reports reported sound mine theirs e =
-    let sheet = sheet_of spec rows in
-    let other_sheet = sheet_of spec others in
-    let lines = spans_text spec sheet rows conf_strip in
-    let other_lines = spans_text spec other_sheet others conf_strip in
-    let whole = ap (λ (text : List ℕ). lines ++ text) (sym (boxes_whole spec sheet reports)) ∙ e ∙ ap (λ (text : List ℕ). other_lines ++ text) (boxes_whole spec other_sheet reported) in
-    reports_tell spec sheet other_sheet reports reported sound mine.few theirs.few mine.reports_drawn theirs.reports_drawn
-    (boxes_same lines (boxes_of spec sheet (drawn_in sheet.rows reports)) other_lines (boxes_of spec other_sheet (drawn_in other_sheet.rows reported))
-    (stable_spans_walk a_path spec sheet rows refl sound mine.few) (stable_spans_walk a_path spec other_sheet others refl sound theirs.few)
-    (boxes_begin spec sheet (drawn_in sheet.rows reports)) (boxes_begin spec other_sheet (drawn_in other_sheet.rows reported)) whole)
+  abbrev other_sheet : Sheet
+  other_sheet = sheet_of spec others
+
+  parts_same : picture_text spec rows reports ≡ picture_text spec others reported → SameParts spec rows others reports reported
+  parts_same e =
+      let begins = lanes_begin (name_rest spec sheet) (boxes spec rows) (lanes_of sheet) (drop 2 (foot_text sheet rows)) in
+      let other_begins = lanes_begin (name_rest spec other_sheet) (boxes spec others) (lanes_of other_sheet) (drop 2 (foot_text other_sheet others)) in
+      let fronts = fronts_same (part_text Style) (drop 2 (part_text Names)) (open_line sheet) (open_line other_sheet)
+      (grid_text sheet reports) (grid_text other_sheet reported)
+      (spans_text spec sheet rows conf_strip) (reports_text spec sheet reports) (spans_text spec other_sheet others conf_strip) (reports_text spec other_sheet reported)
+      (lanes_text spec sheet rows ++ foot_text sheet rows) (lanes_text spec other_sheet others ++ foot_text other_sheet others) begins.0 other_begins.0
+      (open_ends sheet (small spec rows sound mine.few)) (open_ends other_sheet (small spec others sound theirs.few))
+      (grid_walk sheet reports (small spec rows sound mine.few) mine.reports_drawn) (grid_walk other_sheet reported (small spec others sound theirs.few) theirs.reports_drawn)
+      (walk_both no_name (spans_text spec sheet rows conf_strip) (reports_text spec sheet reports) (stable_spans_walk no_name spec sheet rows refl sound mine.few) (reports_walk spec sheet reports sound (small spec rows sound mine.few) mine.reports_drawn))
+      (walk_both no_name (spans_text spec other_sheet others conf_strip) (reports_text spec other_sheet reported) (stable_spans_walk no_name spec other_sheet others refl sound theirs.few) (reports_walk spec other_sheet reported sound (small spec others sound theirs.few) theirs.reports_drawn))
+      begins.1 other_begins.1 e in
+      let lanes = lanes_same (name_rest spec sheet) (boxes spec rows) (boxes spec others) (lanes_of sheet) (drop 2 (foot_text sheet rows)) (drop 2 (foot_text other_sheet others))
+      (λ n less. boxes_lines spec rows reports n sound mine less) (λ n less. boxes_lines spec others reported n sound theirs less) fronts.rest in
+      record { top = fronts.front; lanes = lanes.0; foot = lanes.1 }
+
+  reports_same : spans_text spec (sheet_of spec rows) rows conf_strip ++ reports_text spec (sheet_of spec rows) reports
+      ≡ spans_text spec (sheet_of spec others) others conf_strip ++ reports_text spec (sheet_of spec others) reported
+      → drawn_titles spec (length rows) reports ≡ drawn_titles spec (length others) reported
+  reports_same e =
+      let lines = spans_text spec sheet rows conf_strip in
+      let other_lines = spans_text spec other_sheet others conf_strip in
+      let whole = ap (λ (text : List ℕ). lines ++ text) (sym (boxes_whole spec sheet reports)) ∙ e ∙ ap (λ (text : List ℕ). other_lines ++ text) (boxes_whole spec other_sheet reported) in
+      reports_tell spec sheet other_sheet reports reported sound mine.few theirs.few mine.reports_drawn theirs.reports_drawn
+      (boxes_same lines (boxes_of spec sheet (drawn_in sheet.rows reports)) other_lines (boxes_of spec other_sheet (drawn_in other_sheet.rows reported))
+      (stable_spans_walk a_path spec sheet rows refl sound mine.few) (stable_spans_walk a_path spec other_sheet others refl sound theirs.few)
+      (boxes_begin spec sheet (drawn_in sheet.rows reports)) (boxes_begin spec other_sheet (drawn_in other_sheet.rows reported)) whole)
 
 -- If two flights have the same number of rows and the same text below the lanes, the text is also the same if both
 -- flights are drawn on the sheet of the first flight.
@@ -191,19 +192,18 @@ foot_on spec rows others same e =
 abbrev below_altitude : Sheet → List Row → List ℕ
 below_altitude sheet rows = heading_text sheet rows ++ legend_text sheet
 
-altitude_same : (spec : Parts) (rows others : List Row) → Each (IsRowDrawn spec) rows → Each (IsRowDrawn spec) others → length rows < 2 ^ 32 → length rows ≡ length others
-    → foot_text (sheet_of spec rows) rows ≡ foot_text (sheet_of spec rows) others
-    → SameCurves Altitude rows others (below_altitude (sheet_of spec rows) rows) (below_altitude (sheet_of spec rows) others)
-altitude_same spec rows others known drawn few same e =
-    let sheet = sheet_of spec rows in
-    quantity_same sheet Altitude (curves_y sheet) rows others (below_altitude sheet rows) (below_altitude sheet others) few same (λ i x there. (known i x there).altitude) (λ i x there. (drawn i x there).altitude)
-    (sym (append_assoc (altitude_text sheet rows) (heading_text sheet rows) (legend_text sheet)) ∙ e ∙ append_assoc (altitude_text sheet others) (heading_text sheet others) (legend_text sheet))
+module _ (spec : Parts) (rows others : List Row) (known : Each (IsRowDrawn spec) rows) (drawn : Each (IsRowDrawn spec) others) (few : length rows < 2 ^ 32) (same : length rows ≡ length others) where
+  altitude_same : foot_text (sheet_of spec rows) rows ≡ foot_text (sheet_of spec rows) others
+      → SameCurves Altitude rows others (below_altitude (sheet_of spec rows) rows) (below_altitude (sheet_of spec rows) others)
+  altitude_same e =
+      let sheet = sheet_of spec rows in
+      quantity_same sheet Altitude (curves_y sheet) rows others (below_altitude sheet rows) (below_altitude sheet others) few same (λ i x there. (known i x there).altitude) (λ i x there. (drawn i x there).altitude)
+      (sym (append_assoc (altitude_text sheet rows) (heading_text sheet rows) (legend_text sheet)) ∙ e ∙ append_assoc (altitude_text sheet others) (heading_text sheet others) (legend_text sheet))
 
-heading_same : (spec : Parts) (rows others : List Row) → Each (IsRowDrawn spec) rows → Each (IsRowDrawn spec) others → length rows < 2 ^ 32 → length rows ≡ length others
-    → below_altitude (sheet_of spec rows) rows ≡ below_altitude (sheet_of spec rows) others → DrawnAlike Heading rows others
-heading_same spec rows others known drawn few same e =
-    let sheet = sheet_of spec rows in
-    (quantity_same sheet Heading (curves_y sheet + 64) rows others (legend_text sheet) (legend_text sheet) few same (λ i x there. (known i x there).heading) (λ i x there. (drawn i x there).heading) e).alike
+  heading_same : below_altitude (sheet_of spec rows) rows ≡ below_altitude (sheet_of spec rows) others → DrawnAlike Heading rows others
+  heading_same e =
+      let sheet = sheet_of spec rows in
+      (quantity_same sheet Heading (curves_y sheet + 64) rows others (legend_text sheet) (legend_text sheet) few same (λ i x there. (known i x there).heading) (λ i x there. (drawn i x there).heading) e).alike
 
 pub equal_pictures_show_the_same : EqualPicturesShowTheSame
 equal_pictures_show_the_same spec rows others reports reported sound mine theirs e =

@@ -41,15 +41,6 @@ elements_given {A} {B} Fact read f give back at i before (x ∷ xs) whole e all 
     rw (back (item_path at i) before x (fact_after Fact before x xs (subst (AllAfter Fact) (sym e) all)), ← map-append give before (x ∷ []))
     (elements_given Fact read f give back at (suc i) (before ++ x ∷ []) xs whole (append_assoc before (x ∷ []) xs ∙ e) all)
 
-pub elements_back : {A : Type 0} (Fact : List A → A → Type 0) (read : List ℕ → List A → Data → Result A DocFault) (f : A → Data)
-    → ((at : List ℕ) (done : List A) (x : A) → Fact done x → read at done (f x) ≡ Ok x)
-    → (at : List ℕ) (i : ℕ) (before xs whole : List A) → before ++ xs ≡ whole → AllAfter Fact whole
-    → elements_from read at i before (items_of (map f xs)) ≡ Ok whole
-elements_back {A} Fact read f back at i before [] whole e all = ap (λ (ys : List A). Ok ys) (sym (append-nil before) ∙ e)
-elements_back {A} Fact read f back at i before (x ∷ xs) whole e all =
-    rw (back (item_path at i) before x (fact_after Fact before x xs (subst (AllAfter Fact) (sym e) all)))
-    (elements_back Fact read f back at (suc i) (before ++ x ∷ []) xs whole (append_assoc before (x ∷ []) xs ∙ e) all)
-
 items_count : {A : Type 0} → (f : A → Data) → (xs : List A) → items_len (items_of (map f xs)) ≡ length xs
 items_count f [] = refl
 items_count f (x ∷ xs) = ap suc (items_count f xs)
@@ -64,10 +55,17 @@ items_back f least most at xs enough few =
     within_back least most at (items_of (map f xs)) (omega (arith, count, enough)) (omega (arith, count, few))
 
 -- If each element is read back as written, the whole list is read back as written.
-pub list_back : {A : Type 0} (Fact : List A → A → Type 0) (read : List ℕ → List A → Data → Result A DocFault) (f : A → Data)
-    → ((at : List ℕ) (done : List A) (x : A) → Fact done x → read at done (f x) ≡ Ok x)
-    → (least most : ℕ) (at : List ℕ) (xs : List A) → least ≤ length xs → length xs ≤ most → AllAfter Fact xs
-    → elements_at read least most at (list_data f xs) ≡ Ok xs
-list_back Fact read f back least most at xs enough few all =
-    chained (items_within least most at (items_of (map f xs))) (λ (ds : Items). elements_from read at 0 [] ds) (items_of (map f xs)) (Ok xs)
-    (items_back f least most at xs enough few) (elements_back Fact read f back at 0 [] xs xs refl all)
+module _ {A : Type 0} (Fact : List A → A → Type 0) (read : List ℕ → List A → Data → Result A DocFault) (f : A → Data)
+  (back : (at : List ℕ) (done : List A) (x : A) → Fact done x → read at done (f x) ≡ Ok x) where
+  elements_back : (at : List ℕ) (i : ℕ) (before xs whole : List A) → before ++ xs ≡ whole → AllAfter Fact whole
+      → elements_from read at i before (items_of (map f xs)) ≡ Ok whole
+  elements_back at i before [] whole e all = ap (λ (ys : List A). Ok ys) (sym (append-nil before) ∙ e)
+  elements_back at i before (x ∷ xs) whole e all =
+      rw (back (item_path at i) before x (fact_after Fact before x xs (subst (AllAfter Fact) (sym e) all)))
+      (elements_back at (suc i) (before ++ x ∷ []) xs whole (append_assoc before (x ∷ []) xs ∙ e) all)
+
+  pub list_back : (least most : ℕ) (at : List ℕ) (xs : List A) → least ≤ length xs → length xs ≤ most → AllAfter Fact xs
+      → elements_at read least most at (list_data f xs) ≡ Ok xs
+  list_back least most at xs enough few all =
+      chained (items_within least most at (items_of (map f xs))) (λ (ds : Items). elements_from read at 0 [] ds) (items_of (map f xs)) (Ok xs)
+      (items_back f least most at xs enough few) (elements_back at 0 [] xs xs refl all)

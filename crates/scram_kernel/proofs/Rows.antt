@@ -46,25 +46,24 @@ exists : (spec : Parts) → IsSpec spec → (script : ScriptParts) (f a : ℕ) �
 unfolding Exists
 exists spec facts script f a = task_exists spec facts (phase_at spec (decided spec script f) f) a
 
-pub areas_are : (spec : Parts) → IsSpec spec → (script : ScriptParts) (f : ℕ) (marks : List ℕ) (images : List (List ℤ)) → AreMarks spec script (suc f) marks → AreImages spec script (suc f) images
-    → areas_drawn spec (kernel_image spec script f) marks images (state_after spec script f).areas ≡ (row_at spec script f).areas
-areas_are spec facts script f marks images are_marks are_images =
-    eight_same (area_drawn spec (kernel_image spec script f) marks images (state_after spec script f).areas)
-    (λ a. area_after spec (env_at spec script f) (λ p. commits spec script p f) (state_after spec script f) (task_given spec script f a) a)
-    (λ a low. area_is spec script f a marks images low are_marks are_images (task_given spec script f a).proc refl (exists spec facts script f a))
-
 agree_told : (spec : Parts) (script : ScriptParts) (f : ℕ) (marks : List ℕ) → AreMarks spec script (suc f) marks → Agree spec (has_committed marks f) (λ p. commits spec script p f)
 agree_told spec script f marks are = agreeing spec (has_committed marks f) (λ p. commits spec script p f) (committed_told spec script f marks are)
 
 abbrev row_made : Parts → ScriptParts → ℕ → List Act → List (List ℤ) → Row
 row_made spec script f acts areas = record { frame = f; env = env_at spec script f; mode = decided spec script f; acts = acts; areas = areas; world = world_in spec (state_after spec script f).world areas }
 
-pub row_is : (spec : Parts) → IsSpec spec → (script : ScriptParts) (f : ℕ) (marks : List ℕ) (images : List (List ℤ)) → AreMarks spec script (suc f) marks → AreImages spec script (suc f) images
-    → row_drawn spec (kernel_image spec script f) marks images (state_after spec script f).areas ≡ row_at spec script f
-row_is spec facts script f marks images are_marks are_images =
-    ap (λ acts. row_made spec script f acts (areas_drawn spec (kernel_image spec script f) marks images (state_after spec script f).areas))
-    (acts_same spec facts (has_committed marks f) (λ p. commits spec script p f) (phase_at spec (decided spec script f) f) (agree_told spec script f marks are_marks))
-    ∙ ap (row_made spec script f (row_at spec script f).acts) (areas_are spec facts script f marks images are_marks are_images)
+module _ (spec : Parts) (facts : IsSpec spec) (script : ScriptParts) (f : ℕ) (marks : List ℕ) (images : List (List ℤ)) (are_marks : AreMarks spec script (suc f) marks) (are_images : AreImages spec script (suc f) images) where
+  areas_are : areas_drawn spec (kernel_image spec script f) marks images (state_after spec script f).areas ≡ (row_at spec script f).areas
+  areas_are =
+      eight_same (area_drawn spec (kernel_image spec script f) marks images (state_after spec script f).areas)
+      (λ a. area_after spec (env_at spec script f) (λ p. commits spec script p f) (state_after spec script f) (task_given spec script f a) a)
+      (λ a low. area_is spec script f a marks images low are_marks are_images (task_given spec script f a).proc refl (exists spec facts script f a))
+
+  pub row_is : row_drawn spec (kernel_image spec script f) marks images (state_after spec script f).areas ≡ row_at spec script f
+  row_is =
+      ap (λ acts. row_made spec script f acts (areas_drawn spec (kernel_image spec script f) marks images (state_after spec script f).areas))
+      (acts_same spec facts (has_committed marks f) (λ p. commits spec script p f) (phase_at spec (decided spec script f) f) (agree_told spec script f marks are_marks))
+      ∙ ap (row_made spec script f (row_at spec script f).acts) areas_are
 
 pub keepers_are : (spec : Parts) → IsSpec spec → (script : ScriptParts) (f : ℕ) (marks : List ℕ) → AreMarks spec script (suc f) marks
     → keepers_drawn spec (kernel_image spec script f) marks ≡ (state_after spec script (suc f)).keepers

@@ -12,8 +12,8 @@ use Rattle.fault_script.specs.declared.walks.Walk.{Walk}
 use Rattle.fault_script.specs.Environments.{env_at}
 use Rattle.fault_script.specs.Walks.{IsWalk}
 use Rattle.frame_model.specs.declared.readings.Reading.{Reading}
-use Rattle.frame_model.specs.Flights.{reports_of, row_at, rows_of, state_after}
-use Rattle.frame_model.specs.Readings.{as_list, close, ended, read_row, reading_of, report_of}
+use Rattle.frame_model.specs.Flights.{row_at, state_after}
+use Rattle.frame_model.specs.Readings.{as_list, ended, read_row, reading_of, report_of}
 use Rattle.frame_model.specs.States.{State}
 use Rattle.scram_types.proofs.Searches.{length_listed}
 use Rattle.frame_model.proofs.ReadLaws.{row_by_row}
@@ -37,17 +37,6 @@ pub record Ticks (spec : Parts) (script : ScriptParts) (n : ℕ) (image : Kernel
   pub keepers_are : keepers ≡ keepers_drawn spec image marks
   pub next_is : next ≡ image_next spec row keepers v
 
-row_told : {spec : Parts} {script : ScriptParts} {n : ℕ} {image : KernelImage} {areas : List (List ℤ)} {reading : Reading} {rows : List Row} {reports : List Report} {marks : List ℕ} {images : List (List ℤ)} {v : Env} {row : Row} {keepers : List (Option ProcId)} {next : KernelImage}
-    → HoldsFlight spec script n image areas reading rows reports → Ticks spec script n image areas marks images v row keepers next → row ≡ row_at spec script n
-row_told {spec} {script} {n} {image} {areas} {marks = marks} {images = images} s t =
-    t.row_is ∙ ap (λ i. row_drawn spec i marks images areas) s.image_is ∙ ap (row_drawn spec (kernel_image spec script n) marks images) s.areas_are
-    ∙ row_is spec t.facts script n marks images t.marks_are t.images_are
-
-keepers_told : {spec : Parts} {script : ScriptParts} {n : ℕ} {image : KernelImage} {areas : List (List ℤ)} {reading : Reading} {rows : List Row} {reports : List Report} {marks : List ℕ} {images : List (List ℤ)} {v : Env} {row : Row} {keepers : List (Option ProcId)} {next : KernelImage}
-    → HoldsFlight spec script n image areas reading rows reports → Ticks spec script n image areas marks images v row keepers next → keepers ≡ (state_after spec script (suc n)).keepers
-keepers_told {spec} {script} {n} {image} {marks = marks} s t =
-    t.keepers_are ∙ ap (λ i. keepers_drawn spec i marks) s.image_is ∙ keepers_are spec t.facts script n marks t.marks_are
-
 left : (spec : Parts) (script : ScriptParts) (n : ℕ) (row : Row) (keepers : List (Option ProcId)) → row ≡ row_at spec script n → keepers ≡ (state_after spec script (suc n)).keepers
     → state_left spec row keepers ≡ state_after spec script (suc n)
 left spec script n row keepers is_row is_keepers = rw (is_keepers, is_row) refl
@@ -60,11 +49,6 @@ image_left spec script n row keepers v is_row is_keepers is_env =
     ∙ ap (λ (s : State). image_given spec (sys_of (suc n) 0 s) v) (left spec script n row keepers is_row is_keepers)
     ∙ ap (image_given spec (sys_of (suc n) 0 (state_after spec script (suc n)))) is_env
 
-pub next_told : {spec : Parts} {script : ScriptParts} {n : ℕ} {image : KernelImage} {areas : List (List ℤ)} {reading : Reading} {rows : List Row} {reports : List Report} {marks : List ℕ} {images : List (List ℤ)} {v : Env} {row : Row} {keepers : List (Option ProcId)} {next : KernelImage}
-    → HoldsFlight spec script n image areas reading rows reports → Ticks spec script n image areas marks images v row keepers next → next ≡ kernel_image spec script (suc n)
-next_told {spec} {script} {n} {v = v} {row} {keepers} s t =
-    t.next_is ∙ image_left spec script n row keepers v (row_told s t) (keepers_told s t) t.env_is
-
 read_same : (spec : Parts) (script : ScriptParts) (n : ℕ) (reading : Reading) (row : Row) → reading ≡ reading_of spec (rows_below spec script n) → row ≡ row_at spec script n
     → read_row spec reading row.frame row.acts ≡ reading_of spec (rows_below spec script (suc n))
 read_same spec script n reading row is is_row =
@@ -75,26 +59,28 @@ reports_same : (spec : Parts) (script : ScriptParts) (n : ℕ) (reading : Readin
 reports_same spec script n reading reports row is is_row is_reports =
     rw (is, is_row, is_reports, (row_by_row spec (rows_below spec script n) (row_at spec script n)).1, length_listed (row_at spec script) n) refl
 
-pub stands_more : {spec : Parts} {script : ScriptParts} {n : ℕ} {image : KernelImage} {areas : List (List ℤ)} {reading : Reading} {rows : List Row} {reports : List Report} {marks : List ℕ} {images : List (List ℤ)} {v : Env} {row : Row} {keepers : List (Option ProcId)} {next : KernelImage}
-    → HoldsFlight spec script n image areas reading rows reports → Ticks spec script n image areas marks images v row keepers next
-    → HoldsFlight spec script (suc n) next row.areas (read_row spec reading row.frame row.acts) (rows ++ row ∷ []) (reports ++ as_list (report_of spec reading row.frame row.acts))
-stands_more {spec} {script} {n} {reading = reading} {rows} {reports} {row = row} s t =
-    let is_row = row_told s t in record {
-      image_is = next_told s t;
-      areas_are = ap (λ (r : Row). r.areas) is_row;
-      rows_are = rw (s.rows_are, is_row) refl;
-      reading_is = read_same spec script n reading row s.reading_is is_row;
-      reports_are = reports_same spec script n reading reports row s.reading_is is_row s.reports_are;
-    }
+module _ {spec : Parts} {script : ScriptParts} {n : ℕ} {image : KernelImage} {areas : List (List ℤ)} {reading : Reading} {rows : List Row} {reports : List Report} {marks : List ℕ} {images : List (List ℤ)}
+    {v : Env} {row : Row} {keepers : List (Option ProcId)} {next : KernelImage} (s : HoldsFlight spec script n image areas reading rows reports)
+    (t : Ticks spec script n image areas marks images v row keepers next) where
+  row_told : row ≡ row_at spec script n
+  row_told =
+      t.row_is ∙ ap (λ i. row_drawn spec i marks images areas) s.image_is ∙ ap (row_drawn spec (kernel_image spec script n) marks images) s.areas_are
+      ∙ row_is spec t.facts script n marks images t.marks_are t.images_are
 
-pub rows_all : {spec : Parts} {script : ScriptParts} {n : ℕ} {image : KernelImage} {areas : List (List ℤ)} {reading : Reading} {rows : List Row} {reports : List Report}
-    → HoldsFlight spec script n image areas reading rows reports → n ≡ script.frames → rows ≡ rows_of spec script
-rows_all {spec} {script} s is = s.rows_are ∙ ap (rows_below spec script) is
+  keepers_told : keepers ≡ (state_after spec script (suc n)).keepers
+  keepers_told = t.keepers_are ∙ ap (λ i. keepers_drawn spec i marks) s.image_is ∙ keepers_are spec t.facts script n marks t.marks_are
 
-pub reports_all : {spec : Parts} {script : ScriptParts} {n : ℕ} {image : KernelImage} {areas : List (List ℤ)} {reading : Reading} {rows : List Row} {reports : List Report}
-    → HoldsFlight spec script n image areas reading rows reports → n ≡ script.frames → reports ++ as_list (close reading script.frames) ≡ reports_of spec script
-reports_all {spec} {script} {n} s is =
-    rw (s.reports_are, s.reading_is, is, length_listed (row_at spec script) script.frames) refl
+  pub next_told : next ≡ kernel_image spec script (suc n)
+  next_told = t.next_is ∙ image_left spec script n row keepers v row_told keepers_told t.env_is
+
+  pub stands_more : HoldsFlight spec script (suc n) next row.areas (read_row spec reading row.frame row.acts) (rows ++ row ∷ []) (reports ++ as_list (report_of spec reading row.frame row.acts))
+  stands_more = record {
+    image_is = next_told;
+    areas_are = ap (λ (r : Row). r.areas) row_told;
+    rows_are = rw (s.rows_are, row_told) refl;
+    reading_is = read_same spec script n reading row s.reading_is row_told;
+    reports_are = reports_same spec script n reading reports row s.reading_is row_told s.reports_are;
+  }
 
 pub kernel_more : {spec : Parts} {script : ScriptParts} {walk : Walk} {image : KernelImage} {areas : List (List ℤ)} {reading : Reading} {rows : List Row} {reports : List Report} {marks : List ℕ} {images : List (List ℤ)} {v : Env} {row : Row} {keepers : List (Option ProcId)} {next : KernelImage} {rows_room reports_room rows_count reports_count : ℕ}
     → KernelKeeps spec script walk image areas reading rows reports rows_room reports_room rows_count reports_count → image.frame < script.frames

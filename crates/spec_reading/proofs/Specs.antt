@@ -1,5 +1,5 @@
 -- Parts of a document that satisfy `AreNames` and `FitsRest` form a specification.
-use Rattle.std.proofs.Common.{◌≡◌, ◌∙◌, ◌≤◌, ◌==◌, ℕ, false, List, length, arith, ap, sym, subst, take}
+use Rattle.std.proofs.Common.{◌≡◌, ◌∙◌, ◌≤◌, ◌==◌, ℕ, false, List, arith, ap, sym, subst, take}
 use mathlib.Core.Logic.{inl, inr}
 use Rattle.std.specs.Prelude.{IsSome, Option, Some, is_some, slice_get}
 use Rattle.std.proofs.lemmas.Int.{ints}
@@ -11,7 +11,7 @@ use Rattle.scram_types.specs.declared.specification.Choice.{Choice}
 use Rattle.scram_types.specs.declared.demands.Demand.{Demand}
 use Rattle.scram_types.specs.declared.specification.Invariant.{Invariant}
 use Rattle.scram_types.specs.declared.specification.Precondition.{Precondition}
-use Rattle.scram_types.specs.Specification.{Parts, IsSpec, IsProc, IsConf, IsFactor, IsChoice, IsBound, IsDemand, IsGoal, IsInvariant, IsOn, IsPrecondition, IsIn, mode_in}
+use Rattle.scram_types.specs.Specification.{Parts, IsSpec, IsProc, IsConf, IsFactor, IsChoice, IsBound, IsDemand, IsInvariant, IsOn, IsPrecondition, mode_in}
 use Rattle.kind_table.proofs.Spelling.{variable_number_below}
 use Rattle.spec_reading.specs.Names.{name_of_proc, name_of_conf, name_of_demand, name_of_factor}
 use Rattle.spec_reading.specs.Numbering.{itself}
@@ -21,7 +21,7 @@ use Rattle.spec_reading.specs.TableFacts.{IsNewConf, IsNewDemand, IsNewWant, Fit
 use Rattle.spec_reading.specs.Vocabulary.{Names, AreNames}
 use Rattle.spec_reading.specs.Documents.{with_rest}
 use Rattle.spec_reading.specs.Writable.{IsWritable}
-use Rattle.spec_reading.specs.RestFacts.{FitsAssumption, FitsRest}
+use Rattle.spec_reading.specs.RestFacts.{FitsRest}
 use Rattle.spec_reading.specs.declared.documents.Rest.{Rest}
 use Rattle.scram_types.specs.ModeLists.{is_among}
 use Rattle.spec_reading.proofs.Distinct.{compare, each_of, early, new_differ}
@@ -115,86 +115,64 @@ demand_fits procs apps confs factors done demand fits = let asked = fits.asked i
   one = asked.off_apart;
 }
 
-pub spec_fits : (spec : Parts) → AreNames spec.procs spec.apps spec.confs spec.factors
-    → length spec.rules ≤ 64 → AllAfter (λ _. FitsChoice spec.procs spec.confs spec.factors) spec.rules
-    → length spec.bounds ≤ 144 → AllAfter (IsNewBound spec.confs) spec.bounds
-    → IsIn spec.confs spec.start → IsGoal spec.goal
-    → length spec.invariants ≤ 64 → AllAfter (λ _. FitsInvariant spec.apps spec.confs) spec.invariants
-    → length spec.preconditions ≤ 64 → AllAfter (λ _. FitsPrecondition spec.apps spec.confs) spec.preconditions
-    → FitsAssumption (record { halts = spec.halts; changes = spec.changes; window = spec.window })
-    → length spec.demands ≤ 64 → AllAfter (IsNewDemand spec.procs spec.apps spec.confs spec.factors) spec.demands
-    → IsSpec spec
-spec_fits spec named few_rules rules few_bounds bounds start goal few_invariants invariants few_preconditions preconditions assumed few_demands demands = record {
-  names = record {
-    procs = λ i x e. (named.procs_fit i x e).name.spelled;
-    apps = named.apps_fit.spelled;
-    confs = λ i x e. (named.confs_fit i x e).name.spelled;
-    factors = λ i x e. (named.factors_fit i x e).name.spelled;
-    values = λ i x e j y f. ((named.factors_fit i x e).values j y f).spelled;
-    demands = λ i x e. (demands i x e).name.spelled;
-  };
-  procs_count = named.procs_count;
-  procs_differ = new_differ name_of_proc spec.procs (λ i x e. (named.procs_fit i x e).name.new);
-  procs = each_of IsNewProc IsProc spec.procs (λ done x f. f.is) named.procs_fit;
-  apps_count = named.apps_fit.count;
-  apps_differ = named.apps_fit.differ;
-  apps = named.apps_fit.each;
-  confs_count = named.confs_count;
-  confs_differ = new_differ name_of_conf spec.confs (λ i x e. (named.confs_fit i x e).name.new);
-  confs = each_of (IsNewConf spec.procs spec.apps) (IsConf spec.procs spec.apps) spec.confs (λ done x f. record { width = f.width; places = f.places }) named.confs_fit;
-  factors_count = named.factors_count.few;
-  factors_differ = new_differ name_of_factor spec.factors (λ i x e. (named.factors_fit i x e).name.new);
-  factors = each_of IsNewFactor IsFactor spec.factors factor_fits named.factors_fit;
-  rules_count = few_rules;
-  rules = each_of (λ _. FitsChoice spec.procs spec.confs spec.factors) (IsChoice spec.procs spec.confs spec.factors) spec.rules (λ done x f. choice_fits spec.procs spec.confs spec.factors x f) rules;
-  bounds_count = few_bounds;
-  bounds = each_of (IsNewBound spec.confs) (IsBound spec.confs) spec.bounds (λ done x f. f.is) bounds;
-  start = start;
-  goal = goal;
-  invariants_count = few_invariants;
-  invariants = each_of (λ _. FitsInvariant spec.apps spec.confs) (IsInvariant spec.apps spec.confs) spec.invariants (λ done x f. invariant_fits spec.apps spec.confs x f) invariants;
-  preconditions_count = few_preconditions;
-  preconditions = each_of (λ _. FitsPrecondition spec.apps spec.confs) (IsPrecondition spec.apps spec.confs) spec.preconditions (λ done x f. precondition_fits spec.apps spec.confs x f) preconditions;
-  demands_count = few_demands;
-  demands_differ = new_differ name_of_demand spec.demands (λ i x e. (demands i x e).name.new);
-  demands = each_of (IsNewDemand spec.procs spec.apps spec.confs spec.factors) (IsDemand spec.procs spec.apps spec.confs spec.factors) spec.demands
-      (demand_fits spec.procs spec.apps spec.confs spec.factors) demands;
-  halts = assumed.halts;
-  changes = assumed.changes;
-  window_least = assumed.window_least;
-  window_most = assumed.window_most;
-}
-
 -- If `rest` fits the items `names`, and `names` equals the valid items `own`, then `own` and `rest` form a
--- specification.
-pub joined_fits : (names own : Names) (rest : Rest) → names ≡ own → AreNames own.procs own.apps own.confs own.factors → FitsRest names.procs names.apps names.confs names.factors rest
-    → IsSpec (with_rest own rest)
-joined_fits names own rest same named fits =
-    subst (λ (z : Names). IsSpec (with_rest z rest)) same
-    (spec_fits (with_rest names rest) (subst (λ (z : Names). AreNames z.procs z.apps z.confs z.factors) (sym same) named)
-    fits.table.few_rules fits.table.rules fits.table.few_bounds fits.table.bounds fits.table.start fits.table.goal
-    fits.limits.few_invariants fits.limits.invariants fits.limits.few_preconditions fits.limits.preconditions fits.limits.assumed fits.few_demands fits.demands)
+-- specification that can be written.
+module _ (names own : Names) (rest : Rest) (same : names ≡ own) (named : AreNames own.procs own.apps own.confs own.factors) (reads : FitsRest names.procs names.apps names.confs names.factors rest) where
+  abbrev spec : Parts
+  spec = with_rest own rest
 
-spec_writable : (spec : Parts) → AreNames spec.procs spec.apps spec.confs spec.factors
-    → AllAfter (λ _. FitsChoice spec.procs spec.confs spec.factors) spec.rules
-    → AllAfter (IsNewBound spec.confs) spec.bounds
-    → AllAfter (λ _. FitsInvariant spec.apps spec.confs) spec.invariants
-    → AllAfter (λ _. FitsPrecondition spec.apps spec.confs) spec.preconditions
-    → AllAfter (IsNewDemand spec.procs spec.apps spec.confs spec.factors) spec.demands
-    → IsWritable spec
-spec_writable spec named rules bounds invariants preconditions demands = record {
-  apps = named.apps_fit.writable;
-  ranks = named.apps_fit.ranks;
-  rules = λ i x e j y f. ((rules i x e).wants j y f).new;
-  bounds = λ i x e. ap (λ (o : Option ℕ). is_some o) (bounds i x e).new;
-  invariants = λ i x e. record { named = (invariants i x e).interval.is_variable; in_order = (invariants i x e).interval.ends_fit.in_order };
-  preconditions = λ i x e. record { named = (preconditions i x e).interval.is_variable; in_order = (preconditions i x e).interval.ends_fit.in_order };
-  demands = λ i x e j y f. ((demands i x e).wants j y f).new;
-}
+  fits : FitsRest own.procs own.apps own.confs own.factors rest
+  fits = subst (λ (z : Names). FitsRest z.procs z.apps z.confs z.factors rest) same reads
 
-pub joined_writable : (names own : Names) (rest : Rest) → names ≡ own → AreNames own.procs own.apps own.confs own.factors → FitsRest names.procs names.apps names.confs names.factors rest
-    → IsWritable (with_rest own rest)
-joined_writable names own rest same named fits =
-    subst (λ (z : Names). IsWritable (with_rest z rest)) same
-    (spec_writable (with_rest names rest) (subst (λ (z : Names). AreNames z.procs z.apps z.confs z.factors) (sym same) named)
-    fits.table.rules fits.table.bounds fits.limits.invariants fits.limits.preconditions fits.demands)
+  pub joined_fits : IsSpec (with_rest own rest)
+  joined_fits = record {
+    names = record {
+      procs = λ i x e. (named.procs_fit i x e).name.spelled;
+      apps = named.apps_fit.spelled;
+      confs = λ i x e. (named.confs_fit i x e).name.spelled;
+      factors = λ i x e. (named.factors_fit i x e).name.spelled;
+      values = λ i x e j y f. ((named.factors_fit i x e).values j y f).spelled;
+      demands = λ i x e. (fits.demands i x e).name.spelled;
+    };
+    procs_count = named.procs_count;
+    procs_differ = new_differ name_of_proc own.procs (λ i x e. (named.procs_fit i x e).name.new);
+    procs = each_of IsNewProc IsProc own.procs (λ done x f. f.is) named.procs_fit;
+    apps_count = named.apps_fit.count;
+    apps_differ = named.apps_fit.differ;
+    apps = named.apps_fit.each;
+    confs_count = named.confs_count;
+    confs_differ = new_differ name_of_conf own.confs (λ i x e. (named.confs_fit i x e).name.new);
+    confs = each_of (IsNewConf own.procs own.apps) (IsConf own.procs own.apps) own.confs (λ done x f. record { width = f.width; places = f.places }) named.confs_fit;
+    factors_count = named.factors_count.few;
+    factors_differ = new_differ name_of_factor own.factors (λ i x e. (named.factors_fit i x e).name.new);
+    factors = each_of IsNewFactor IsFactor own.factors factor_fits named.factors_fit;
+    rules_count = fits.table.few_rules;
+    rules = each_of (λ _. FitsChoice own.procs own.confs own.factors) (IsChoice own.procs own.confs own.factors) spec.rules (λ done x f. choice_fits own.procs own.confs own.factors x f) fits.table.rules;
+    bounds_count = fits.table.few_bounds;
+    bounds = each_of (IsNewBound own.confs) (IsBound own.confs) spec.bounds (λ done x f. f.is) fits.table.bounds;
+    start = fits.table.start;
+    goal = fits.table.goal;
+    invariants_count = fits.limits.few_invariants;
+    invariants = each_of (λ _. FitsInvariant own.apps own.confs) (IsInvariant own.apps own.confs) spec.invariants (λ done x f. invariant_fits own.apps own.confs x f) fits.limits.invariants;
+    preconditions_count = fits.limits.few_preconditions;
+    preconditions = each_of (λ _. FitsPrecondition own.apps own.confs) (IsPrecondition own.apps own.confs) spec.preconditions (λ done x f. precondition_fits own.apps own.confs x f) fits.limits.preconditions;
+    demands_count = fits.few_demands;
+    demands_differ = new_differ name_of_demand spec.demands (λ i x e. (fits.demands i x e).name.new);
+    demands = each_of (IsNewDemand own.procs own.apps own.confs own.factors) (IsDemand own.procs own.apps own.confs own.factors) spec.demands
+        (demand_fits own.procs own.apps own.confs own.factors) fits.demands;
+    halts = fits.limits.assumed.halts;
+    changes = fits.limits.assumed.changes;
+    window_least = fits.limits.assumed.window_least;
+    window_most = fits.limits.assumed.window_most;
+  }
+
+  pub joined_writable : IsWritable (with_rest own rest)
+  joined_writable = record {
+    apps = named.apps_fit.writable;
+    ranks = named.apps_fit.ranks;
+    rules = λ i x e j y f. ((fits.table.rules i x e).wants j y f).new;
+    bounds = λ i x e. ap (λ (o : Option ℕ). is_some o) (fits.table.bounds i x e).new;
+    invariants = λ i x e. record { named = (fits.limits.invariants i x e).interval.is_variable; in_order = (fits.limits.invariants i x e).interval.ends_fit.in_order };
+    preconditions = λ i x e. record { named = (fits.limits.preconditions i x e).interval.is_variable; in_order = (fits.limits.preconditions i x e).interval.ends_fit.in_order };
+    demands = λ i x e j y f. ((fits.demands i x e).wants j y f).new;
+  }

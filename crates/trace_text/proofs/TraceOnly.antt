@@ -247,14 +247,13 @@ answered : (P : Flown → Type 0) (reading : Result Flown TraceFault) (answer : 
 answered P reading (Ok f) holds h = holds f h
 answered P reading (Err error) holds h = tt
 
-pub answered_text : (spec : Parts) (bytes : List ℕ) (answer : Result Flown TraceError) → length spec.factors ≤ 6 → length spec.apps ≤ 8 → AnswersTrace (trace_of spec bytes) answer →
-    IfOk answer (λ (f : Flown). bytes ≡ text_of spec f.rows f.reports)
-answered_text spec bytes answer few small h =
-    answered (λ (f : Flown). bytes ≡ text_of spec f.rows f.reports) (trace_of spec bytes) answer (λ f read. trace_only spec bytes f few small read) h
+module _ (spec : Parts) (bytes : List ℕ) (answer : Result Flown TraceError) (few : length spec.factors ≤ 6) (small : length spec.apps ≤ 8) (answers : AnswersTrace (trace_of spec bytes) answer) where
+  pub answered_text : IfOk answer (λ (f : Flown). bytes ≡ text_of spec f.rows f.reports)
+  answered_text =
+      answered (λ (f : Flown). bytes ≡ text_of spec f.rows f.reports) (trace_of spec bytes) answer (λ f read. trace_only spec bytes f few small read) answers
 
--- Reading the printed text of a trace that was read returns the same trace.
-pub answered_again : (spec : Parts) (bytes : List ℕ) (answer : Result Flown TraceError) → length spec.factors ≤ 6 → length spec.apps ≤ 8 → AnswersTrace (trace_of spec bytes) answer →
-    IfOk answer (λ (f : Flown). trace_of spec (text_of spec f.rows f.reports) ≡ Ok f)
-answered_again spec bytes answer few small h =
-    answered (λ (f : Flown). trace_of spec (text_of spec f.rows f.reports) ≡ Ok f) (trace_of spec bytes) answer
-    (λ f read. ap (trace_of spec) (sym (trace_only spec bytes f few small read)) ∙ read) h
+  -- Reading the printed text of a trace that was read returns the same trace.
+  pub answered_again : IfOk answer (λ (f : Flown). trace_of spec (text_of spec f.rows f.reports) ≡ Ok f)
+  answered_again =
+      answered (λ (f : Flown). trace_of spec (text_of spec f.rows f.reports) ≡ Ok f) (trace_of spec bytes) answer
+      (λ f read. ap (trace_of spec) (sym (trace_only spec bytes f few small read)) ∙ read) answers

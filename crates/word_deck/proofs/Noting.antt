@@ -93,21 +93,26 @@ done_log mission kseat between (inr last) = all (length mission.spec.procs) ksea
 
 -- Lemmas on the values that the kernel passes to the log and to the words.
 
-pub images_for : (kernel : KernelParts) (mission : MissionParts) (noted : Noted) → kernel ≡ kernel_after mission.spec mission.script kernel.past → AreNoted mission kernel.past (length mission.spec.procs) noted
-    → AreImages kernel.spec kernel.script (kernel.past + 1) noted.images
-images_for kernel mission noted e n = λ p low.
-    let s : kernel.spec ≡ mission.spec = ap (λ (k : KernelParts). k.spec) e in
-    let t : kernel.script ≡ mission.script = ap (λ (k : KernelParts). k.script) e in
-    let f : suc kernel.past ≡ kernel.past + 1 = omega arith in
-    n.images p (rw s at low) ∙ ap (λ spec. image_after spec mission.script p (suc kernel.past)) (sym s) ∙ ap (λ script. image_after kernel.spec script p (suc kernel.past)) (sym t) ∙ ap (image_after kernel.spec kernel.script p) f
+module _ (kernel : KernelParts) (mission : MissionParts) (noted : Noted) (is : kernel ≡ kernel_after mission.spec mission.script kernel.past)
+  (are : AreNoted mission kernel.past (length mission.spec.procs) noted) where
+  spec_is : kernel.spec ≡ mission.spec
+  spec_is = ap (λ (k : KernelParts). k.spec) is
 
-pub marks_for : (kernel : KernelParts) (mission : MissionParts) (noted : Noted) → kernel ≡ kernel_after mission.spec mission.script kernel.past → AreNoted mission kernel.past (length mission.spec.procs) noted
-    → AreMarks kernel.spec kernel.script (kernel.past + 1) noted.marks
-marks_for kernel mission noted e n = λ p low.
-    let s : kernel.spec ≡ mission.spec = ap (λ (k : KernelParts). k.spec) e in
-    let t : kernel.script ≡ mission.script = ap (λ (k : KernelParts). k.script) e in
-    let f : suc kernel.past ≡ kernel.past + 1 = omega arith in
-    n.marks p (rw s at low) ∙ ap (λ spec. mark_after spec mission.script p (suc kernel.past)) (sym s) ∙ ap (λ script. mark_after kernel.spec script p (suc kernel.past)) (sym t) ∙ ap (mark_after kernel.spec kernel.script p) f
+  script_is : kernel.script ≡ mission.script
+  script_is = ap (λ (k : KernelParts). k.script) is
+
+  later : suc kernel.past ≡ kernel.past + 1
+  later = omega arith
+
+  pub images_for : AreImages kernel.spec kernel.script (kernel.past + 1) noted.images
+  images_for = λ p low.
+      are.images p (rw spec_is at low) ∙ ap (λ spec. image_after spec mission.script p (suc kernel.past)) (sym spec_is)
+      ∙ ap (λ script. image_after kernel.spec script p (suc kernel.past)) (sym script_is) ∙ ap (image_after kernel.spec kernel.script p) later
+
+  pub marks_for : AreMarks kernel.spec kernel.script (kernel.past + 1) noted.marks
+  marks_for = λ p low.
+      are.marks p (rw spec_is at low) ∙ ap (λ spec. mark_after spec mission.script p (suc kernel.past)) (sym spec_is)
+      ∙ ap (λ script. mark_after kernel.spec script p (suc kernel.past)) (sym script_is) ∙ ap (mark_after kernel.spec kernel.script p) later
 
 pub word_said : (spec : Parts) (script : ScriptParts) (f g i : ℕ) (said : List ℕ) (image : KernelImage) (word : ℕ) → said ≡ kernel_encode image → image ≡ kernel_image spec script f → g ≡ f
     → word ≡ slice_index_or said i 0 → word ≡ word_in (kernel_words spec script g) i

@@ -80,16 +80,15 @@ module _ (mission : MissionParts) (v : View) (after : Sat) (n p : ℕ) (x : Plac
       both : (s : Sat) {w : View} → s.0 ≡ w → s.1 ≡ [] → s ≡ (w, [])
       both (a, b) is empty = rw (is, empty) refl
 
-pub note_told : (mission : MissionParts) (v : View) (after : Sat) (i n k p : ℕ) → v.mission ≡ Some mission → v.actors ≡ Kernel k p ∷ [] → AwaitsEnd (mission_flight mission) i (Kernel k p ∷ [])
-    → IfSome v.mission (λ mission. IsAfterNote (mission_flight mission) i n v after) → GoesOrTries (may_note (mission_flight mission) p k n) one_more v after
-note_told mission v after i n k p planned alone awaits told =
-    let by_mission : IsAfterNote (mission_flight mission) i n v after = subst (λ (o : Option MissionParts). IfSome o (λ mission. IsAfterNote (mission_flight mission) i n v after)) planned told in
-    let by_actors : MovesIfWaiting (AwaitsEnd (mission_flight mission) i (Kernel k p ∷ [])) (may_note (mission_flight mission) p k n) one_more v after =
-    subst (λ (l : List Actor). MovesIfWaiting (AwaitsEnd (mission_flight mission) i l) (can_note (mission_flight mission) l n) one_more v after) alone by_mission in
-    by_actors.0 awaits
-
+-- If the kernel waits for the end of processor `p` and the end may be noted, it notes it.
 pub note_made : (mission : MissionParts) (v : View) (after : Sat) (i n k p : ℕ) → v.mission ≡ Some mission → v.actors ≡ Kernel k p ∷ [] → AwaitsEnd (mission_flight mission) i (Kernel k p ∷ [])
     → may_note (mission_flight mission) p k n ≡ true → IfSome v.mission (λ mission. IsAfterNote (mission_flight mission) i n v after) → after.0.actors ≡ Kernel k (suc p) ∷ []
 note_made mission v after i n k p planned alone awaits may told =
-    let has = by_true (may_note (mission_flight mission) p k n) one_more v after may (note_told mission v after i n k p planned alone awaits told) in
+    let has = by_true (may_note (mission_flight mission) p k n) one_more v after may (by_actors.0 awaits) in
     ap (λ (w : View). w.actors) has.0 ∙ rw alone refl
+  where
+    by_mission : IsAfterNote (mission_flight mission) i n v after
+    by_mission = subst (λ (o : Option MissionParts). IfSome o (λ mission. IsAfterNote (mission_flight mission) i n v after)) planned told
+
+    by_actors : MovesIfWaiting (AwaitsEnd (mission_flight mission) i (Kernel k p ∷ [])) (may_note (mission_flight mission) p k n) one_more v after
+    by_actors = subst (λ (l : List Actor). MovesIfWaiting (AwaitsEnd (mission_flight mission) i l) (can_note (mission_flight mission) l n) one_more v after) alone by_mission

@@ -31,7 +31,7 @@ pub mission_refused : (spec : Parts) (script : ScriptParts) (shown : Option Show
 mission_refused spec script None told e = absurd cc
 mission_refused spec script (Some shown) told e = e
 
--- If a specification is refused, the answer is the refusal. Otherwise, it is `answered`.
+-- If there is a refusal, the answer is the refusal. Otherwise, it is `answered`.
 pub refusal_given : (refusal : Option (ℕ × List ℕ)) (answered told : ℕ × List ℕ) → (refusal ≡ Some told) ⊎ IsOutOfMemory told
     → Gives (unwrap_or refusal answered) told.0 told.1 ⊎ IsMemoryRefusal told.0 told.1
 refusal_given refusal answered told (inl some) = inl (rw some refl)
