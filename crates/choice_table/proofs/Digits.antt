@@ -100,10 +100,6 @@ digits_step fs vs x number h k so_far =
     let next = rw (combinations_drop fs x h, digits_drop fs vs x h k) at so_far in
     omega (arith, next)
 
-pub digits_end : (fs : List Factor) (vs : List ℕ) (x number : ℕ) → length fs ≤ x
-    → number * combinations (drop x fs) + digits_of (drop x fs) (drop x vs) ≡ digits_of fs vs → number ≡ digits_of fs vs
-digits_end fs vs x number past so_far = let end = rw (nothing_left fs x past) at so_far in omega (arith, end)
-
 -- A step of the loop that computes the number of the factors' values keeps a bound. After `x` steps, the number is at
 -- most `85 * 4 ^ x - 85`, even if the values are arbitrary bytes.
 pub few_digits : (count value x number : ℕ) → count ≤ 4 → value < 256 → x < 6 → number + 85 ≤ 85 * 4 ^ x → number * count + value + 85 ≤ 85 * 4 ^ suc x

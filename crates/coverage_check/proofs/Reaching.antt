@@ -15,7 +15,7 @@ use Rattle.scram_types.specs.declared.demands.Demand.{Demand}
 use Rattle.scram_types.specs.Specification.{IsSpec, Parts}
 use Rattle.scram_types.specs.Searches.{first_below}
 use Rattle.scram_types.specs.Lookups.{conf_id}
-use Rattle.scram_types.proofs.BitSets.{bit_cases, bit_of, bits_are, bits_lt, has_bits}
+use Rattle.scram_types.proofs.BitSets.{bit_cases, bit_of, bits_are}
 use Rattle.scram_types.proofs.Booleans.{and_false, and_left, and_right, and_true, by_bool, same_test, true_false, both_false}
 use Rattle.scram_types.proofs.Items.{some_item}
 use Rattle.scram_types.proofs.Searches.{any_below_found, any_below_is, below_none, first_found, none_below}
@@ -27,7 +27,6 @@ use Rattle.choice_table.proofs.Inverses.{env_of-number_of, is_env, number_below,
 use Rattle.cube_cover.specs.declared.answers.Cover.{Cover}
 use Rattle.cube_cover.specs.Covers.{IsCover, IsLeastEnv}
 use Rattle.cube_cover.specs.Demands.{AreMisses, misses}
-use Rattle.cube_cover.proofs.Targets.{choose_inside}
 use Rattle.coverage_check.specs.declared.shown.Other.TheVariants as other
 use Rattle.coverage_check.specs.declared.choosing.Requirement.{Requirement}
 use Rattle.coverage_check.specs.declared.choosing.Requirement.TheVariants as requirement
@@ -72,16 +71,6 @@ module _ (spec : Parts) (made : IsSpec spec) where
         scope = and_left (is_number_in_scope spec found.0) _ found.2;
         chosen = same_conf (choose spec i (numbered spec found.0)) j (equal _ j.0 (and_right (is_number_in_scope spec found.0) _ found.2));
       }
-
-  -- The set `targets spec i` contains exactly the possible targets of configuration `i`, and no other bits.
-  pub are_targets : (i : ConfId) → i.0 < length spec.confs → AreTargets spec i (targets spec i)
-  are_targets i known = record {
-    only = λ j inside bit. target_tested i j (sym (has_bits (is_target spec i) (length spec.confs) j.0 inside) ∙ bit);
-    all = λ j target.
-        (let inside : j.0 < length spec.confs = subst (λ (k : ConfId). k.0 < length spec.confs) target.chosen (choose_inside spec made i target.seen known) in
-        has_bits (is_target spec i) (length spec.confs) j.0 inside ∙ target_test i j target);
-    few = bits_lt (is_target spec i) (length spec.confs);
-  }
 
   -- The targets of a cover are the possible targets of its configuration.
   pub cover_targets : (i : ConfId) (cover : Cover) → IsCover spec i cover → (j : ℕ) → j < length spec.confs → has_bit cover.targets j ≡ is_target spec i j

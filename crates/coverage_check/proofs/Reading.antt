@@ -1,6 +1,6 @@
 -- What a function computes from the item at an index of a list, or from the absence of such an item.
 use Rattle.std.proofs.Common.{◌≡◌, ℕ, ◌≤◌, refl, sym, true, false, List, length}
-use Rattle.std.specs.Prelude.{None, nat_lt, slice_get, slice_index_or}
+use Rattle.std.specs.Prelude.{nat_lt, slice_get, slice_index_or}
 use Rattle.std.specs.Option.{option_map_or}
 use Rattle.std.proofs.lemmas.Option.{slice_get_past}
 use Rattle.scram_types.proofs.Naturals.{not_below}

@@ -228,15 +228,6 @@ ways_step cube factors x product ways total low is so_far =
     ways_drop cube y (factor ∷ factors) zero low = refl
     ways_drop cube y (factor ∷ factors) (suc x) low = ways_drop cube y factors x (omega arith)
 
-pub ways_end : (cube : Cube) (factors : List Factor) (x product total : ℕ) → length factors ≤ x → product * open_ways cube x (drop x factors) ≡ total → product ≡ total
-ways_end cube factors x product total past so_far = let end = rw (nothing_left factors x past) at so_far in omega (arith, end)
-  where
-    nothing_left : {A : Type 0} (xs : List A) (x : ℕ) → length xs ≤ x → drop x xs ≡ []
-    nothing_left [] zero h = refl
-    nothing_left [] (suc x) h = refl
-    nothing_left (y ∷ ys) zero h = absurd (omega arith)
-    nothing_left (y ∷ ys) (suc x) h = nothing_left ys x (omega arith)
-
 pub few_ways : (product ways x : ℕ) → ways ≤ 4 → product ≤ 4 ^ x → x < 6 → product * ways ≤ 4 ^ (x + 1)
 few_ways product ways x few so_far low =
     let next : x + 1 ≡ suc x = omega arith in

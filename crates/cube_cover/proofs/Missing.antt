@@ -85,10 +85,6 @@ in_pushed (z ∷ xs) x (suc k) y h = elim (in_pushed xs x k y h) [ inl before �
 abbrev pub AreFound : Parts → ConfId → List (Option Env) → Type 0
 AreFound spec i found = (k : ℕ) (demand : Demand) (env : Option Env) → slice_get spec.demands k ≡ Some demand → slice_get found k ≡ Some env → IsLeastEnv spec (misses spec demand i) env
 
-pub none_found : (spec : Parts) (i : ConfId) (found : List (Option Env)) → found ≡ [] → AreFound spec i found
-none_found spec i found is k demand env there h =
-    let past = slice_get_within {A = Option Env} [] k env (sym (ap (λ xs. slice_get xs k) is) ∙ h) in absurd (omega arith)
-
 pub found_more : (spec : Parts) (i : ConfId) (mid after : List (Option Env)) (k : ℕ) (d : Demand) (o : Option Env) → k < length spec.demands → length mid ≡ k → AreFound spec i mid
     → IsLeastEnv spec (misses spec (get_or spec.demands k d) i) o → after ≡ mid ++ o ∷ [] → AreFound spec i after
 found_more spec i mid after k d o low counted so_far least is j demand env there h =

@@ -166,8 +166,6 @@ no_targets spec i = record {
 }
 
 module _ (spec : Parts) (i : ConfId) (t set : ℕ) (before : HasTargetsBelow spec i t set) where
-  above_none : (j : ℕ) → t ≤ j → has_bit set j ≡ false
-  above_none j high = ap (λ (n : ℕ). n == 1) (no_bit set t j before.few high)
 
   joined : set + 2 ^ t ≡ 1 * 2 ^ t + set
   joined = omega arith

@@ -1,12 +1,12 @@
 -- The next event of an actor is an event of that actor.
-use Rattle.std.proofs.Common.{◌≡◌, ◌∙◌, ℕ, zero, suc, Bool, true, false, refl, ap, subst, sym, arith}
+use Rattle.std.proofs.Common.{◌≡◌, ◌∙◌, ℕ, zero, suc, Bool, true, false, refl, ap, subst, arith}
 use Rattle.std.specs.Prelude.{Option, Some, None, nat_eq, nat_lt, if◌then◌else◌}
 use Rattle.std.proofs.lemmas.Bool.Decides.{nat_tests}
 use Rattle.scram_types.specs.declared.ids.ProcId.{ProcId}
 use Rattle.scram_types.specs.Lookups.{proc_id}
 use Rattle.bank_words.specs.declared.events.Event.{Event}
 use Rattle.bank_words.specs.declared.events.Event.TheVariants.{Start, Look, Store, Flip, Done, Halt, KNote, KStore, Release}
-use Rattle.fail_stop.specs.Events.{At, EndWord, Halted, IsNext, Place, Places, ReleaseWord, Word, halts_at, is_actor, may_note, next_from, next_halted, next_kernel, next_of, next_of_actor}
+use Rattle.fail_stop.specs.Events.{At, Halted, IsNext, Place, Places, ReleaseWord, Word, halts_at, is_actor, next_from, next_halted, next_kernel, next_of, next_of_actor}
 use Rattle.fail_stop.specs.Flights.{Flight}
 use Rattle.fail_stop.proofs.Moves.{nat_eq_self}
 use Rattle.fail_stop.proofs.Plans.{gate}
@@ -45,16 +45,6 @@ of_kernel (KNote p) = true
 of_kernel (KStore i) = true
 of_kernel Release = true
 
-kernel_told : (p i : ℕ) (e : Event) (a b c d f g : Bool)
-    → (if a then (if b then (if c then Some (KNote (proc_id p)) else None) else (if d then (if f then Some (KStore i) else (if g then Some Release else None)) else None)) else None) ≡ Some e → of_kernel e ≡ true
-kernel_told p i e false b c d f g is = cc
-kernel_told p i e true true true d f g is = let same : KNote (proc_id p) ≡ e = cc in ap of_kernel (sym same)
-kernel_told p i e true true false d f g is = cc
-kernel_told p i e true false c true true g is = let same : KStore i ≡ e = cc in ap of_kernel (sym same)
-kernel_told p i e true false c true false true is = let same : Release ≡ e = cc in ap of_kernel (sym same)
-kernel_told p i e true false c true false false is = cc
-kernel_told p i e true false c false f g is = cc
-
 module _ (m : Flight) (at : Places) (words : Word → ℕ) where
   from_told : (p release : ℕ) (place : Place) (e : Event) → next_from m p release place ≡ Some e → is_actor e p ≡ true
   from_told p release (At f zero) e is = told p (Start (proc_id p)) e (nat_eq_self p) (gate _ (Some (Start (proc_id p))) e is).1
@@ -86,6 +76,3 @@ module _ (m : Flight) (at : Places) (words : Word → ℕ) where
   -- The next event of a processor or of the kernel is the next event of its actor.
   pub own_next : (p : ℕ) (e : Event) → next_of m at words p ≡ Some e → IsNext m at words e
   own_next p e is = by_actor p e (from_told p (words ReleaseWord) (at.proc p) e (gate (nat_lt p m.procs) (next_from m p (words ReleaseWord) (at.proc p)) e is).1) ∙ is
-
-  pub kernel_next : (e : Event) → next_kernel m at words ≡ Some e → IsNext m at words e
-  kernel_next e is = by_kernel e (kernel_told at.step _ e (nat_lt at.frame m.frames) (nat_lt at.step m.procs) (may_note m at.step at.frame (words (EndWord at.step))) (nat_lt (suc at.frame) m.frames) _ _ is) ∙ is

@@ -1,9 +1,8 @@
 -- The words that a processor reads once it has made all looks of its frame are the snapshot of that frame.
 use Rattle.std.proofs.Common.{◌≡◌, ◌∙◌, ◌⊎◌, ℕ, pos, ◌<◌, ◌≤◌, false, refl, ap, sym, subst, arith, List, ◌∷◌, length}
-use Rattle.std.specs.Prelude.{nat_le, nat_lt, slice_index_or}
+use Rattle.std.specs.Prelude.{nat_le, slice_index_or}
 use Rattle.std.proofs.lemmas.Bool.Decides.{nat_tests}
 use native.Mathlib.Decide.{dec_le}
-use Rattle.scram_types.specs.declared.ids.ProcId.{ProcId}
 use Rattle.scram_types.specs.Scripts.{ScriptParts}
 use Rattle.scram_types.specs.Specification.{Parts}
 use Rattle.bank_words.specs.Images.{kernel_encode}
@@ -14,16 +13,14 @@ use Rattle.frame_model.specs.Storage.{kernel_image}
 use Rattle.fail_stop.specs.declared.snapshots.Snapshot.{Snapshot}
 use Rattle.fail_stop.specs.Drafts.{IsSnapshot}
 use Rattle.bank_words.specs.declared.events.Event.{Event}
-use Rattle.bank_words.specs.declared.events.Event.TheVariants.{Store}
 use Rattle.fail_stop.specs.Ends.{IsOver}
-use Rattle.fail_stop.specs.Events.{At, BankWord, Halted, IsNext, KernelWord, Place, Places, ReleaseWord, Word, frame_of, halts_at, next_from}
+use Rattle.fail_stop.specs.Events.{At, BankWord, Halted, IsNext, KernelWord, Place, Places, frame_of}
 use Rattle.fail_stop.specs.Flights.{Flight, word_in}
 use Rattle.fail_stop.specs.Kept.{IsPlaced}
 use Rattle.fail_stop.specs.Laws.{Finds, MachineGoesOn, ReadersFind}
 use Rattle.fail_stop.specs.Listed.{stored_in}
 use Rattle.fail_stop.specs.ScriptFlights.{flight_of, image_words_after}
 use Rattle.event_core.specs.declared.places.Places.{Places as KeptPlaces}
-use Rattle.fail_stop.proofs.Plans.{Mid, gate, is_less, mid, plan_store}
 use Rattle.event_core.specs.Cores.{CoreParts, MachineKeeps, core_of, core_places, core_words, core_flight, frames_ended}
 use Rattle.event_core.specs.Places.{HasLooked, machine_places}
 use Rattle.event_core.specs.Reads.{bank_taken, kernel_words_stored, word_read}
@@ -116,16 +113,6 @@ snapshot_by core spec script places stored history room count p snap frame is k 
     } in
     subst (λ (core : CoreParts). IsSnapshot core.spec core.script (frame_of ((core_places core).proc p)) snap) is
     (subst (λ f. IsSnapshot spec script f snap) here snapshot)
-
--- A processor whose next event is a store has made all looks of its frame, but neither its flip nor its halt.
-pub store_looked : (m : Flight) (at : Places) (words : Word → ℕ) (p : ProcId) (i : ℕ) → IsNext m at words (Store p i) → (p.0 < m.procs) × HasLooked m (at.proc p.0) × (i < m.width)
-store_looked m at words p i next =
-    let a = gate (nat_lt p.0 m.procs) (next_from m p.0 (words ReleaseWord) (at.proc p.0)) (Store p i) next in
-    let b : Mid m p.0 (at.proc p.0) (Store p i) = mid m p.0 (words ReleaseWord) (at.proc p.0) (Store p i) a.1 (λ e. cc) in
-    let c = plan_store m p.0 b.n i (halts_at m b.n (m.halt p.0 b.f)) b.next in
-    let count = c.1 in
-    let low = c.2 in
-    (is_less p.0 m.procs a.0, subst (λ (place : Place). HasLooked m place) (sym b.here) (omega (arith, count), omega (arith, count, low)), low)
 
 -- If the flight of a core is not over, then some actor has a next event.
 pub goes_on_by : (core : CoreParts) (spec : Parts) (script : ScriptParts) (places : KeptPlaces) (stored : List ℕ) (history : List Event) (room count : ℕ) → core_of spec script places stored history ≡ core

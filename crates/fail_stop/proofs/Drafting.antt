@@ -43,9 +43,6 @@ draft_is spec snap p tasks seen areas own image is_tasks is_seen is_areas is_own
 abbrev pub MadeBelow : (ℕ → List ℤ) → ℕ → List ℤ → List ℤ → Type 0
 MadeBelow slot n old image = (b : ℕ) → b < 8 → slot_in image b ≡ (if nat_lt b n then slot b else slot_in old b)
 
-pub none_made : (slot : ℕ → List ℤ) (image : List ℤ) → MadeBelow slot 0 image image
-none_made slot image b low = let none : nat_lt b 0 ≡ false = grind (arith, nat_tests) in rw none refl
-
 -- If the slots of the first `n` applications are made, and slot `n` replaces the old slot, then the slots of the
 -- first `n + 1` applications are made.
 pub one_made : (slot : ℕ → List ℤ) (n : ℕ) (area old image after : List ℤ) → MadeBelow slot n old image → area ≡ slot n → ((b : ℕ) → b < 8 → slot_in after b ≡ (if nat_eq b n then area else slot_in image b))

@@ -1,5 +1,5 @@
 -- Proof that processors in flight are at their places in the machine after a start and after a halt.
-use Rattle.std.proofs.Common.{◌≡◌, ◌∙◌, ◌+◌, ◌<◌, ◌≤◌, ℕ, ap, arith, refl, subst, sym, true, false, List, [], ◌∷◌, ◌++◌, length}
+use Rattle.std.proofs.Common.{◌≡◌, ◌∙◌, ◌+◌, ◌<◌, ℕ, ap, arith, refl, subst, sym, true, false, List, [], ◌∷◌, ◌++◌, length}
 use Rattle.std.specs.Prelude.{Option, Some, None, is_some, map, slice_index_or, slice_set}
 use native.Mathlib.Decide.{ℕ_discrete}
 use Rattle.std.proofs.lemmas.List.{append-nil, get_or-set_other, get_or-set_same, get_or_append_left, length-set}
@@ -72,14 +72,6 @@ module _ {X : Type 0} {Y : X → Type 0} (m : Flight) where
   pub opening_flyer : (p : ℕ) (flyer : Flyer X Y) (proc : ProcId) (rack spare : Rack X Y) → flyer.unit ≡ Up (record { proc = proc; rack = rack }) → flyer.spare ≡ Some spare → proc.0 ≡ p
       → IsFlyerAt m p (At 0 0) flyer
   opening_flyer p flyer proc rack spare unit some is = record { unit = rw unit (record { number = is; down = refl; frame = λ down. cc }); spare = λ r e low. ap is_some some }
-
-  -- A processor that neither halts nor restarts in an event is at its place after the event without a change.
-  pub flyer_stays : (p : ℕ) (before after : Place) (flyer : Flyer X Y) → is_halted after ≡ is_halted before → (is_halted before ≡ true → frame_of after ≡ frame_of before) → frame_of before ≤ frame_of after
-      → IsFlyerAt m p before flyer → IsFlyerAt m p after flyer
-  flyer_stays p before after flyer same still low is = record {
-    unit = record { number = is.unit.number; down = is.unit.down ∙ sym same; frame = λ down. is.unit.frame down ∙ sym (still (sym is.unit.down ∙ down)) };
-    spare = λ r e later. is.spare r e (omega (arith, later, low));
-  }
 
   -- If processor `i` of a list is replaced by a processor at its new place, and no other place changes, then each
   -- processor is at its place.

@@ -118,11 +118,6 @@ pub still : (m : Flight) (p a b : ℕ) → a ≤ b → ((g : ℕ) → a ≤ g �
 still m p a zero h q = let e : a ≡ 0 = omega arith in subst (λ (x : ℕ). Same m p a x) e (same_refl m p a)
 still m p a (suc b) h q = still_next m p a b q (λ d. still m p a b d (λ g l u. q g l (omega arith))) h (dec_le a b)
 
--- `back_by` is `false` for each frame `g` before the frame of the restart.
-back_not_yet : (o : Option ℕ) (h r g : ℕ) → o ≡ Some r → g < r → back_by o h g ≡ false
-back_not_yet None h r g e l = cc
-back_not_yet (Some s) h r g e l = let same : s ≡ r = cc in grind (arith, nat_tests)
-
 back_none : (o : Option ℕ) (h g : ℕ) → ((r : ℕ) → o ≡ Some r → h < r → g < r) → back_by o h g ≡ false
 back_none None h g e = refl
 back_none (Some s) h g e = let late : h < s → g < s = e s refl in grind (arith, nat_tests)

@@ -1,13 +1,10 @@
 -- Lemmas on an image as eight slots, one after another.
-use Rattle.std.proofs.Common.{◌≡◌, ◌∙◌, ◌⊎◌, ℕ, ◌+◌, ◌*◌, ◌/◌, ◌%◌, ◌<◌, ◌≤◌, refl, ap, sym, arith, length, List, ◌++◌, get_or, true, false}
-use mathlib.Core.Logic.{inl, inr}
+use Rattle.std.proofs.Common.{◌≡◌, ◌∙◌, ℕ, ◌+◌, ◌*◌, ◌/◌, ◌%◌, ◌<◌, ◌≤◌, refl, ap, sym, arith, length, List, ◌++◌, get_or, true, false}
 use native.Mathlib.Decide.{dec_le, ℕ_discrete}
-use Rattle.std.specs.Prelude.{ℤ, pos, slice_index_or, slice_set, if◌then◌else◌, nat_eq}
+use Rattle.std.specs.Prelude.{ℤ, pos, slice_index_or, if◌then◌else◌, nat_eq}
 use Rattle.std.proofs.lemmas.Bool.Decides.{nat_tests}
-use Rattle.std.proofs.lemmas.Grind.{get_or-set_at}
-use Rattle.std.proofs.lemmas.List.{ext_get_or, get_or-set_other, length-append, length-set}
+use Rattle.std.proofs.lemmas.List.{ext_get_or, length-append}
 use Rattle.scram_types.proofs.Eights.{eight_at, eight_same}
-use Rattle.scram_types.proofs.Naturals.{below_or_at}
 use Rattle.frame_model.specs.Flights.{image_of, slot_in}
 use Rattle.frame_model.proofs.Slots.{slot_found}
 
@@ -63,21 +60,6 @@ pub record IsPut (a n : ℕ) (area old image : List ℤ) : Type 0 where
   pub put : (i : ℕ) → i < n → slice_index_or image (8 * a + i) (pos 0) ≡ slice_index_or area i (pos 0)
   pub lower : (k : ℕ) → k < 8 * a → slice_index_or image k (pos 0) ≡ slice_index_or old k (pos 0)
   pub upper : (k : ℕ) → 8 * a + 8 ≤ k → slice_index_or image k (pos 0) ≡ slice_index_or old k (pos 0)
-
-pub none_put : (a : ℕ) (area image : List ℤ) → length image ≡ 64 → IsPut a 0 area image image
-none_put a area image long = record { long = long; put = λ i low. absurd (omega (arith, low)); lower = λ k low. refl; upper = λ k high. refl }
-
-pub more_put : (a n : ℕ) (area old image : List ℤ) (x : ℤ) → IsPut a n area old image → a < 8 → n < 8 → x ≡ slice_index_or area n (pos 0) → IsPut a (n + 1) area old (slice_set image (8 * a + n) x)
-more_put a n area old image x before few low is = record {
-  long = length-set image (8 * a + n) x ∙ before.long;
-  put = λ i most. by_place i most (below_or_at i n (omega (arith, most)));
-  lower = λ k under. get_or-set_other image (8 * a + n) k x (pos 0) (λ same. omega (arith, same, under)) ∙ before.lower k under;
-  upper = λ k over. get_or-set_other image (8 * a + n) k x (pos 0) (λ same. omega (arith, same, over, low)) ∙ before.upper k over;
-} where
-  by_place : (i : ℕ) → i < n + 1 → (i < n) ⊎ (i ≡ n) → slice_index_or (slice_set image (8 * a + n) x) (8 * a + i) (pos 0) ≡ slice_index_or area i (pos 0)
-  by_place i most (inl front) = get_or-set_other image (8 * a + n) (8 * a + i) x (pos 0) (λ same. omega (arith, same, front)) ∙ before.put i front
-  by_place i most (inr here) =
-      get_or-set_at image (8 * a + n) (8 * a + i) x (pos 0) (omega (arith, here)) (omega (arith, few, low, before.long)) ∙ is ∙ ap (λ (j : ℕ). slice_index_or area j (pos 0)) (sym here)
 
 pub all_put : (a : ℕ) (area old image : List ℤ) → length area ≡ 8 → IsPut a 8 area old image → (b : ℕ) → b < 8 → slot_in image b ≡ (if nat_eq b a then area else slot_in old b)
 all_put a area old image long put b low = by_place (ℕ_discrete b a)

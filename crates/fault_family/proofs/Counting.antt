@@ -1,7 +1,7 @@
 -- Lemmas on the number of frames that change the environment, and on the test of each frame for the failure
 -- assumption.
-use Rattle.std.proofs.Common.{◌≡◌, ◌≢◌, ℕ, zero, suc, ◌+◌, ◌-◌, ◌≤◌, Bool, true, false, not, List, [], ◌∷◌, arith, refl, ap, sym, ◌∙◌}
-use Rattle.std.specs.Prelude.{Option, Some, None, is_some, ◌||◌, if◌then◌else◌}
+use Rattle.std.proofs.Common.{◌≡◌, ◌≢◌, ℕ, zero, suc, ◌+◌, ◌-◌, ◌≤◌, true, false, not, List, [], ◌∷◌, arith, refl, ap, sym, ◌∙◌}
+use Rattle.std.specs.Prelude.{Option, Some, None, is_some}
 use mathlib.Core.Logic.{inl, inr}
 use Rattle.scram_types.proofs.Naturals.{at_or_below}
 use Rattle.scram_types.proofs.Searches.{first_found, none_more}
@@ -35,16 +35,6 @@ change_after_first spec script (suc f) some = let back : suc f - 1 ≡ f = omega
 pub counted : (spec : Parts) (script : ScriptParts) (f : ℕ) → is_change_frame spec script f ≡ true → changes_upto spec script (f - 1) + 1 ≡ changes_upto spec script f
 counted spec script zero is = absurd cc
 counted spec script (suc f) is = let back : suc f - 1 ≡ f = omega arith in rw (back, is) refl
-
-pub uncounted : (spec : Parts) (script : ScriptParts) (f : ℕ) → is_change_frame spec script f ≡ false → changes_upto spec script (f - 1) ≡ changes_upto spec script f
-uncounted spec script zero is = refl
-uncounted spec script (suc f) is = let none : changes_upto spec script f + 0 ≡ changes_upto spec script f = omega arith in let back : suc f - 1 ≡ f = omega arith in rw (back, is) (sym none)
-
--- The optional violation in a frame is not `None` if and only if one of the two tests of the frame passes.
-pub shown_by : (a b : Bool) (x y : Outside) → (a || b) ≡ is_some (if a then Some x else (if b then Some y else None))
-shown_by true b x y = refl
-shown_by false true x y = refl
-shown_by false false x y = refl
 
 -- The count of change frames up to a frame is at least the count up to any earlier frame.
 pub upto_before : (spec : Parts) (script : ScriptParts) (e f : ℕ) → e ≤ f → changes_upto spec script e ≤ changes_upto spec script f

@@ -3,7 +3,7 @@ use Rattle.std.proofs.Common.{◌≡◌, ℕ, zero, suc, ◌+◌, ◌-◌, ◌<�
 use mathlib.Core.Logic.{inl, inr}
 use Rattle.scram_types.proofs.Naturals.{at_or_below, above_test, below_or_at, at_most_test}
 use mir.Val.{bool_byte}
-use Rattle.std.specs.Prelude.{◌&&◌, ◌==◌, Option, Some, None, if◌then◌else◌, nat_lt, slice_get}
+use Rattle.std.specs.Prelude.{◌==◌, Option, Some, None, if◌then◌else◌, slice_get}
 use Rattle.std.proofs.lemmas.Option.{slice_get-get_or, slice_get_within}
 use Rattle.std.proofs.Math.Bool.{and-false, and-true}
 use Rattle.scram_types.proofs.Naturals.{plus_one}
@@ -16,7 +16,7 @@ use Rattle.scram_types.proofs.Options.{same_some, none_some}
 use Rattle.scram_types.proofs.Equality.{same_env}
 use Rattle.fault_script.specs.Times.{factors_at, is_up, value_after}
 use Rattle.fault_script.specs.Environments.{env_at}
-use Rattle.fault_script.specs.Assumption.{changes_in_window, changes_upto, is_change_frame, is_change_too_many, is_same_env}
+use Rattle.fault_script.specs.Assumption.{changes_upto, is_change_frame, is_same_env}
 use Rattle.fault_script.specs.declared.walks.Walk.{Walk}
 use Rattle.fault_script.specs.declared.walks.Window.{Window}
 use Rattle.fault_script.specs.Fits.{ChangeBefore, EachNext, Fits}
@@ -125,9 +125,6 @@ values_are script f n next taken whole =
     (sym (value_is script.changes 0 f n 0 taken later)) (sym (value_is script.changes 1 f n 0 taken later)) (sym (value_is script.changes 2 f n 0 taken later))
     (sym (value_is script.changes 3 f n 0 taken later)) (sym (value_is script.changes 4 f n 0 taken later)) (sym (value_is script.changes 5 f n 0 taken later))
 
-pub taken_later : (changes : List Change) (f n : ℕ) → HaveCome changes f n → HaveCome changes (f + 1) n
-taken_later changes f n taken = λ k change less there. (let by = taken k change less there in omega arith)
-
 -- Lemmas on frame 0, at which no change has been taken.
 pub none_taken : (changes : List Change) (f : ℕ) → HaveCome changes f 0
 none_taken changes f = λ k change less there. absurd (omega arith)
@@ -169,10 +166,6 @@ walk_moves spec script fits f after at taken values whole up = record {
   env = env_whole spec script (f + 1) after.env up (values ∙ values_are script (f + 1) after.taken fits.changes_ordered taken whole);
 }
 
--- If `IsWalk` holds for a walk and some frame, then it holds for the frame in the walk's field `frame`.
-pub stands_there : (spec : Parts) (script : ScriptParts) (f : ℕ) (walk : Walk) → IsWalk spec script f walk → IsWalk spec script walk.frame walk
-stands_there spec script f walk is = subst (λ g. IsWalk spec script g walk) (sym is.frame) is
-
 pub stands_next : (spec : Parts) (script : ScriptParts) (f : ℕ) (walk after : Walk) → IsWalk spec script f walk → IsWalk spec script (walk.frame + 1) after → IsWalk spec script (f + 1) after
 stands_next spec script f walk after is there = subst (λ g. IsWalk spec script (g + 1) after) is.frame there
 
@@ -196,17 +189,6 @@ changes_most spec script f window is =
     let most = upto_most spec script f in
     let counted = is.changes in
     omega arith
-
-pub window_opens : (spec : Parts) (script : ScriptParts) (walk : Walk) (window : Window) → IsWalk spec script 0 walk → window.lead ≡ walk → window.trail ≡ walk
-    → window.changed ≡ false → window.changes ≡ 0 → IsWindow spec script 0 window
-window_opens spec script walk window is lead trail changed changes =
-    let none : 0 - spec.window ≡ 0 = omega arith in
-    record {
-      lead = subst (IsWalk spec script 0) (sym lead) is;
-      trail = subst (λ (f : ℕ). IsWalk spec script f window.trail) (sym none) (subst (IsWalk spec script 0) (sym trail) is);
-      changed = changed;
-      changes = rw (none, changes) refl;
-    }
 
 pub window_grows : (spec : Parts) (script : ScriptParts) (f : ℕ) (window after : Window) → f < spec.window → IsWindow spec script f window → IsWalk spec script (f + 1) after.lead
     → after.trail ≡ window.trail → after.changed ≡ not (is_same_env window.lead.env after.lead.env) → after.changes ≡ window.changes + (if after.changed then 1 else 0)
@@ -261,14 +243,6 @@ window_moves spec script f window after left late is leads trails c l changes =
       changed = changed;
       changes = rw (← apart) (omega arith);
     }
-
--- The fields of a window determine whether its last frame is a change frame too many.
-pub window_tells : (spec : Parts) (script : ScriptParts) (f : ℕ) (window : Window) → IsWindow spec script f window
-    → (window.changed && nat_lt (spec.changes + 1) window.changes) ≡ is_change_too_many spec script f
-window_tells spec script f window is =
-    let counted = is.changes in
-    let held : window.changes ≡ changes_in_window spec script f = omega arith in
-    rw (is.changed, held) refl
 
 -- The change that is read past the end of a list of changes.
 abbrev pub blank : Change

@@ -11,9 +11,6 @@ pub record Filled {A : Type 0} (value : ℕ → A) (xs : List A) (n : ℕ) : Typ
   pub eight : length xs ≡ 8
   pub front : (k : ℕ) (d : A) → k < n → slice_index_or xs k d ≡ value k
 
-pub filled_none : {A : Type 0} (value : ℕ → A) (xs : List A) → length xs ≡ 8 → Filled value xs 0
-filled_none value xs eight = record { eight = eight; front = λ k d low. absurd (omega arith) }
-
 last_or_below : (k n : ℕ) → k < n + 1 → (k ≡ n) ⊎ (k < n)
 last_or_below k n h = grind arith
 
@@ -58,9 +55,6 @@ filled_all value xs filled = all_eight value xs filled.eight filled.front
 -- The elements of `xs` from index `n` on are those of `old`.
 abbrev pub AreStill : {A : Type 0} → List A → List A → ℕ → Type 0
 AreStill {A} old xs n = (k : ℕ) (d : A) → n ≤ k → slice_index_or xs k d ≡ slice_index_or old k d
-
-pub still_all : {A : Type 0} (xs : List A) → AreStill xs xs 0
-still_all xs k d from = refl
 
 pub still_more : {A : Type 0} (old xs : List A) (n : ℕ) (x : A) → AreStill old xs n → AreStill old (slice_set xs n x) (n + 1)
 still_more old xs n x still k d from = get_or-set_other xs n k x d (λ same. omega (arith, from, same)) ∙ still k d (omega (arith, from))

@@ -1,6 +1,6 @@
 -- The outcome for an application is the same for any two settings of one frame, if its own area and keeper are the
 -- same.
-use Rattle.std.proofs.Common.{◌≡◌, ◌∙◌, ℕ, ap, refl}
+use Rattle.std.proofs.Common.{◌≡◌, ◌∙◌, ℕ, ap}
 use Rattle.scram_types.specs.Bits.{has_bit}
 use Rattle.scram_types.specs.Lookups.{kind_of_app}
 use Rattle.scram_types.specs.Specification.{Parts}
@@ -33,9 +33,6 @@ keeper_same spec sys later setting other a alike same =
     ap (λ (stage : Stage). keeper_made spec later stage.phase other.committing a) alike.stage
     ∙ ap (λ set. keeper_made spec later setting.stage.phase set a) alike.committing
     ∙ ap (λ keeper. keeper_on (has_bit setting.committing) keeper (task_in spec setting.stage.phase a).proc) same
-
-pub alike_all : (setting : Setting) → IsSharedAlike setting setting
-alike_all setting = record { stage = refl; committing = refl; seen = λ mode own. refl }
 
 pub alike_on : (setting other last : Setting) → IsSharedAlike setting other → IsSharedAlike other last → IsSharedAlike setting last
 alike_on setting other last first then = record {

@@ -9,21 +9,11 @@ use Rattle.kernel_pair.specs.declared.events.UnitHalt.{UnitHalt}
 use Rattle.kernel_pair.specs.declared.events.PairEvent.{PairEvent}
 use Rattle.kernel_pair.specs.declared.events.PairEvent.TheVariants.{Fly, Note, Store, Ready, Meet, Release, Stop}
 use Rattle.kernel_pair.specs.Laws.{HasNext}
-use Rattle.kernel_pair.specs.Machines.{IsPairStep, PairParts, pair_flight, pair_in}
+use Rattle.kernel_pair.specs.Machines.{PairParts, pair_flight, pair_in}
 use Rattle.kernel_pair.specs.Pairs.{IsPairNext, IsPairOver, Pair, next_unit, other_unit}
 use Rattle.kernel_pair.specs.Rounds.{IsFlownOn, left_in}
 use Rattle.kernel_pair.proofs.Moving.{two}
 use Rattle.kernel_pair.proofs.Plans.{IsOf, goes}
-
-pub step_on : (old new : PairParts) (e : PairEvent) (Stuck : Type 0) → IsPairStep old e new → IsFlownOn old new Stuck
-step_on old new e Stuck step =
-    let fewer = step.fewer in record {
-      spec = step.spec;
-      script = step.script;
-      halt = step.halt;
-      fewer = omega (arith, fewer);
-      stuck = λ same. absurd (omega (arith, fewer, same));
-    }
 
 pub still : (old new : PairParts) (Stuck : Type 0) → new ≡ old → Stuck → IsFlownOn old new Stuck
 still old new Stuck same stuck = record {

@@ -7,7 +7,7 @@ use Rattle.scram_types.specs.declared.scripts.Change.{Change}
 use Rattle.scram_types.specs.declared.scripts.HaltAt.{HaltAt}
 use Rattle.scram_types.specs.declared.specification.Factor.{Factor}
 use Rattle.scram_types.specs.Specification.{Each, Parts}
-use Rattle.fault_script.specs.Fits.{AtMostTwice, ChangeBefore, EachLater, EachNext, Fits, HaltBefore, IsChange, IsHalt}
+use Rattle.fault_script.specs.Fits.{AtMostTwice, ChangeBefore, EachNext, Fits, HaltBefore, IsChange, IsHalt}
 use Rattle.fault_script.proofs.Ends.{each_later_none, each_later_one, each_next_none, each_none}
 use Rattle.mission_gen.specs.Changes.{change_by, changes_by, count_of_values, frames_of, generated_script, last_block, value_by, values_by, generated_halt}
 use Rattle.mission_gen.specs.Turns.{Turn, turns_to}

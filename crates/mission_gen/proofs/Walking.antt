@@ -1,12 +1,12 @@
 -- Lemmas on the changes and the values after two lists of turns in sequence, and on a walk that a further block
 -- extends.
-use Rattle.std.proofs.Common.{◌≡◌, refl, ap, sym, ◌∙◌, ℕ, suc, ◌+◌, add-one, subst, List, [], ◌∷◌, ◌++◌, append_assoc, replicate}
+use Rattle.std.proofs.Common.{◌≡◌, refl, ap, sym, ◌∙◌, ℕ, suc, ◌+◌, add-one, subst, List, [], ◌∷◌, ◌++◌, replicate}
 use Rattle.scram_types.specs.declared.scripts.Change.{Change}
 use Rattle.mission_gen.specs.declared.walks.Walk.{Walk}
 use Rattle.mission_gen.specs.Blocks.{next_random, random}
 use Rattle.mission_gen.specs.Changes.{change_by, changes_by, values_after, values_by}
 use Rattle.mission_gen.specs.Turns.{Turn, turns_in, turns_to}
-use Rattle.mission_gen.specs.Walks.{Turned, WalkedBlock}
+use Rattle.mission_gen.specs.Walks.{WalkedBlock}
 
 pub changes_more : (values : List ℕ) (xs ys : List Turn) →
     changes_by values (xs ++ ys) ≡ changes_by values xs ++ changes_by (values_after values xs) ys
@@ -16,18 +16,6 @@ changes_more values (x ∷ xs) ys = ap (λ (changes : List Change). change_by va
 pub values_more : (values : List ℕ) (xs ys : List Turn) → values_after values (xs ++ ys) ≡ values_after (values_after values xs) ys
 values_more values [] ys = refl
 values_more values (x ∷ xs) ys = values_more (values_by values x) xs ys
-
-pub turned_more : (a b c : Walk) (xs ys : List Turn) → Turned a b xs → Turned b c ys → Turned a c (xs ++ ys)
-turned_more a b c xs ys first second = record {
-  random = second.random ∙ first.random;
-  values = second.values ∙ ap (λ (values : List ℕ). values_after values ys) first.values ∙ sym (values_more a.values xs ys);
-  changes =
-      second.changes
-      ∙ ap (λ (changes : List Change). changes ++ changes_by b.values ys) first.changes
-      ∙ ap (λ (values : List ℕ). (a.changes.items ++ changes_by a.values xs) ++ changes_by values ys) first.values
-      ∙ append_assoc a.changes.items (changes_by a.values xs) (changes_by (values_after a.values xs) ys)
-      ∙ sym (ap (λ (changes : List Change). a.changes.items ++ changes) (changes_more a.values xs ys));
-}
 
 -- The walk is the state of the generator after the blocks 1 to `k` of mission `n`.
 pub record Walked (n k : ℕ) (walk : Walk) : Type 0 where

@@ -9,4 +9,3 @@ pub mod Sets
 pub mod SpecBack
 pub mod TextLengths
 pub mod TextSizes
-pub mod Written

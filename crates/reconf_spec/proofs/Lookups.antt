@@ -41,8 +41,3 @@ cut (y ∷ ys) (suc i) x P e then = cut ys i x P e (λ after is. then after (ap 
 pub all_new : {A : Type 0} (name : A → List ℕ) (xs : List A) → NamesDiffer name xs → AllAfter (λ (done : List A) (x : A). number_from name 0 done (name x) ≡ None) xs
 all_new {A} name xs differ i x e = cut xs i x _ e (λ after is.
     none_before name 0 (take i xs) x after (subst (NamesDiffer name) (sym is) differ))
-
--- If each element of a list satisfies `F` with the elements before it, and `G` as well, it satisfies the conjunction
--- of `F` and `G`.
-pub both_after : {A : Type 0} (F G : List A → A → Type 0) (xs : List A) → AllAfter F xs → AllAfter G xs → AllAfter (λ (done : List A) (x : A). F done x × G done x) xs
-both_after F G xs f g i x e = (f i x e, g i x e)

@@ -1,13 +1,10 @@
 -- Lemmas on events that are appended to a list in two parts, one after the other.
-use Rattle.std.proofs.Common.{◌≡◌, ◌∙◌, ℕ, suc, ◌+◌, ◌≤◌, List, [], ◌∷◌, ◌++◌, append_assoc, append-nil, arith, sym, ap}
+use Rattle.std.proofs.Common.{◌≡◌, ◌∙◌, ℕ, suc, ◌+◌, ◌≤◌, List, [], ◌∷◌, ◌++◌, append_assoc, arith, ap}
 use Rattle.std.specs.Prelude.{OnOk, Result, Ok, Err}
 use Rattle.bank_words.specs.declared.events.Event.{Event}
 use Rattle.scram_types.specs.Searches.{listed_below}
 use Rattle.fail_stop.specs.Flights.{Flight}
 use Rattle.schedule_replay.specs.Turns.{Adds, frames_in_turns, turn_of_kernel, turns_of_procs}
-
-pub adds_none : (list : List Event) → Adds list list []
-adds_none list = sym (append-nil list)
 
 pub adds_both : (old between new xs ys : List Event) → Adds old between xs → Adds between new ys → Adds old new (xs ++ ys)
 adds_both old between new xs ys first second = second ∙ ap (λ (l : List Event). l ++ ys) first ∙ append_assoc old xs ys

@@ -108,9 +108,6 @@ least_passes test n c below fails =
     let next : c + 1 ≡ suc c = omega arith in
     rw (e, fails, next) refl
 
-pub least_here : (test : ℕ → Bool) (n c : ℕ) → c < n → test c ≡ true → least_from test c (n - c) ≡ Some c
-least_here test n c below holds = let e : n - c ≡ suc (n - (c + 1)) = omega arith in rw (e, holds) refl
-
 -- Lemmas on `greatest_below`.
 
 pub greatest_most : (value : ℕ → ℕ) (n k : ℕ) → k < n → value k ≤ greatest_below value n

@@ -1,5 +1,5 @@
 -- The lines that answer a question about a specification.
-use Rattle.std.specs.Prelude.{ℕ, ◌+◌, List, ◌++◌, length, codes, decimal}
+use Rattle.std.specs.Prelude.{ℕ, List, ◌++◌, length, codes, decimal}
 use Rattle.scram_types.specs.Lookups.{conf_name}
 use Rattle.scram_types.specs.Specification.{Parts, bound_in}
 use Rattle.scram_types.specs.declared.ids.ConfId.{ConfId}

@@ -5,7 +5,7 @@ use Rattle.std.specs.Prelude.{Option, Some, None}
 use Rattle.trace_props.proofs.Plans.{Plan, IsAcceptedPlan}
 use Rattle.trace_props.proofs.CourseModes.{CourseMode, CourseMode.Stable, CourseMode.Moving}
 use Rattle.trace_props.proofs.Courses.{Course, IsCourseWithin, IsCourseFlown, CourseRowUnder, course_changes_upto, course_mode_at, CourseReading, CourseReading.Steady, CourseReading.Leaving, CourseReport, course_reading_before, course_arrival, course_report_of}
-use Rattle.trace_props.proofs.Promises.{IsCourseAssured, IsCourseCutOff, IsCourseAllAssured, Reconfigures, course_first_moving, course_begin_of, course_further_changes, CentralFacts, HasCentralFacts}
+use Rattle.trace_props.proofs.Promises.{IsCourseAssured, IsCourseCutOff, IsCourseAllAssured, Reconfigures, course_first_moving, course_begin_of, course_further_changes, CentralFacts}
 use Rattle.trace_props.proofs.Deadlines.{Deadlines, bound_of, in_bound}
 use Rattle.trace_props.proofs.Coupling.{LeavingIn, Coupled, coupled}
 
@@ -88,6 +88,3 @@ module _ (plan : Plan) (course : Course) (accepted : IsAcceptedPlan plan) (withi
 
 pub reconfigures : Reconfigures
 reconfigures plan course accepted within flown = all_assured plan course accepted within flown
-
-pub has_central_facts : HasCentralFacts
-has_central_facts plan course accepted within flown = central_facts plan course accepted within flown

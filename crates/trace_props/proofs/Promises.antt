@@ -77,8 +77,3 @@ pub record CentralFacts (plan : Plan) (course : Course) (s f from : ℕ) (haltin
   pub halted_by : since + plan_halting plan halting ≤ s + 1 + plan.halting from + course_further_changes plan course s f * plan.slowest
   pub settled : f ≤ since + plan_halting plan halting + plan.preparing to + plan.initialising to
   pub few : course_further_changes plan course s f ≤ plan_further plan
-
-abbrev pub HasCentralFacts : Type 0
-HasCentralFacts = (plan : Plan) (course : Course) → IsAcceptedPlan plan → IsCourseWithin plan course → IsCourseFlown plan course
-    → (f from : ℕ) (halting : Option ℕ) (to since : ℕ) → f ≤ course.frames → course_mode_at plan course f ≡ Moving from halting to since
-    → CentralFacts plan course (course_begin_of (course_reading_before plan course f) f) f from halting to since

@@ -91,9 +91,6 @@ ending_read early spec rows seen (report ∷ reports) sound few count shown =
 
 -- Lemmas on the lines of applications.
 
-zero_area : List ℤ
-zero_area = replicate 8 (pos 0)
-
 -- `part` is the row `row` after its first line and the lines of its first `a` applications have been read. Its other
 -- acts are `Off`, and its other areas are zeros.
 record IsPart (row part : Row) (a : ℕ) : Type 0 where

@@ -3,7 +3,7 @@
 use Rattle.std.proofs.Common.{◌≡◌, ◌∙◌, ℕ, zero, suc, ap, sym, subst, refl, arith, List, [], ◌∷◌, ◌++◌, length}
 use Rattle.std.specs.Prelude.{All, Option, Some, option_to_list, slice_get}
 use Rattle.std.proofs.lemmas.List.Elements.{All-append, All-pop}
-use Rattle.std.proofs.lemmas.List.{length-append, length-map, map-append}
+use Rattle.std.proofs.lemmas.List.{length-append, map-append}
 use Rattle.std.proofs.lemmas.Option.{slice_get_within}
 use Rattle.fail_stop.specs.Events.{At}
 use Rattle.scram_types.proofs.Items.{first_part, next_part}
@@ -60,16 +60,9 @@ module _ {X : Type 0} {Y : X → Type 0} where
   numbers_less numbers xs ys o crew p are all is =
       last_same (numbers_in ys) numbers (proc_of crew.seat) p (sym (map-append (λ (c : Crew X Y). proc_of c.seat) ys (crew ∷ [])) ∙ sym (ap numbers_in (popped xs ys o crew all is)) ∙ are)
 
-  pub numbers_some : (numbers : List ℕ) (xs ys : List (Crew X Y)) (o : Option (Crew X Y)) (p : ℕ) → numbers_in xs ≡ numbers ++ p ∷ [] → length xs ≡ 0 → ⊥
-  numbers_some numbers xs ys o p are none =
-      let long : length xs ≡ length (numbers ++ p ∷ []) = sym (length-map xs (λ (c : Crew X Y). proc_of c.seat)) ∙ ap length are in
-      omega (arith, long, none, length-append numbers (p ∷ []))
-
 -- Lemmas on the crews that fly in the caller's turns.
 
 module _ {X : Type 0} {Y : X → Type 0} (words : WordTable) where
-  pub crews_none : (own : List (Crew X Y)) → length own ≡ 0 → AreCrewsOf words own
-  crews_none own none = λ k d low. absurd (omega (arith, none, low))
 
   pub crews_more : (own all : List (Crew X Y)) (crew : Crew X Y) → AreCrewsOf words own → IsCrewOf words crew → all ≡ own ++ crew ∷ [] → AreCrewsOf words all
   crews_more own all crew are fits same =

@@ -18,10 +18,6 @@ use Rattle.word_table.specs.Tables.{IsSeatOf, mission_in, seat_place, proc_of}
 pub record AreDealt (words : WordTable) (seats : List Seat) : Type 0 where
   pub each : (p : ℕ) (seat : Seat) → slice_get seats p ≡ Some seat → IsSeatOf words seat × (proc_of seat ≡ p) × (seat_place seat ≡ At 0 0)
 
-pub none_dealt : (words : WordTable) (seats : List Seat) → seats ≡ [] → AreDealt words seats
-none_dealt words [] none = record { each = λ p seat there. absurd (let e = there in cc) }
-none_dealt words (x ∷ seats) none = absurd cc
-
 at_end : (l : List Seat) (a b : Seat) (j : ℕ) → slice_get (l ++ a ∷ []) j ≡ Some b → (slice_get l j ≡ Some b) ⊎ ((j ≡ length l) × (a ≡ b))
 at_end [] a b zero there = inr (refl, cc)
 at_end [] a b (suc j) there = absurd (let e = there in cc)

@@ -1,14 +1,14 @@
 -- Lemmas on images and words that are read one word after another.
-use Rattle.std.proofs.Common.{◌≡◌, ◌∙◌, ℕ, ℤ, pos, ◌+◌, ◌<◌, ◌≤◌, refl, sym, subst, arith, List, length}
+use Rattle.std.proofs.Common.{◌≡◌, ◌∙◌, ℕ, ℤ, pos, ◌+◌, ◌<◌, ◌≤◌, sym, subst, arith, List, length}
 use Rattle.std.specs.Prelude.{slice_index, slice_index_or, slice_set}
 use Rattle.std.proofs.lemmas.Grind.{get_or-set_at}
-use Rattle.std.proofs.lemmas.List.{get_or-set_other, get_or_past, length-set}
-use native.Mathlib.Decide.{dec_le, ℕ_discrete}
+use Rattle.std.proofs.lemmas.List.{get_or-set_other, length-set}
+use native.Mathlib.Decide.{ℕ_discrete}
 use Rattle.bank_words.specs.Numbers.{decode}
 use Rattle.fail_stop.specs.Flights.{Flight}
 use Rattle.word_table.specs.declared.actors.Actor.{Actor}
 use Rattle.word_table.specs.Plays.{IsFound}
-use Rattle.word_table.specs.Reading.{AreCleared, AreRead, IsWordRead}
+use Rattle.word_table.specs.Reading.{IsWordRead}
 
 -- For each `i` from `from` up to but not including `n`, word `i` of an image is decoded from a word found at place
 -- `at + i`.
@@ -30,31 +30,6 @@ one_read m actors at from n image w before low found = record {
   by_word i above most (no d) =
       let r : IsWordRead m actors (at + i) (slice_index_or image i (pos 0)) = before.read i above (omega (arith, most, d)) in
       record { word = r.word; found = r.found; value = get_or-set_other image n i (decode w) (pos 0) d ∙ r.value }
-
-pub none_cleared : (from : ℕ) (image : List ℤ) → AreCleared from from image image
-none_cleared from image = record { long = refl; kept = λ i low. refl; past = λ i above below. absurd (omega (arith, above, below)) }
-
-pub one_cleared : (from n : ℕ) (old image : List ℤ) → AreCleared from n old image → n < length old → from ≤ n → AreCleared from (n + 1) old (slice_set image n (pos 0))
-one_cleared from n old image before low least = record {
-  long = length-set image n (pos 0) ∙ before.long;
-  kept = λ i under. get_or-set_other image n i (pos 0) (pos 0) (λ same. omega (arith, same, under, least)) ∙ before.kept i under;
-  past = λ i above most. by_word i above most (ℕ_discrete i n);
-} where
-  by_word : (i : ℕ) → from ≤ i → i < n + 1 → Dec (i ≡ n) → slice_index_or (slice_set image n (pos 0)) i (pos 0) ≡ pos 0
-  by_word i above most (yes d) = get_or-set_at image n i (pos 0) (pos 0) d (omega (arith, low, before.long))
-  by_word i above most (no d) = get_or-set_other image n i (pos 0) (pos 0) d ∙ before.past i above (omega (arith, most, d))
-
-pub all_read : (m : Flight) (actors : List Actor) (at from to : ℕ) (image cleared : List ℤ) → AreReadBelow m actors at from to image → AreCleared to 64 image cleared → AreRead m actors at from to cleared
-all_read m actors at from to image cleared each rest = record {
-  long = rest.long ∙ each.long;
-  read = λ i above below.
-      let r : IsWordRead m actors (at + i) (slice_index_or image i (pos 0)) = each.read i above below in
-      record { word = r.word; found = r.found; value = rest.kept i below ∙ r.value };
-  past = λ i over. by_length i over (dec_le 64 i);
-} where
-  by_length : (i : ℕ) → to ≤ i → Dec (64 ≤ i) → slice_index_or cleared i (pos 0) ≡ pos 0
-  by_length i over (yes d) = get_or_past cleared i (pos 0) (omega (arith, d, each.long, rest.long))
-  by_length i over (no d) = rest.past i over (omega (arith, d))
 
 -- If the first `to` kernel words were found at their places and the next word is found too, the first `to + 1` words
 -- were found.

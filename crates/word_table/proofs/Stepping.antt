@@ -1,12 +1,12 @@
 -- Lemmas on a seat whose next step is a given event.
-use Rattle.std.proofs.Common.{◌≡◌, ◌∙◌, ℕ, zero, suc, ◌+◌, ◌<◌, ◌≤◌, Bool, true, false, refl, List, [], ◌∷◌}
+use Rattle.std.proofs.Common.{◌≡◌, ◌∙◌, ℕ, zero, suc, ◌+◌, ◌<◌, Bool, true, false, refl, List, [], ◌∷◌}
 use Rattle.std.specs.Prelude.{Some}
 use Rattle.scram_types.specs.Lookups.{proc_id}
 use Rattle.bank_words.specs.declared.events.Event.{Event}
-use Rattle.bank_words.specs.declared.events.Event.TheVariants.{Flip, Look, Store}
+use Rattle.bank_words.specs.declared.events.Event.TheVariants.{Flip, Store}
 use Rattle.fail_stop.specs.Events.{frame_of, halts_at, plan}
 use Rattle.fail_stop.specs.Flights.{Flight}
-use Rattle.fail_stop.proofs.Plans.{plan_flip, plan_look, plan_store}
+use Rattle.fail_stop.proofs.Plans.{plan_flip, plan_store}
 use Rattle.word_table.specs.declared.actors.Actor.{Actor}
 use Rattle.word_table.specs.declared.actors.Actor.TheVariants.{Runs}
 use Rattle.word_table.specs.Actors.{actor_at, place_at, step_at}
@@ -36,8 +36,6 @@ frame_at f n true = refl
 frame_at f n false = refl
 
 module _ (m : Flight) (p f n : ℕ) where
-  pub look_low : (q : ℕ) → plan m p f n ≡ Some (Look (proc_id p) (proc_id q)) → n ≤ m.procs
-  look_low q is = (plan_look m p n q (halts_at m n (m.halt p f)) is).1
 
   pub store_low : (i : ℕ) → plan m p f n ≡ Some (Store (proc_id p) i) → (n ≡ m.procs + 1 + i) × (i < m.width)
   store_low i is = let low = plan_store m p n i (halts_at m n (m.halt p f)) is in (low.1, low.2)

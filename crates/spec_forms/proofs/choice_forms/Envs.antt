@@ -1,6 +1,6 @@
 -- If an environment of the specification is changed by the words of a state, the result is an environment of the
 -- specification.
-use Rattle.std.proofs.Common.{◌≡◌, ◌∙◌, ℕ, ◌<◌, ◌≤◌, ap, arith, length, length-set, refl, subst, sym, List}
+use Rattle.std.proofs.Common.{◌≡◌, ◌∙◌, ℕ, ◌<◌, ap, arith, length, length-set, refl, subst, sym, List}
 use mathlib.Core.Logic.{inl, inr}
 use Rattle.std.specs.Prelude.{slice_get, Some}
 use Rattle.std.proofs.lemmas.List.{get_or-set_other, get_or-set_same}
@@ -56,11 +56,3 @@ module _ (spec : Parts) (made : IsSpec spec) where
       (λ factor there found.
       let within = number_from_within (λ (name : List ℕ). name) text 0 n factor.values found in
       value_belongs v x.0 n factor belongs there (omega (arith, within)))
-
-  pub down_belongs : (v : Env) (up : ℕ) → IsEnv spec v → up ≤ v.up → IsEnv spec (record { up = up; factors = v.factors })
-  down_belongs v up belongs fewer = record {
-    up = (let few = belongs.up in omega (arith, few, fewer));
-    width = belongs.width;
-    values = belongs.values;
-    rest = belongs.rest;
-  }
