@@ -166,7 +166,6 @@ no_targets spec i = record {
 }
 
 module _ (spec : Parts) (i : ConfId) (t set : ℕ) (before : HasTargetsBelow spec i t set) where
-
   joined : set + 2 ^ t ≡ 1 * 2 ^ t + set
   joined = omega arith
 

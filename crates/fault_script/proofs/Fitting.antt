@@ -100,7 +100,7 @@ pub record Listed {A : Type 0} (Good : List A → Type 0) (most : ℕ) (xs : Lis
 
 -- If each element that is read keeps a property of the elements before it, the whole list has the property.
 module _ {A : Type 0} (Good : List A → Type 0) (read : List ℕ → List A → Data → Result A DocFault)
-  (more : (at : List ℕ) (before : List A) (x : A) (d : Data) → Good before → read at before d ≡ Ok x → Good (before ++ x ∷ [])) where
+    (more : (at : List ℕ) (before : List A) (x : A) (d : Data) → Good before → read at before d ≡ Ok x → Good (before ++ x ∷ [])) where
   elements_ok : (at : List ℕ) (i : ℕ) (before xs : List A) (ds : Items) → Good before → elements_from read at i before ds ≡ Ok xs → Read Good (length before + items_len ds) xs
   elements_ok at i before xs no_items good e =
       let same : before ≡ xs = cc in let long = ap length same in

@@ -56,7 +56,7 @@ items_back f least most at xs enough few =
 
 -- If each element is read back as written, the whole list is read back as written.
 module _ {A : Type 0} (Fact : List A → A → Type 0) (read : List ℕ → List A → Data → Result A DocFault) (f : A → Data)
-  (back : (at : List ℕ) (done : List A) (x : A) → Fact done x → read at done (f x) ≡ Ok x) where
+    (back : (at : List ℕ) (done : List A) (x : A) → Fact done x → read at done (f x) ≡ Ok x) where
   elements_back : (at : List ℕ) (i : ℕ) (before xs whole : List A) → before ++ xs ≡ whole → AllAfter Fact whole
       → elements_from read at i before (items_of (map f xs)) ≡ Ok whole
   elements_back at i before [] whole e all = ap (λ (ys : List A). Ok ys) (sym (append-nil before) ∙ e)

@@ -63,7 +63,6 @@ module _ {X : Type 0} {Y : X → Type 0} where
 -- Lemmas on the crews that fly in the caller's turns.
 
 module _ {X : Type 0} {Y : X → Type 0} (words : WordTable) where
-
   pub crews_more : (own all : List (Crew X Y)) (crew : Crew X Y) → AreCrewsOf words own → IsCrewOf words crew → all ≡ own ++ crew ∷ [] → AreCrewsOf words all
   crews_more own all crew are fits same =
       subst (AreCrewsOf words) (sym same) (All-append (λ (c : Crew X Y). IsCrewOf words c) own (crew ∷ []) are (all_one (λ (c : Crew X Y). IsCrewOf words c) crew fits))

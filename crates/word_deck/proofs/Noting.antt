@@ -94,7 +94,7 @@ done_log mission kseat between (inr last) = all (length mission.spec.procs) ksea
 -- Lemmas on the values that the kernel passes to the log and to the words.
 
 module _ (kernel : KernelParts) (mission : MissionParts) (noted : Noted) (is : kernel ≡ kernel_after mission.spec mission.script kernel.past)
-  (are : AreNoted mission kernel.past (length mission.spec.procs) noted) where
+    (are : AreNoted mission kernel.past (length mission.spec.procs) noted) where
   spec_is : kernel.spec ≡ mission.spec
   spec_is = ap (λ (k : KernelParts). k.spec) is
 

@@ -36,7 +36,6 @@ frame_at f n true = refl
 frame_at f n false = refl
 
 module _ (m : Flight) (p f n : ℕ) where
-
   pub store_low : (i : ℕ) → plan m p f n ≡ Some (Store (proc_id p) i) → (n ≡ m.procs + 1 + i) × (i < m.width)
   store_low i is = let low = plan_store m p n i (halts_at m n (m.halt p f)) is in (low.1, low.2)
 
