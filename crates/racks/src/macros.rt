@@ -19,9 +19,7 @@ macro_rules! rack {
     }};
 }
 
-/// Creates eight racks, one for each processor, each with the boxes of kinds 0 to 4. If a processor, as
-/// `Some(number)`, and an application are given, the rack of that processor has a box of the application instead of
-/// the autopilot.
+/// Creates eight racks, one for each processor, each with the boxes of kinds 0 to 4.
 #[macro_export]
 macro_rules! racks {
     ($rt:expr) => {{
@@ -31,15 +29,42 @@ macro_rules! racks {
         }
         racks
     }};
-    ($rt:expr, $proc:expr, $first:expr) => {{
+}
+
+/// Creates the racks and the spares of eight processors, each with the boxes of kinds 0 to 4, and returns both lists.
+/// If a processor, as `Some(number)`, and an application are given, the rack of that processor has a box of the
+/// application instead of the autopilot.
+// Each place that creates boxes is expensive to prove, so one loop creates all racks.
+#[macro_export]
+macro_rules! racks_and_spares {
+    ($rt:expr) => {{
         let mut racks = Vec::new($rt.alloc());
-        for proc in 0..8 {
-            if $proc == Some(proc) {
-                racks.push($crate::rack!($rt, $first))?;
+        let mut spares = Vec::new($rt.alloc());
+        for place in 0..16 {
+            let rack = $crate::rack!($rt, $crate::Autopilot::new());
+            if place < 8 {
+                racks.push(rack)?;
             } else {
-                racks.push($crate::rack!($rt, $crate::Autopilot::new()))?;
+                spares.push(rack)?;
             }
         }
-        racks
+        (racks, spares)
+    }};
+    ($rt:expr, $proc:expr, $first:expr) => {{
+        let mut racks = Vec::new($rt.alloc());
+        let mut spares = Vec::new($rt.alloc());
+        for place in 0..16 {
+            let rack = if $proc == Some(place) {
+                $crate::rack!($rt, $first)
+            } else {
+                $crate::rack!($rt, $crate::Autopilot::new())
+            };
+            if place < 8 {
+                racks.push(rack)?;
+            } else {
+                spares.push(rack)?;
+            }
+        }
+        (racks, spares)
     }};
 }

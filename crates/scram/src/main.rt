@@ -3,7 +3,7 @@
 #![tactic(auto)]
 
 use app_model::{Boxes, racks_fit};
-use racks::{Autopilot, rack};
+use racks::racks_and_spares;
 use scram_cli::run_program;
 use scram_types::NoMemory;
 use std::alloc::AllocGlobal;
@@ -50,17 +50,7 @@ fn answer<R: AllocGlobal + Files + Print + Threads + Wait + Sync>(
     threads: &R,
     words: &[String],
 ) -> Result<u8, NoMemory> {
-    // A place that creates boxes is expensive to prove, so the racks and the spares are created at the same place.
-    let mut racks = Vec::new(rt.alloc());
-    let mut spares = Vec::new(rt.alloc());
-    for made in 0..16 {
-        let rack = rack!(rt, Autopilot::new());
-        if made < 8 {
-            racks.push(rack)?;
-        } else {
-            spares.push(rack)?;
-        }
-    }
+    let (racks, spares) = racks_and_spares!(rt);
     if !racks_fit(&racks) || !racks_fit(&spares) {
         return Ok(refuse_racks(rt));
     }

@@ -11,7 +11,7 @@ use std::io::{self, ErrorKind};
 use std::rt::HostRuntime;
 use std::sync::Wait;
 use std::thread::Threads;
-use test_kit::{Counters, counted_racks, counted_spares, fly_alone, is_same};
+use test_kit::{Counters, counted_racks_and_spares, fly_alone, is_same};
 
 /// Flies a mission over words and over a lock with boxes that count their calls, and prints the counts. The names of
 /// the mission's files are in `words`.
@@ -68,8 +68,7 @@ fn fly_counted<R: AllocGlobal + Threads + Wait + Sync>(
     deck: Deck,
     counters: &Counters,
 ) -> io::Result<Flown> {
-    let racks = counted_racks!(rt, counters);
-    let spares = counted_spares!(rt, counters);
+    let (racks, spares) = counted_racks_and_spares!(rt, counters);
     fly_fitting(rt, mission, deck, racks, spares)
 }
 

@@ -115,6 +115,16 @@ impl Counters {
         }
     }
 
+    /// Returns the counts for a rack, and for the rack that its boxes wait for. Places 0 to 7 are the first racks of the
+    /// processors, and the places from 8 on are their spare racks.
+    pub fn of_place(&self, place: u32) -> (&'static Calls, Option<&'static Calls>) {
+        if place < 8 {
+            (self.own(place), self.awaited(place))
+        } else {
+            (self.spare(place - 8), None)
+        }
+    }
+
     /// Prints all counts.
     pub fn print(&self, rt: &HostRuntime) -> io::Result<()> {
         self.first.print(rt, "first")?;

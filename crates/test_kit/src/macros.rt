@@ -22,28 +22,23 @@ macro_rules! counted_rack {
     }};
 }
 
-/// Makes the first racks of eight processors, with boxes that count their calls in the given `Counters`. The boxes of
-/// the first two processors wait for each other.
+/// Makes the first racks and the spare racks of eight processors, with boxes that count their calls in the given
+/// `Counters`, and returns both lists. The first boxes of the first two processors wait for each other.
+// Each place that makes boxes is expensive to prove, so one loop makes all racks.
 #[macro_export]
-macro_rules! counted_racks {
+macro_rules! counted_racks_and_spares {
     ($rt:expr, $counters:expr) => {{
         let mut racks = Vec::new($rt.alloc());
-        for proc in 0..8 {
-            racks.push($crate::counted_rack!($rt, $counters.own(proc), $counters.awaited(proc)))?;
-        }
-        racks
-    }};
-}
-
-/// Makes the spare racks of eight processors, with boxes that count their calls in the given `Counters` and do not
-/// wait.
-#[macro_export]
-macro_rules! counted_spares {
-    ($rt:expr, $counters:expr) => {{
         let mut spares = Vec::new($rt.alloc());
-        for proc in 0..8 {
-            spares.push($crate::counted_rack!($rt, $counters.spare(proc), None))?;
+        for place in 0..16 {
+            let (own, awaited) = $counters.of_place(place);
+            let rack = $crate::counted_rack!($rt, own, awaited);
+            if place < 8 {
+                racks.push(rack)?;
+            } else {
+                spares.push(rack)?;
+            }
         }
-        spares
+        (racks, spares)
     }};
 }

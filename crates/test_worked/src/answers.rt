@@ -3,7 +3,7 @@
 use crate::files::numbers;
 use app_model::{Boxes, Rack, racks_fit};
 use more_apps::PlainAutopilot;
-use racks::racks;
+use racks::racks_and_spares;
 use scram_cli::scram;
 use scram_io::{MemFiles, MemSink};
 use std::alloc::AllocGlobal;
@@ -11,7 +11,7 @@ use std::io::{self, ErrorKind};
 use std::rt::HostRuntime;
 use std::sync::Wait;
 use std::thread::Threads;
-use test_kit::{Counters, counted_racks, counted_spares};
+use test_kit::{Counters, counted_racks_and_spares};
 
 /// The number of bytes for which a sink has room if the row does not say otherwise. It exceeds the output of any row.
 const ROOM: u32 = 200_000;
@@ -32,8 +32,7 @@ pub fn answer<R: AllocGlobal + Threads + Wait + Sync>(
     outside: Outside,
     plain: Option<u32>,
 ) -> io::Result<(u8, MemSink)> {
-    let racks = racks!(rt, plain, PlainAutopilot::new());
-    let spares = racks!(rt);
+    let (racks, spares) = racks_and_spares!(rt, plain, PlainAutopilot::new());
     call(threads, words, outside, racks, spares)
 }
 
@@ -45,8 +44,7 @@ pub fn answer_counted<R: AllocGlobal + Threads + Wait + Sync>(
     outside: Outside,
     counters: &Counters,
 ) -> io::Result<(u8, MemSink)> {
-    let racks = counted_racks!(rt, counters);
-    let spares = counted_spares!(rt, counters);
+    let (racks, spares) = counted_racks_and_spares!(rt, counters);
     call(threads, words, outside, racks, spares)
 }
 
