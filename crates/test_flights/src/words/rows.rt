@@ -76,9 +76,7 @@ fn fly(rt: &HostRuntime, words: Words, kseat: KSeat, pair: Pair, row: &str) -> i
     }
 }
 
-// Makes the turns that the lines of a row request: those of `rounds N WHO ..`, those of `turns WHO ..`, of which it
-// prints the results, and those of `order WHO ..` to the end of the flight, whose rows it compares with the rows of the
-// flight on one thread.
+// Makes the turns that the lines of a row request.
 fn fly_actors(
     rt: &HostRuntime,
     mission: &Mission,
@@ -89,18 +87,62 @@ fn fly_actors(
     requires { ActorsFit words.now mission.now actors.old }
     ensures { ActorsFit words.now mission.now actors.new }
 {
-    if let Some(line) = line_after(row, "rounds ") {
-        repeat_turns(mission, words, actors, line)?;
+    fly_repeated(mission, words, actors, row)?;
+    fly_printed(rt, mission, words, actors, row)?;
+    fly_ordered(rt, mission, words, actors, row)
+}
+
+// Makes the turns of the line `rounds N WHO ..`, if the row has one.
+fn fly_repeated(
+    mission: &Mission,
+    words: &WordTable,
+    actors: &mut Actors,
+    row: &str,
+) -> io::Result<()>
+    requires { ActorsFit words.now mission.now actors.old }
+    ensures { ActorsFit words.now mission.now actors.new }
+{
+    match line_after(row, "rounds ") {
+        Some(line) => repeat_turns(mission, words, actors, line),
+        None => Ok(()),
     }
-    if let Some(names) = line_after(row, "turns ") {
-        print_turns(rt, mission, words, actors, names)?;
+}
+
+// Makes the turns of the line `turns WHO ..` and prints their results, if the row has one.
+fn fly_printed(
+    rt: &HostRuntime,
+    mission: &Mission,
+    words: &WordTable,
+    actors: &mut Actors,
+    row: &str,
+) -> io::Result<()>
+    requires { ActorsFit words.now mission.now actors.old }
+    ensures { ActorsFit words.now mission.now actors.new }
+{
+    match line_after(row, "turns ") {
+        Some(names) => print_turns(rt, mission, words, actors, names),
+        None => Ok(()),
     }
-    if let Some(names) = line_after(row, "order ") {
-        let rounds = fly_rounds(mission, words, actors, names)?;
-        print!(rt; "rounds {rounds} ")?;
-        print_compared(rt, mission, actors.kernel.rows())?;
-    }
-    Ok(())
+}
+
+// Makes the turns of the line `order WHO ..` to the end of the flight, and compares the rows with those of the flight
+// on one thread, if the row has such a line.
+fn fly_ordered(
+    rt: &HostRuntime,
+    mission: &Mission,
+    words: &WordTable,
+    actors: &mut Actors,
+    row: &str,
+) -> io::Result<()>
+    requires { ActorsFit words.now mission.now actors.old }
+    ensures { ActorsFit words.now mission.now actors.new }
+{
+    let Some(names) = line_after(row, "order ") else {
+        return Ok(());
+    };
+    let rounds = fly_rounds(mission, words, actors, names)?;
+    print!(rt; "rounds {rounds} ")?;
+    print_compared(rt, mission, actors.kernel.rows())
 }
 
 // Compares rows with those of the flight on one thread, and prints the result.
