@@ -6,16 +6,9 @@ in_one : (line a b c d e f : List ℕ) → ((((((line ++ a) ++ b) ++ c) ++ d) ++
 in_one line a b c d e f = simp append_assoc
 
 pub returns-in-Some-Some-Some-clause-text : goal.returns-in-Some-Some-Some-clause-text
-returns-in-Some-Some-Some-clause-text c = ?
-
-pub returns-in-Some-Some-None-clause-text : goal.returns-in-Some-Some-None-clause-text
-returns-in-Some-Some-None-clause-text c = ?
-
-pub returns-in-Some-None-default-clause-text : goal.returns-in-Some-None-default-clause-text
-returns-in-Some-None-default-clause-text c = ?
-
-pub returns-in-None-default-default-clause-text : goal.returns-in-None-default-default-clause-text
-returns-in-None-default-default-clause-text c = ?
+returns-in-Some-Some-Some-clause-text c =
+    rw (c.in-Some-Some-Some.is-0, c.in-Some-Some-Some.is-1, c.in-Some-Some-Some.is-2, c.add_extremes-in-Some-Some-Some-2.ensures.text, c.text-in-Some-Some-Some-2.ensures, c.add_extremes-in-Some-Some-Some.ensures.text, c.text-in-Some-Some-Some.ensures, c.add_extremes.ensures.text, c.text.ensures)
+    (in_one c.args.line.now _ _ _ _ _ _)
 
 pub add_extremes-requires-in-Some-Some-Some : goal.add_extremes-requires-in-Some-Some-Some
 add_extremes-requires-in-Some-Some-Some c = omega (arith, length-append {A = ℕ}, ap length c.text.ensures, ap length c.text-in-Some-Some-Some.ensures)
