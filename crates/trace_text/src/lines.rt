@@ -42,7 +42,8 @@ impl Line {
     /// Appends a text.
     pub fn text(&mut self, text: &[u8])
         requires { length self.old + length text.now ≤ MAX_LINE_BYTES }
-        ensures { self.new ≡ self.old ++ text.now }
+        ensures text { self.new ≡ self.old ++ text.now }
+        ensures size { length self.new ≡ length self.old + length text.now }
     {
         let _fits = self.bytes.try_extend_from_slice(text);
     }

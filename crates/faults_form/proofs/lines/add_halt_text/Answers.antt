@@ -5,5 +5,5 @@ use Rattle.faults_form.proofs.lines.add_halt_text.Goals as goal
 pub returns-clause-text : goal.returns-clause-text
 unfolding spelled_halt
 returns-clause-text c =
-    rw (c.add_step.ensures.text, c.text-3.ensures, c.as_bytes.ensures.value, c.proc_name.ensures.name, c.text-2.ensures, c.number.ensures.text, c.text.ensures)
+    rw (c.add_step.ensures.text, c.text-3.ensures.text, c.as_bytes.ensures.value, c.proc_name.ensures.name, c.text-2.ensures.text, c.number.ensures.text, c.text.ensures.text)
     (simp append_assoc refl)

@@ -7,9 +7,9 @@ use Rattle.faults_form.proofs.lines.add_version.Goals as goal
 pub returns-then-restarts-clause-text : goal.returns-then-restarts-clause-text
 returns-then-restarts-clause-text c =
     let is = second_version c.args.spec.now (filter_map restart_of_fault c.args.faults.now) (sym c.restarts.ensures ∙ c.if-restarts.true) in
-    rw (is, c.text.ensures, c.add_restarts.ensures.text) (simp append_assoc refl)
+    rw (is, c.text.ensures.text, c.add_restarts.ensures.text) (simp append_assoc refl)
 
 pub returns-else-restarts-clause-text : goal.returns-else-restarts-clause-text
 returns-else-restarts-clause-text c =
     let is = first_version c.args.spec.now (filter_map restart_of_fault c.args.faults.now) (sym c.restarts.ensures ∙ c.if-restarts.false) in
-    rw (is, c.text-else-restarts.ensures) (simp append_assoc refl)
+    rw (is, c.text-else-restarts.ensures.text) (simp append_assoc refl)

@@ -9,5 +9,5 @@ pub returns-clause-text : goal.returns-clause-text
 unfolding route_text
 returns-clause-text c =
     route_added c.args.line.now c.text.new.self c.text-2.new.self c.text-3.new.self c.add_conf_or_dash.new.line (codes "reconfiguration ") (conf_name c.args.spec.now c.args.from.0)
-    c.as_bytes.result.now (codes " &gt; ") (conf_or_dash c.args.spec.now c.args.to) c.text.ensures (c.as_bytes.ensures.value ∙ c.conf_name.ensures.name)
-    c.text-2.ensures c.text-3.ensures c.add_conf_or_dash.ensures.text
+    c.as_bytes.result.now (codes " &gt; ") (conf_or_dash c.args.spec.now c.args.to) c.text.ensures.text (c.as_bytes.ensures.value ∙ c.conf_name.ensures.name)
+    c.text-2.ensures.text c.text-3.ensures.text c.add_conf_or_dash.ensures.text

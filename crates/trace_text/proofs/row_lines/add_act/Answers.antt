@@ -7,22 +7,22 @@ phase_short : (line word after : List ℕ) {before : List ℕ} → before ≡ li
 phase_short line word after is few short = omega (arith, ap length is, length-append line word)
 
 pub returns-in-Ran-clause-text : goal.returns-in-Ran-clause-text
-returns-in-Ran-clause-text c = rw (c.text-in-Ran-3.ensures, c.text-in-Ran-2.ensures, c.text-in-Ran.ensures, c.text.ensures, c.as_bytes-in-Ran.ensures.value, c.as_bytes.ensures.value, c.proc_name.ensures.name, c.name_of_mode.ensures.name, c.in-Ran.is) (simp append_assoc)
+returns-in-Ran-clause-text c = rw (c.text-in-Ran-3.ensures.text, c.text-in-Ran-2.ensures.text, c.text-in-Ran.ensures.text, c.text.ensures.text, c.as_bytes-in-Ran.ensures.value, c.as_bytes.ensures.value, c.proc_name.ensures.name, c.name_of_mode.ensures.name, c.in-Ran.is) (simp append_assoc)
 
 pub returns-in-Halting-clause-text : goal.returns-in-Halting-clause-text
-returns-in-Halting-clause-text c = rw (c.add_phase.ensures.text, c.text-in-Halting.ensures, c.in-Halting.is, append_assoc c.args.line.now (codes "halting "))
+returns-in-Halting-clause-text c = rw (c.add_phase.ensures.text, c.text-in-Halting.ensures.text, c.in-Halting.is, append_assoc c.args.line.now (codes "halting "))
 
 pub returns-in-Preparing-clause-text : goal.returns-in-Preparing-clause-text
-returns-in-Preparing-clause-text c = rw (c.add_phase-in-Preparing.ensures.text, c.text-in-Preparing.ensures, c.in-Preparing.is, append_assoc c.args.line.now (codes "preparing "))
+returns-in-Preparing-clause-text c = rw (c.add_phase-in-Preparing.ensures.text, c.text-in-Preparing.ensures.text, c.in-Preparing.is, append_assoc c.args.line.now (codes "preparing "))
 
 pub returns-in-Initialising-clause-text : goal.returns-in-Initialising-clause-text
-returns-in-Initialising-clause-text c = rw (c.add_phase-in-Initialising.ensures.text, c.text-in-Initialising.ensures, c.in-Initialising.is, append_assoc c.args.line.now (codes "initialising "))
+returns-in-Initialising-clause-text c = rw (c.add_phase-in-Initialising.ensures.text, c.text-in-Initialising.ensures.text, c.in-Initialising.is, append_assoc c.args.line.now (codes "initialising "))
 
 pub returns-in-Halting-clause-short : goal.returns-in-Halting-clause-short
-returns-in-Halting-clause-short c = phase_short c.args.line.now _ _ c.text-in-Halting.ensures (omega arith) c.add_phase.ensures.short
+returns-in-Halting-clause-short c = phase_short c.args.line.now _ _ c.text-in-Halting.ensures.text (omega arith) c.add_phase.ensures.short
 
 pub returns-in-Preparing-clause-short : goal.returns-in-Preparing-clause-short
-returns-in-Preparing-clause-short c = phase_short c.args.line.now _ _ c.text-in-Preparing.ensures (omega arith) c.add_phase-in-Preparing.ensures.short
+returns-in-Preparing-clause-short c = phase_short c.args.line.now _ _ c.text-in-Preparing.ensures.text (omega arith) c.add_phase-in-Preparing.ensures.short
 
 pub returns-in-Initialising-clause-short : goal.returns-in-Initialising-clause-short
-returns-in-Initialising-clause-short c = phase_short c.args.line.now _ _ c.text-in-Initialising.ensures (omega arith) c.add_phase-in-Initialising.ensures.short
+returns-in-Initialising-clause-short c = phase_short c.args.line.now _ _ c.text-in-Initialising.ensures.text (omega arith) c.add_phase-in-Initialising.ensures.short
