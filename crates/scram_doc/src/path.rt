@@ -42,7 +42,8 @@ impl Path {
     /// path.
     pub fn member(&self, name: &str) -> Path
         requires { length self.now + 1 + length name.now ≤ 64 }
-        ensures { result ≡ member_path self.now name.now }
+        ensures path { result ≡ member_path self.now name.now }
+        ensures size { length result ≡ length self.now + 1 + length name.now }
     {
         let mut text = self.text;
         text.push_str(".");

@@ -1,7 +1,5 @@
-use Rattle.std.proofs.Common.{◌∷◌, ◌≤◌, ◌^◌, arith, length, refl, rules}
+use Rattle.std.proofs.Common.{◌≤◌, ◌^◌, arith, length, refl, rules}
 use Rattle.std.proofs.Math.Nat.{pow-le-pow_right}
-use Rattle.std.proofs.lemmas.List.{length-append}
-use Rattle.std.specs.Prelude.{codes}
 use Rattle.spec_reading.proofs.OnSets.{off_apart}
 use Rattle.spec_reading.proofs.demands.read_requirements.Goals as goal
 
@@ -25,7 +23,7 @@ pub returns-in_err-up-clause-value : goal.returns-in_err-up-clause-value
 returns-in_err-up-clause-value c =
     rw (
       ← c.vocabulary.view_is,
-      ← c.member.ensures,
+      ← c.member.ensures.path,
       ← c.in_err-up.ensures.value,
     ) (search rules)
 
@@ -33,9 +31,9 @@ pub returns-in_err-down-clause-value : goal.returns-in_err-down-clause-value
 returns-in_err-down-clause-value c =
     rw (
       ← c.vocabulary.view_is,
-      ← c.member.ensures,
+      ← c.member.ensures.path,
       ← c.in_ok-up.ensures.value,
-      ← c.member-2.ensures,
+      ← c.member-2.ensures.path,
       ← c.in_err-down.ensures.value,
     ) (search rules)
 
@@ -43,11 +41,11 @@ pub returns-in_err-to-clause-value : goal.returns-in_err-to-clause-value
 returns-in_err-to-clause-value c =
     rw (
       ← c.vocabulary.view_is,
-      ← c.member.ensures,
+      ← c.member.ensures.path,
       ← c.in_ok-up.ensures.value,
-      ← c.member-2.ensures,
+      ← c.member-2.ensures.path,
       ← c.in_ok-down.ensures.value,
-      ← c.member-3.ensures,
+      ← c.member-3.ensures.path,
       ← c.in_err-to.ensures.value,
     ) (search rules)
 
@@ -55,13 +53,13 @@ pub returns-in_err-on-clause-value : goal.returns-in_err-on-clause-value
 returns-in_err-on-clause-value c =
     rw (
       ← c.vocabulary.view_is,
-      ← c.member.ensures,
+      ← c.member.ensures.path,
       ← c.in_ok-up.ensures.value,
-      ← c.member-2.ensures,
+      ← c.member-2.ensures.path,
       ← c.in_ok-down.ensures.value,
-      ← c.member-3.ensures,
+      ← c.member-3.ensures.path,
       ← c.in_ok-to.ensures.value,
-      ← c.member-4.ensures,
+      ← c.member-4.ensures.path,
       ← c.in_err-on.ensures.value,
     ) (search rules)
 
@@ -69,16 +67,16 @@ pub returns-in_err-off-clause-value : goal.returns-in_err-off-clause-value
 returns-in_err-off-clause-value c =
     rw (
       ← c.vocabulary.view_is,
-      ← c.member.ensures,
+      ← c.member.ensures.path,
       ← c.in_ok-up.ensures.value,
-      ← c.member-2.ensures,
+      ← c.member-2.ensures.path,
       ← c.in_ok-down.ensures.value,
-      ← c.member-3.ensures,
+      ← c.member-3.ensures.path,
       ← c.in_ok-to.ensures.value,
-      ← c.member-4.ensures,
+      ← c.member-4.ensures.path,
       ← c.in_ok-on.ensures.value,
       ← c.on_set.ensures,
-      ← c.member-5.ensures,
+      ← c.member-5.ensures.path,
       ← c.in_err-off.ensures.value,
     ) (search rules)
 
@@ -86,48 +84,18 @@ pub returns-clause-value : goal.returns-clause-value
 returns-clause-value c =
     rw (
       ← c.vocabulary.view_is,
-      ← c.member.ensures,
+      ← c.member.ensures.path,
       ← c.in_ok-up.ensures.value,
-      ← c.member-2.ensures,
+      ← c.member-2.ensures.path,
       ← c.in_ok-down.ensures.value,
-      ← c.member-3.ensures,
+      ← c.member-3.ensures.path,
       ← c.in_ok-to.ensures.value,
-      ← c.member-4.ensures,
+      ← c.member-4.ensures.path,
       ← c.in_ok-on.ensures.value,
       ← c.on_set.ensures,
-      ← c.member-5.ensures,
+      ← c.member-5.ensures.path,
       ← c.in_ok-off.ensures.value,
     ) refl
-
-pub read_procs_set-requires-clause-room : goal.read_procs_set-requires-clause-room
-read_procs_set-requires-clause-room c =
-    let long = length-append c.args.at.now (46 ∷ codes "up") in
-    let short = c.requires.room in
-    rw (c.member.ensures) (omega (arith, long, short))
-
-pub read_procs_set-requires-2-clause-room : goal.read_procs_set-requires-2-clause-room
-read_procs_set-requires-2-clause-room c =
-    let long = length-append c.args.at.now (46 ∷ codes "down") in
-    let short = c.requires.room in
-    rw (c.member-2.ensures) (omega (arith, long, short))
-
-pub read_confs_set-requires-clause-room : goal.read_confs_set-requires-clause-room
-read_confs_set-requires-clause-room c =
-    let long = length-append c.args.at.now (46 ∷ codes "to") in
-    let short = c.requires.room in
-    rw (c.member-3.ensures) (omega (arith, long, short))
-
-pub read_modes_on-requires-clause-room : goal.read_modes_on-requires-clause-room
-read_modes_on-requires-clause-room c =
-    let long = length-append c.args.at.now (46 ∷ codes "on") in
-    let short = c.requires.room in
-    rw (c.member-4.ensures) (omega (arith, long, short))
-
-pub read_apps_set-requires-clause-room : goal.read_apps_set-requires-clause-room
-read_apps_set-requires-clause-room c =
-    let long = length-append c.args.at.now (46 ∷ codes "off") in
-    let short = c.requires.room in
-    rw (c.member-5.ensures) (omega (arith, long, short))
 
 pub read_procs_set-requires-clause-few : goal.read_procs_set-requires-clause-few
 read_procs_set-requires-clause-few c = c.vocabulary.invariant.procs_count.few

@@ -1,6 +1,4 @@
-use Rattle.std.proofs.Common.{rules, arith, ◌∷◌}
-use Rattle.std.specs.Prelude.{codes}
-use Rattle.std.proofs.lemmas.List.{length-append}
+use Rattle.std.proofs.Common.{rules}
 use Rattle.spec_reading.proofs.applications.AppsNamedElementsAppSpecByName.read.Goals as goal
 
 pub returns-clause-fits : goal.returns-clause-fits
@@ -18,7 +16,7 @@ pub returns-in_err-name-2-clause-value : goal.returns-in_err-name-2-clause-value
 returns-in_err-name-2-clause-value c =
     rw (
       ← c.in_ok-name.ensures,
-      ← c.member.ensures,
+      ← c.member.ensures.path,
       ← c.in_err-name-2.ensures.value,
     ) (search rules)
 
@@ -26,9 +24,9 @@ pub returns-in_err-kind-clause-value : goal.returns-in_err-kind-clause-value
 returns-in_err-kind-clause-value c =
     rw (
       ← c.in_ok-name.ensures,
-      ← c.member.ensures,
+      ← c.member.ensures.path,
       ← c.in_ok-name-2.ensures.value,
-      ← c.member-2.ensures,
+      ← c.member-2.ensures.path,
       ← c.in_err-kind.ensures.value,
     ) (search rules)
 
@@ -36,11 +34,11 @@ pub returns-in_err-check_text_list-clause-value : goal.returns-in_err-check_text
 returns-in_err-check_text_list-clause-value c =
     rw (
       ← c.in_ok-name.ensures,
-      ← c.member.ensures,
+      ← c.member.ensures.path,
       ← c.in_ok-name-2.ensures.value,
-      ← c.member-2.ensures,
+      ← c.member-2.ensures.path,
       ← c.in_ok-kind.ensures.value,
-      ← c.member-3.ensures,
+      ← c.member-3.ensures.path,
       ← c.in_err-check_text_list.ensures,
     ) (search rules)
 
@@ -48,11 +46,11 @@ pub returns-in_err-modes-clause-value : goal.returns-in_err-modes-clause-value
 returns-in_err-modes-clause-value c =
     rw (
       ← c.in_ok-name.ensures,
-      ← c.member.ensures,
+      ← c.member.ensures.path,
       ← c.in_ok-name-2.ensures.value,
-      ← c.member-2.ensures,
+      ← c.member-2.ensures.path,
       ← c.in_ok-kind.ensures.value,
-      ← c.member-3.ensures,
+      ← c.member-3.ensures.path,
       ← c.in_ok-check_text_list.ensures,
     ) (search rules)
 
@@ -60,28 +58,10 @@ pub returns-clause-value : goal.returns-clause-value
 returns-clause-value c =
     rw (
       ← c.in_ok-name.ensures,
-      ← c.member.ensures,
+      ← c.member.ensures.path,
       ← c.in_ok-name-2.ensures.value,
-      ← c.member-2.ensures,
+      ← c.member-2.ensures.path,
       ← c.in_ok-kind.ensures.value,
-      ← c.member-3.ensures,
+      ← c.member-3.ensures.path,
       ← c.in_ok-check_text_list.ensures,
     ) (search rules)
-
-pub check_text_list-requires : goal.check_text_list-requires
-check_text_list-requires c =
-    let long = length-append c.args.at.now (46 ∷ codes "needs") in
-    let short = c.requires.room in
-    record { room = rw (c.member-3.ensures) (omega (arith, long, short)) }
-
-pub read_list-requires-clause-room : goal.read_list-requires-clause-room
-read_list-requires-clause-room c =
-    let long = length-append c.args.at.now (46 ∷ codes "modes") in
-    let short = c.requires.room in
-    rw (c.member-at.ensures) (omega (arith, long, short))
-
-pub read_list-requires-clause-path : goal.read_list-requires-clause-path
-read_list-requires-clause-path c =
-    let long = length-append c.args.at.now (46 ∷ codes "modes") in
-    let short = c.requires.room in
-    rw (c.member-at.ensures) (omega (arith, long, short))

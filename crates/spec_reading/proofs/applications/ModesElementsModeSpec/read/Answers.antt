@@ -27,7 +27,7 @@ pub returns-in_err-mode-2-clause-value : goal.returns-in_err-mode-2-clause-value
 returns-in_err-mode-2-clause-value c =
     rw (
       ← c.in_ok-mode.ensures,
-      ← c.member.ensures,
+      ← c.member.ensures.path,
       ← c.in_err-mode-2.ensures.value,
     ) (search rules)
 
@@ -35,9 +35,9 @@ pub returns-in_err-load-clause-value : goal.returns-in_err-load-clause-value
 returns-in_err-load-clause-value c =
     rw (
       ← c.in_ok-mode.ensures,
-      ← c.member.ensures,
+      ← c.member.ensures.path,
       ← c.in_ok-mode-2.ensures.value,
-      ← c.member-2.ensures,
+      ← c.member-2.ensures.path,
       ← c.in_err-load.ensures.value,
     ) (search rules)
 
@@ -45,11 +45,11 @@ pub returns-in_err-halt-clause-value : goal.returns-in_err-halt-clause-value
 returns-in_err-halt-clause-value c =
     rw (
       ← c.in_ok-mode.ensures,
-      ← c.member.ensures,
+      ← c.member.ensures.path,
       ← c.in_ok-mode-2.ensures.value,
-      ← c.member-2.ensures,
+      ← c.member-2.ensures.path,
       ← c.in_ok-load.ensures.value,
-      ← c.member-3.ensures,
+      ← c.member-3.ensures.path,
       ← c.in_err-halt.ensures.value,
     ) (search rules)
 
@@ -57,13 +57,13 @@ pub returns-in_err-prepare-clause-value : goal.returns-in_err-prepare-clause-val
 returns-in_err-prepare-clause-value c =
     rw (
       ← c.in_ok-mode.ensures,
-      ← c.member.ensures,
+      ← c.member.ensures.path,
       ← c.in_ok-mode-2.ensures.value,
-      ← c.member-2.ensures,
+      ← c.member-2.ensures.path,
       ← c.in_ok-load.ensures.value,
-      ← c.member-3.ensures,
+      ← c.member-3.ensures.path,
       ← c.in_ok-halt.ensures.value,
-      ← c.member-4.ensures,
+      ← c.member-4.ensures.path,
       ← c.in_err-prepare.ensures.value,
     ) (search rules)
 
@@ -71,15 +71,15 @@ pub returns-in_err-init-clause-value : goal.returns-in_err-init-clause-value
 returns-in_err-init-clause-value c =
     rw (
       ← c.in_ok-mode.ensures,
-      ← c.member.ensures,
+      ← c.member.ensures.path,
       ← c.in_ok-mode-2.ensures.value,
-      ← c.member-2.ensures,
+      ← c.member-2.ensures.path,
       ← c.in_ok-load.ensures.value,
-      ← c.member-3.ensures,
+      ← c.member-3.ensures.path,
       ← c.in_ok-halt.ensures.value,
-      ← c.member-4.ensures,
+      ← c.member-4.ensures.path,
       ← c.in_ok-prepare.ensures.value,
-      ← c.member-5.ensures,
+      ← c.member-5.ensures.path,
       ← c.in_err-init.ensures.value,
     ) (search rules)
 
@@ -87,14 +87,14 @@ pub returns-clause-value : goal.returns-clause-value
 returns-clause-value c =
     rw (
       ← c.in_ok-mode.ensures,
-      ← c.member.ensures,
+      ← c.member.ensures.path,
       ← c.in_ok-mode-2.ensures.value,
-      ← c.member-2.ensures,
+      ← c.member-2.ensures.path,
       ← c.in_ok-load.ensures.value,
-      ← c.member-3.ensures,
+      ← c.member-3.ensures.path,
       ← c.in_ok-halt.ensures.value,
-      ← c.member-4.ensures,
+      ← c.member-4.ensures.path,
       ← c.in_ok-prepare.ensures.value,
-      ← c.member-5.ensures,
+      ← c.member-5.ensures.path,
       ← c.in_ok-init.ensures.value,
     ) refl

@@ -1,6 +1,3 @@
-use Rattle.std.proofs.Common.{◌∷◌, arith}
-use Rattle.std.specs.Prelude.{codes}
-use Rattle.std.proofs.lemmas.List.{length-append}
 use Rattle.spec_reading.proofs.choices.ChoicesElementsChoice.read.Goals as goal
 
 pub returns-clause-fits : goal.returns-clause-fits
@@ -20,21 +17,3 @@ read_procs_set-requires-clause-few c = c.vocabulary.invariant.procs_count.few
 
 pub read_conf_id-requires : goal.read_conf_id-requires
 read_conf_id-requires c = record { few = c.vocabulary.invariant.confs_count.few }
-
-pub read_list-requires-clause-room : goal.read_list-requires-clause-room
-read_list-requires-clause-room c =
-    let long = length-append c.args.at.now (46 ∷ codes "when") in
-    let short = c.requires.room in
-    rw (c.member-2.ensures) (omega (arith, long, short))
-
-pub read_list-requires-clause-path : goal.read_list-requires-clause-path
-read_list-requires-clause-path c =
-    let long = length-append c.args.at.now (46 ∷ codes "when") in
-    let short = c.requires.room in
-    rw (c.member-2.ensures) (omega (arith, long, short))
-
-pub read_procs_set-requires-clause-room : goal.read_procs_set-requires-clause-room
-read_procs_set-requires-clause-room c =
-    let long = length-append c.args.at.now (46 ∷ codes "up") in
-    let short = c.requires.room in
-    rw (c.member-3.ensures) (omega (arith, long, short))
