@@ -3,6 +3,7 @@
 use Rattle.std.proofs.Common.{rules, ◌≡◌, ℕ, true, zero, suc, ◌+◌, ◌<◌, ◌≤◌, List, [], ◌∷◌, refl, ap, arith, subst}
 use Rattle.std.specs.Prelude.{IsSome, Option, Some, None, option_and_then, replicate, slice_get, slice_index_or}
 use Rattle.std.proofs.lemmas.Option.{same_Some, slice_get_within}
+use Rattle.scram_types.specs.declared.orders.Act.{Act}
 use Rattle.scram_types.specs.declared.orders.Act.TheVariants as act
 use Rattle.scram_types.specs.declared.scripts.Change.{Change}
 use Rattle.scram_types.specs.declared.specification.AppSpec.{AppSpec}
@@ -172,16 +173,25 @@ same_from (suc (suc (suc (suc (suc (suc (suc (suc (suc (suc zero)))))))))) late 
 same_from (suc (suc (suc (suc (suc (suc (suc (suc (suc (suc (suc zero))))))))))) late early = refl
 same_from (suc (suc (suc (suc (suc (suc (suc (suc (suc (suc (suc (suc f)))))))))))) late early = absurd (omega arith)
 
+abbrev last_acts : List Act
+last_acts = act.Ran (record { 0 = 2 }) (record { 0 = 0 }) ∷ replicate 7 act.Off
+
+ran_last : (row_at spec script 11).acts ≡ last_acts
+ran_last = refl
+
+none_lost_in : (a : ℕ) → act_at last_acts a ≡ act.Lost → ⊥
+none_lost_in zero e = cc
+none_lost_in (suc zero) e = cc
+none_lost_in (suc (suc zero)) e = cc
+none_lost_in (suc (suc (suc zero))) e = cc
+none_lost_in (suc (suc (suc (suc zero)))) e = cc
+none_lost_in (suc (suc (suc (suc (suc zero))))) e = cc
+none_lost_in (suc (suc (suc (suc (suc (suc zero)))))) e = cc
+none_lost_in (suc (suc (suc (suc (suc (suc (suc zero))))))) e = cc
+none_lost_in (suc (suc (suc (suc (suc (suc (suc (suc a)))))))) e = cc
+
 none_lost : (a : ℕ) → act_at (row_at spec script 11).acts a ≡ act.Lost → ⊥
-none_lost zero e = cc
-none_lost (suc zero) e = cc
-none_lost (suc (suc zero)) e = cc
-none_lost (suc (suc (suc zero))) e = cc
-none_lost (suc (suc (suc (suc zero)))) e = cc
-none_lost (suc (suc (suc (suc (suc zero))))) e = cc
-none_lost (suc (suc (suc (suc (suc (suc zero)))))) e = cc
-none_lost (suc (suc (suc (suc (suc (suc (suc zero))))))) e = cc
-none_lost (suc (suc (suc (suc (suc (suc (suc (suc a)))))))) e = cc
+none_lost a e = none_lost_in a (subst (λ (acts : List Act). act_at acts a ≡ act.Lost) ran_last e)
 
 last_is_calm : IsCalm spec (rows_of spec script) 11 (row_at spec script 11)
 last_is_calm = record { there = refl; late = omega arith; still = same_from; whole = none_lost }
