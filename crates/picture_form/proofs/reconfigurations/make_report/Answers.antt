@@ -1,7 +1,7 @@
-use Rattle.std.proofs.Common.{append_assoc, refl}
+use Rattle.std.proofs.Common.{refl}
 use Rattle.picture_form.proofs.reconfigurations.make_report.Goals as goal
 
 pub returns : goal.returns
 returns c =
     rw (c.text-3.ensures, c.add_title.ensures.text, c.text-2.ensures, c.add_box.ensures.text, c.text.ensures, c.add_bound_rect.ensures.text, c.new-line.ensures, c.bound_of.ensures, c.x.ensures.value, c.from.ensures, c.rows_width.ensures, c.from-2.ensures)
-    (simp append_assoc refl)
+    refl
