@@ -16,4 +16,4 @@ returns-after-joined c =
     = elim c.if-joined.branch [ then-joined w ↦ rw (w.if-joined.true, w.text-is) refl | else-joined w ↦ rw (w.if-joined.false, w.text-is) refl ] in
     let fits : SFits w64 c.quantity_of-number.result = record { sfits = c.quantity_of-number.type_inv } in
     rw (there, ← c.quantity_of-number.ensures, ← to_z-of_z w64 c.quantity_of-number.result fits, ← c.drop_of.ensures, ← c.row_before.ensures, ← c.is_joined-joined.ensures, ← letter)
-    (four_pieces c.if-joined.text.now (decimal c.args.k) (codes " ") (decimal c.drop_of.result) _ _ _ _ (c.text.ensures ∙ ap (λ (line : List ℕ). line ++ c.if-joined.text.now) c.new-line.ensures) c.add_number.ensures.text c.text-in-Some.ensures c.add_number-in-Some.ensures.text)
+    (four_pieces c.if-joined.text.now (decimal c.args.k) (codes " ") (decimal c.drop_of.result) _ _ _ _ (c.text.ensures.text ∙ ap (λ (line : List ℕ). line ++ c.if-joined.text.now) c.new-line.ensures) c.add_number.ensures.text c.text-in-Some.ensures.text c.add_number-in-Some.ensures.text)
