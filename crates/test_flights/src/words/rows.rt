@@ -16,7 +16,7 @@ use std::io::{self, ErrorKind};
 use std::rt::HostRuntime;
 use test_kit::{fill, fly_alone, line_after, mission_of_texts, number_after};
 use word_deck::KernelCrew;
-use word_table::{KSeat, Seat, WordTable, Words};
+use word_table::{KSeat, Seat, Words};
 
 /// Flies the script of a row for each step below the number in its line `steps N`, and prints the results.
 pub fn fly_row(rt: &HostRuntime, text: &str, row: &str) -> io::Result<()> {
@@ -64,7 +64,7 @@ fn fly(rt: &HostRuntime, words: Words, kseat: KSeat, pair: Pair, row: &str) -> i
         Ok(kernel) => {
             let kernel = KernelCrew::kernel(mission, kseat, kernel);
             let mut actors = Actors { pair, kernel };
-            match fly_actors(rt, mission, &words.table, &mut actors, row) {
+            match fly_actors(rt, &words, &mut actors, row) {
                 Ok(()) => close(rt, words, actors, row),
                 Err(error) => {
                     drop((words, actors));
@@ -77,72 +77,49 @@ fn fly(rt: &HostRuntime, words: Words, kseat: KSeat, pair: Pair, row: &str) -> i
 }
 
 // Makes the turns that the lines of a row request.
-fn fly_actors(
-    rt: &HostRuntime,
-    mission: &Mission,
-    words: &WordTable,
-    actors: &mut Actors,
-    row: &str,
-) -> io::Result<()>
-    requires { ActorsFit words.now mission.now actors.old }
-    ensures { ActorsFit words.now mission.now actors.new }
+fn fly_actors(rt: &HostRuntime, words: &Words, actors: &mut Actors, row: &str) -> io::Result<()>
+    requires { ActorsFit words.now.table words.now.mission.now actors.old }
+    ensures { ActorsFit words.now.table words.now.mission.now actors.new }
 {
-    fly_repeated(mission, words, actors, row)?;
-    fly_printed(rt, mission, words, actors, row)?;
-    fly_ordered(rt, mission, words, actors, row)
+    fly_repeated(words, actors, row)?;
+    fly_printed(rt, words, actors, row)?;
+    fly_ordered(rt, words, actors, row)
 }
 
 // Makes the turns of the line `rounds N WHO ..`, if the row has one.
-fn fly_repeated(
-    mission: &Mission,
-    words: &WordTable,
-    actors: &mut Actors,
-    row: &str,
-) -> io::Result<()>
-    requires { ActorsFit words.now mission.now actors.old }
-    ensures { ActorsFit words.now mission.now actors.new }
+fn fly_repeated(words: &Words, actors: &mut Actors, row: &str) -> io::Result<()>
+    requires { ActorsFit words.now.table words.now.mission.now actors.old }
+    ensures { ActorsFit words.now.table words.now.mission.now actors.new }
 {
     match line_after(row, "rounds ") {
-        Some(line) => repeat_turns(mission, words, actors, line),
+        Some(line) => repeat_turns(words.mission, &words.table, actors, line),
         None => Ok(()),
     }
 }
 
 // Makes the turns of the line `turns WHO ..` and prints their results, if the row has one.
-fn fly_printed(
-    rt: &HostRuntime,
-    mission: &Mission,
-    words: &WordTable,
-    actors: &mut Actors,
-    row: &str,
-) -> io::Result<()>
-    requires { ActorsFit words.now mission.now actors.old }
-    ensures { ActorsFit words.now mission.now actors.new }
+fn fly_printed(rt: &HostRuntime, words: &Words, actors: &mut Actors, row: &str) -> io::Result<()>
+    requires { ActorsFit words.now.table words.now.mission.now actors.old }
+    ensures { ActorsFit words.now.table words.now.mission.now actors.new }
 {
     match line_after(row, "turns ") {
-        Some(names) => print_turns(rt, mission, words, actors, names),
+        Some(names) => print_turns(rt, words.mission, &words.table, actors, names),
         None => Ok(()),
     }
 }
 
 // Makes the turns of the line `order WHO ..` to the end of the flight, and compares the rows with those of the flight
 // on one thread, if the row has such a line.
-fn fly_ordered(
-    rt: &HostRuntime,
-    mission: &Mission,
-    words: &WordTable,
-    actors: &mut Actors,
-    row: &str,
-) -> io::Result<()>
-    requires { ActorsFit words.now mission.now actors.old }
-    ensures { ActorsFit words.now mission.now actors.new }
+fn fly_ordered(rt: &HostRuntime, words: &Words, actors: &mut Actors, row: &str) -> io::Result<()>
+    requires { ActorsFit words.now.table words.now.mission.now actors.old }
+    ensures { ActorsFit words.now.table words.now.mission.now actors.new }
 {
     let Some(names) = line_after(row, "order ") else {
         return Ok(());
     };
-    let rounds = fly_rounds(mission, words, actors, names)?;
+    let rounds = fly_rounds(words.mission, &words.table, actors, names)?;
     print!(rt; "rounds {rounds} ")?;
-    print_compared(rt, mission, actors.kernel.rows())
+    print_compared(rt, words.mission, actors.kernel.rows())
 }
 
 // Compares rows with those of the flight on one thread, and prints the result.
