@@ -21,81 +21,27 @@ returns-clause-fits c =
 
 pub returns-in_err-up-clause-value : goal.returns-in_err-up-clause-value
 returns-in_err-up-clause-value c =
-    rw (
-      ← c.vocabulary.view_is,
-      ← c.member.ensures.path,
-      ← c.in_err-up.ensures.value,
-    ) (search rules)
+    rw (← c.vocabulary.view_is, ← c.member.ensures.path, ← c.in_err-up.ensures.value) (search rules)
 
 pub returns-in_err-down-clause-value : goal.returns-in_err-down-clause-value
 returns-in_err-down-clause-value c =
-    rw (
-      ← c.vocabulary.view_is,
-      ← c.member.ensures.path,
-      ← c.in_ok-up.ensures.value,
-      ← c.member-2.ensures.path,
-      ← c.in_err-down.ensures.value,
-    ) (search rules)
+    rw (← c.vocabulary.view_is, ← c.member.ensures.path, ← c.in_ok-up.ensures.value, ← c.member-2.ensures.path, ← c.in_err-down.ensures.value) (search rules)
 
 pub returns-in_err-to-clause-value : goal.returns-in_err-to-clause-value
 returns-in_err-to-clause-value c =
-    rw (
-      ← c.vocabulary.view_is,
-      ← c.member.ensures.path,
-      ← c.in_ok-up.ensures.value,
-      ← c.member-2.ensures.path,
-      ← c.in_ok-down.ensures.value,
-      ← c.member-3.ensures.path,
-      ← c.in_err-to.ensures.value,
-    ) (search rules)
+    rw (← c.vocabulary.view_is, ← c.member.ensures.path, ← c.in_ok-up.ensures.value, ← c.member-2.ensures.path, ← c.in_ok-down.ensures.value, ← c.member-3.ensures.path, ← c.in_err-to.ensures.value) (search rules)
 
 pub returns-in_err-on-clause-value : goal.returns-in_err-on-clause-value
 returns-in_err-on-clause-value c =
-    rw (
-      ← c.vocabulary.view_is,
-      ← c.member.ensures.path,
-      ← c.in_ok-up.ensures.value,
-      ← c.member-2.ensures.path,
-      ← c.in_ok-down.ensures.value,
-      ← c.member-3.ensures.path,
-      ← c.in_ok-to.ensures.value,
-      ← c.member-4.ensures.path,
-      ← c.in_err-on.ensures.value,
-    ) (search rules)
+    rw (← c.vocabulary.view_is, ← c.member.ensures.path, ← c.in_ok-up.ensures.value, ← c.member-2.ensures.path, ← c.in_ok-down.ensures.value, ← c.member-3.ensures.path, ← c.in_ok-to.ensures.value, ← c.member-4.ensures.path, ← c.in_err-on.ensures.value) (search rules)
 
 pub returns-in_err-off-clause-value : goal.returns-in_err-off-clause-value
 returns-in_err-off-clause-value c =
-    rw (
-      ← c.vocabulary.view_is,
-      ← c.member.ensures.path,
-      ← c.in_ok-up.ensures.value,
-      ← c.member-2.ensures.path,
-      ← c.in_ok-down.ensures.value,
-      ← c.member-3.ensures.path,
-      ← c.in_ok-to.ensures.value,
-      ← c.member-4.ensures.path,
-      ← c.in_ok-on.ensures.value,
-      ← c.on_set.ensures,
-      ← c.member-5.ensures.path,
-      ← c.in_err-off.ensures.value,
-    ) (search rules)
+    rw (← c.vocabulary.view_is, ← c.member.ensures.path, ← c.in_ok-up.ensures.value, ← c.member-2.ensures.path, ← c.in_ok-down.ensures.value, ← c.member-3.ensures.path, ← c.in_ok-to.ensures.value, ← c.member-4.ensures.path, ← c.in_ok-on.ensures.value, ← c.on_set.ensures, ← c.member-5.ensures.path, ← c.in_err-off.ensures.value) (search rules)
 
 pub returns-clause-value : goal.returns-clause-value
 returns-clause-value c =
-    rw (
-      ← c.vocabulary.view_is,
-      ← c.member.ensures.path,
-      ← c.in_ok-up.ensures.value,
-      ← c.member-2.ensures.path,
-      ← c.in_ok-down.ensures.value,
-      ← c.member-3.ensures.path,
-      ← c.in_ok-to.ensures.value,
-      ← c.member-4.ensures.path,
-      ← c.in_ok-on.ensures.value,
-      ← c.on_set.ensures,
-      ← c.member-5.ensures.path,
-      ← c.in_ok-off.ensures.value,
-    ) refl
+    rw (← c.vocabulary.view_is, ← c.member.ensures.path, ← c.in_ok-up.ensures.value, ← c.member-2.ensures.path, ← c.in_ok-down.ensures.value, ← c.member-3.ensures.path, ← c.in_ok-to.ensures.value, ← c.member-4.ensures.path, ← c.in_ok-on.ensures.value, ← c.on_set.ensures, ← c.member-5.ensures.path, ← c.in_ok-off.ensures.value) refl
 
 pub read_procs_set-requires-clause-few : goal.read_procs_set-requires-clause-few
 read_procs_set-requires-clause-few c = c.vocabulary.invariant.procs_count.few

@@ -14,54 +14,20 @@ returns-in_err-name-clause-value c = rw (← c.in_err-name.ensures) (search rule
 
 pub returns-in_err-name-2-clause-value : goal.returns-in_err-name-2-clause-value
 returns-in_err-name-2-clause-value c =
-    rw (
-      ← c.in_ok-name.ensures,
-      ← c.member.ensures.path,
-      ← c.in_err-name-2.ensures.value,
-    ) (search rules)
+    rw (← c.in_ok-name.ensures, ← c.member.ensures.path, ← c.in_err-name-2.ensures.value) (search rules)
 
 pub returns-in_err-kind-clause-value : goal.returns-in_err-kind-clause-value
 returns-in_err-kind-clause-value c =
-    rw (
-      ← c.in_ok-name.ensures,
-      ← c.member.ensures.path,
-      ← c.in_ok-name-2.ensures.value,
-      ← c.member-2.ensures.path,
-      ← c.in_err-kind.ensures.value,
-    ) (search rules)
+    rw (← c.in_ok-name.ensures, ← c.member.ensures.path, ← c.in_ok-name-2.ensures.value, ← c.member-2.ensures.path, ← c.in_err-kind.ensures.value) (search rules)
 
 pub returns-in_err-check_text_list-clause-value : goal.returns-in_err-check_text_list-clause-value
 returns-in_err-check_text_list-clause-value c =
-    rw (
-      ← c.in_ok-name.ensures,
-      ← c.member.ensures.path,
-      ← c.in_ok-name-2.ensures.value,
-      ← c.member-2.ensures.path,
-      ← c.in_ok-kind.ensures.value,
-      ← c.member-3.ensures.path,
-      ← c.in_err-check_text_list.ensures,
-    ) (search rules)
+    rw (← c.in_ok-name.ensures, ← c.member.ensures.path, ← c.in_ok-name-2.ensures.value, ← c.member-2.ensures.path, ← c.in_ok-kind.ensures.value, ← c.member-3.ensures.path, ← c.in_err-check_text_list.ensures) (search rules)
 
 pub returns-in_err-modes-clause-value : goal.returns-in_err-modes-clause-value
 returns-in_err-modes-clause-value c =
-    rw (
-      ← c.in_ok-name.ensures,
-      ← c.member.ensures.path,
-      ← c.in_ok-name-2.ensures.value,
-      ← c.member-2.ensures.path,
-      ← c.in_ok-kind.ensures.value,
-      ← c.member-3.ensures.path,
-      ← c.in_ok-check_text_list.ensures,
-    ) (search rules)
+    rw (← c.in_ok-name.ensures, ← c.member.ensures.path, ← c.in_ok-name-2.ensures.value, ← c.member-2.ensures.path, ← c.in_ok-kind.ensures.value, ← c.member-3.ensures.path, ← c.in_ok-check_text_list.ensures) (search rules)
 
 pub returns-clause-value : goal.returns-clause-value
 returns-clause-value c =
-    rw (
-      ← c.in_ok-name.ensures,
-      ← c.member.ensures.path,
-      ← c.in_ok-name-2.ensures.value,
-      ← c.member-2.ensures.path,
-      ← c.in_ok-kind.ensures.value,
-      ← c.member-3.ensures.path,
-      ← c.in_ok-check_text_list.ensures,
-    ) (search rules)
+    rw (← c.in_ok-name.ensures, ← c.member.ensures.path, ← c.in_ok-name-2.ensures.value, ← c.member-2.ensures.path, ← c.in_ok-kind.ensures.value, ← c.member-3.ensures.path, ← c.in_ok-check_text_list.ensures) (search rules)

@@ -25,76 +25,24 @@ returns-in_err-mode-clause-value c = rw (← c.in_err-mode.ensures) (search rule
 
 pub returns-in_err-mode-2-clause-value : goal.returns-in_err-mode-2-clause-value
 returns-in_err-mode-2-clause-value c =
-    rw (
-      ← c.in_ok-mode.ensures,
-      ← c.member.ensures.path,
-      ← c.in_err-mode-2.ensures.value,
-    ) (search rules)
+    rw (← c.in_ok-mode.ensures, ← c.member.ensures.path, ← c.in_err-mode-2.ensures.value) (search rules)
 
 pub returns-in_err-load-clause-value : goal.returns-in_err-load-clause-value
 returns-in_err-load-clause-value c =
-    rw (
-      ← c.in_ok-mode.ensures,
-      ← c.member.ensures.path,
-      ← c.in_ok-mode-2.ensures.value,
-      ← c.member-2.ensures.path,
-      ← c.in_err-load.ensures.value,
-    ) (search rules)
+    rw (← c.in_ok-mode.ensures, ← c.member.ensures.path, ← c.in_ok-mode-2.ensures.value, ← c.member-2.ensures.path, ← c.in_err-load.ensures.value) (search rules)
 
 pub returns-in_err-halt-clause-value : goal.returns-in_err-halt-clause-value
 returns-in_err-halt-clause-value c =
-    rw (
-      ← c.in_ok-mode.ensures,
-      ← c.member.ensures.path,
-      ← c.in_ok-mode-2.ensures.value,
-      ← c.member-2.ensures.path,
-      ← c.in_ok-load.ensures.value,
-      ← c.member-3.ensures.path,
-      ← c.in_err-halt.ensures.value,
-    ) (search rules)
+    rw (← c.in_ok-mode.ensures, ← c.member.ensures.path, ← c.in_ok-mode-2.ensures.value, ← c.member-2.ensures.path, ← c.in_ok-load.ensures.value, ← c.member-3.ensures.path, ← c.in_err-halt.ensures.value) (search rules)
 
 pub returns-in_err-prepare-clause-value : goal.returns-in_err-prepare-clause-value
 returns-in_err-prepare-clause-value c =
-    rw (
-      ← c.in_ok-mode.ensures,
-      ← c.member.ensures.path,
-      ← c.in_ok-mode-2.ensures.value,
-      ← c.member-2.ensures.path,
-      ← c.in_ok-load.ensures.value,
-      ← c.member-3.ensures.path,
-      ← c.in_ok-halt.ensures.value,
-      ← c.member-4.ensures.path,
-      ← c.in_err-prepare.ensures.value,
-    ) (search rules)
+    rw (← c.in_ok-mode.ensures, ← c.member.ensures.path, ← c.in_ok-mode-2.ensures.value, ← c.member-2.ensures.path, ← c.in_ok-load.ensures.value, ← c.member-3.ensures.path, ← c.in_ok-halt.ensures.value, ← c.member-4.ensures.path, ← c.in_err-prepare.ensures.value) (search rules)
 
 pub returns-in_err-init-clause-value : goal.returns-in_err-init-clause-value
 returns-in_err-init-clause-value c =
-    rw (
-      ← c.in_ok-mode.ensures,
-      ← c.member.ensures.path,
-      ← c.in_ok-mode-2.ensures.value,
-      ← c.member-2.ensures.path,
-      ← c.in_ok-load.ensures.value,
-      ← c.member-3.ensures.path,
-      ← c.in_ok-halt.ensures.value,
-      ← c.member-4.ensures.path,
-      ← c.in_ok-prepare.ensures.value,
-      ← c.member-5.ensures.path,
-      ← c.in_err-init.ensures.value,
-    ) (search rules)
+    rw (← c.in_ok-mode.ensures, ← c.member.ensures.path, ← c.in_ok-mode-2.ensures.value, ← c.member-2.ensures.path, ← c.in_ok-load.ensures.value, ← c.member-3.ensures.path, ← c.in_ok-halt.ensures.value, ← c.member-4.ensures.path, ← c.in_ok-prepare.ensures.value, ← c.member-5.ensures.path, ← c.in_err-init.ensures.value) (search rules)
 
 pub returns-clause-value : goal.returns-clause-value
 returns-clause-value c =
-    rw (
-      ← c.in_ok-mode.ensures,
-      ← c.member.ensures.path,
-      ← c.in_ok-mode-2.ensures.value,
-      ← c.member-2.ensures.path,
-      ← c.in_ok-load.ensures.value,
-      ← c.member-3.ensures.path,
-      ← c.in_ok-halt.ensures.value,
-      ← c.member-4.ensures.path,
-      ← c.in_ok-prepare.ensures.value,
-      ← c.member-5.ensures.path,
-      ← c.in_ok-init.ensures.value,
-    ) refl
+    rw (← c.in_ok-mode.ensures, ← c.member.ensures.path, ← c.in_ok-mode-2.ensures.value, ← c.member-2.ensures.path, ← c.in_ok-load.ensures.value, ← c.member-3.ensures.path, ← c.in_ok-halt.ensures.value, ← c.member-4.ensures.path, ← c.in_ok-prepare.ensures.value, ← c.member-5.ensures.path, ← c.in_ok-init.ensures.value) refl
