@@ -7,9 +7,8 @@ ghost use Rattle.document_explanations.specs.Wants.{further_listed, listed, name
 use crate::lines::Lines;
 use crate::objects::Member;
 use crate::wanted_values::Versions;
-use kind_table::table::{
-    AUTOPILOT, DATA_LINK, FLIGHT_CONTROL, Kind, NAVIGATOR, POWER_MONITOR, TASK, Variable,
-};
+use kind_table::kinds::{autopilot, data_link, flight_control, navigator, power_monitor, task};
+use kind_table::table::{Kind, Variable, kind_or_last};
 use scram_types::{Factor, Name, NoMemory, Proc};
 
 /// A way to show the items of a list.
@@ -82,18 +81,18 @@ fn versions_text(versions: Versions) -> &'static str
 }
 
 /// Returns the kinds of application in the order of their numbers.
-pub fn kinds() -> &'static [Kind]
-    ensures { map kind_read result.now ≡ kinds }
+pub fn kinds() -> [Kind; 6]
+    ensures { map kind_read result ≡ kinds }
 {
-    const KINDS: &[Kind] = &[
-        AUTOPILOT,
-        FLIGHT_CONTROL,
-        POWER_MONITOR,
-        NAVIGATOR,
-        DATA_LINK,
-        TASK,
-    ];
-    KINDS
+    // (a list of the records themselves would write each of them out)
+    [
+        kind_or_last(autopilot::KIND),
+        kind_or_last(flight_control::KIND),
+        kind_or_last(power_monitor::KIND),
+        kind_or_last(navigator::KIND),
+        kind_or_last(data_link::KIND),
+        kind_or_last(task::KIND),
+    ]
 }
 
 /// The way to show a kind of application: its name.
