@@ -29,8 +29,8 @@ pub(crate) fn is_given<T>(items: &[Option<T>; 8], app: AppId) -> bool
     ensures { result ≡ is_some (given items.now app.0) }
 {
     match items.get(usize::from(app.0)) {
-        Some(Some(_)) => true,
-        Some(None) | None => false,
+        Some(item) => item.is_some(),
+        None => false,
     }
 }
 
