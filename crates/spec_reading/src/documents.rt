@@ -1,11 +1,12 @@
 //! How the parts of a document are read and joined to a specification.
 
-ghost use Rattle.std.specs.Prelude.{◌≡◌, ◌≤◌, length, IfOk};
+ghost use Rattle.std.specs.Prelude.{◌≡◌, ◌≤◌, ◌+◌, length, IfOk};
 ghost use Rattle.serde_json.specs.View.{view};
 ghost use Rattle.scram_types.specs.Specification.{IsGoal};
 ghost use Rattle.spec_reading.specs.RestFacts.{FitsAssumption, FitsLimitParts, FitsRest, FitsTableParts};
 ghost use Rattle.spec_reading.specs.Writable.{IsWritable};
 ghost use Rattle.scram_doc.specs.Faults.{Answers};
+ghost use Rattle.scram_doc.specs.Values.{whole_at};
 ghost use Rattle.spec_reading.specs.Documents.{read_goal, read_assumption, read_policy, policy_in, demands_in, check_version, limit_parts_in, rest_in, table_parts_in, with_rest};
 ghost use Rattle.scram_doc.specs.Lists.{AllAfter};
 ghost use Rattle.spec_reading.specs.Found.{AreMembers};
@@ -39,6 +40,15 @@ fn read_goal(v: &Value, at: &Path) -> Result<Goal, DocFault>
     Ok(Goal { altitude, heading })
 }
 
+/// Reads a whole number from 0 to `most`.
+fn read_count(v: &Value, most: u8, at: &Path) -> Result<u8, DocFault>
+    ensures value { result ≡ whole_at 0 (most + 1) at.now (view v.now) }
+    ensures most { IfOk result (λ count. count ≤ most) }
+{
+    let count = whole_in(v, 0, u32::from(most) + 1, at)?;
+    Ok(count as u8)
+}
+
 /// The failure assumption of a document.
 #[derive(Clone, Copy)]
 pub struct Assumption {
@@ -53,22 +63,12 @@ fn read_assumption(v: &Value, at: &Path) -> Result<Assumption, DocFault>
     ensures fits { IfOk result (λ assumed. FitsAssumption assumed) }
 {
     let (halts, changes, window) = exactly_three(v, ("halts", "changes", "window"), at)?;
-    let halts = whole_in(
-        halts,
-        0,
-        u32::from(MAX_ASSUMED_HALTS) + 1,
-        &at.member("halts"),
-    )?;
-    let changes = whole_in(
-        changes,
-        0,
-        u32::from(MAX_ASSUMED_CHANGES) + 1,
-        &at.member("changes"),
-    )?;
+    let halts = read_count(halts, MAX_ASSUMED_HALTS, &at.member("halts"))?;
+    let changes = read_count(changes, MAX_ASSUMED_CHANGES, &at.member("changes"))?;
     let window = whole_in(window, 1, MAX_WINDOW + 1, &at.member("window"))?;
     Ok(Assumption {
-        halts: halts as u8,
-        changes: changes as u8,
+        halts,
+        changes,
         window,
     })
 }
