@@ -5,6 +5,7 @@ pub mod Found
 pub mod Handing
 pub mod Joined
 pub mod LongestChains
+pub mod Loops
 pub mod Numbering
 pub mod OnSets
 pub mod Placed
