@@ -1,5 +1,5 @@
 -- Applications that are ranked have no cycle of needs, and the applications of a cycle exist.
-use Rattle.std.proofs.Common.{◌≡◌, ◌<◌, zero, suc, true, List, [], ◌∷◌, length, refl, subst}
+use Rattle.std.proofs.Common.{◌≡◌, ◌<◌, zero, suc, Bool, true, List, [], ◌∷◌, length, refl, subst, sym}
 use Rattle.std.specs.Prelude.{Some, None, Result, Ok, Err, OnOk}
 use Rattle.std.proofs.lemmas.Option.{slice_get_within}
 use Rattle.scram_types.specs.declared.ids.AppId.{AppId}
@@ -8,10 +8,11 @@ use Rattle.dep_order.specs.Ranks.{Needs, NeedsInTurn, IsCycle}
 use Rattle.scram_types.specs.declared.specification.AppSpec.{AppSpec}
 use Rattle.scram_doc.specs.declared.fault.DocFault.{DocFault}
 use Rattle.spec_reading.specs.Needs.{are_ranked}
-use Rattle.spec_reading.specs.Answers.{HasNoCycle}
+use Rattle.spec_reading.specs.Answers.{CycleIf, HasNoCycle}
 
-pub no_cycle : {A E : Type 0} → (answer : Result A E) (unranked : Result (List AppSpec) DocFault) (apps : List AppSpec) → unranked ≡ Ok apps → OnOk answer (are_ranked apps ≡ true) → OnOk answer (HasNoCycle unranked)
-no_cycle (Ok a) unranked apps is ranked = rw (is, ranked) refl
+pub no_cycle : {A E : Type 0} → (answer : Result A E) (unranked : Result (List AppSpec) DocFault) (apps : List AppSpec) → unranked ≡ Ok apps
+    → OnOk answer (are_ranked apps ≡ true) → OnOk answer (HasNoCycle unranked)
+no_cycle (Ok a) unranked apps is ranked = subst HasNoCycle (sym is) (subst (λ (b : Bool). CycleIf b apps []) (sym ranked) refl)
 no_cycle (Err e) unranked apps is ranked = ranked
 
 same : (x y : AppId) → Some x ≡ Some y → x ≡ y
