@@ -233,10 +233,7 @@ pub fn find_kind(kind: u8) -> Option<Kind>
 pub fn kind_or_last(kind: u8) -> Kind
     ensures { kind_read result ≡ kind_or_last kind }
 {
-    match find_kind(kind) {
-        Some(found) => found,
-        None => TASK,
-    }
+    find_kind(kind).unwrap_or(TASK)
 }
 
 /// Returns the word at index `variable` of the area of a kind, or an unused word if `variable` is 8 or more. If there
