@@ -5,12 +5,12 @@ ghost use Rattle.serde_json.specs.View.{view};
 ghost use Rattle.scram_doc.specs.Objects.{members_of};
 ghost use Rattle.reconf_spec.specs.Texts.{demand_data, name_of_app_mode, on_app_data, on_data, with_asked, with_condition};
 
-use crate::items::Writer;
+use crate::items::{Writer, make_text};
 use crate::table::put_set;
 use crate::values::name_of_app_mode;
 use scram_doc::{Object, Writes};
 use scram_types::{AppId, AppSpec, Conf, Demand, Mode, Modes, Proc, Spec};
-use serde_json::{Value, json};
+use serde_json::Value;
 use spec_reading::names::ByName;
 use std::alloc::{AllocError, Global};
 
@@ -28,8 +28,7 @@ impl Writes<Mode> for OnWriter<'_> {
 
     fn value(&self, alloc: Global, mode: &Mode) -> Result<Value, AllocError> {
         let spec = self.spec;
-        let name = name_of_app_mode(spec.apps.items(), self.app, *mode);
-        json!(in alloc; name)
+        make_text(alloc, name_of_app_mode(spec.apps.items(), self.app, *mode))
     }
 }
 

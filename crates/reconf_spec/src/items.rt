@@ -1,6 +1,7 @@
 //! Writing processors, applications, configurations and factors.
 
 ghost use Rattle.std.specs.Prelude.{◌≡◌, map, IfOk};
+ghost use Rattle.serde_json.specs.Data.{string};
 ghost use Rattle.serde_json.specs.View.{view};
 ghost use Rattle.reconf_spec.specs.Texts.{app_data, conf_data, factor_data, mode_data, need_data, place_data, places_data, proc_data};
 
@@ -21,6 +22,13 @@ pub(crate) struct Writer<'a> {
 #[derive(Clone, Copy)]
 struct ModeWriter {
     kind: KindId,
+}
+
+/// Returns the value that encodes a text. Returns an error if memory runs out.
+pub(crate) fn make_text(alloc: Global, text: &str) -> Result<Value, AllocError>
+    ensures { IfOk result (λ v. view v ≡ string text.now) }
+{
+    json!(in alloc; text)
 }
 
 impl Writes<Proc> for Writer<'_> {
@@ -54,9 +62,7 @@ impl Writes<AppId> for Writer<'_> {
     ghost written = { λ w. need_data w.spec.now.apps };
 
     fn value(&self, alloc: Global, need: &AppId) -> Result<Value, AllocError> {
-        let spec = self.spec;
-        let name = spec.app_name(*need);
-        json!(in alloc; name)
+        make_text(alloc, self.spec.app_name(*need))
     }
 }
 
@@ -118,13 +124,10 @@ impl Writes<Conf> for Writer<'_> {
 }
 
 impl Writes<Name> for Writer<'_> {
-    ghost use Rattle.serde_json.specs.Data.{string};
-
     ghost written = { λ _ name. string name };
 
     fn value(&self, alloc: Global, name: &Name) -> Result<Value, AllocError> {
-        let name = name.as_str();
-        json!(in alloc; name)
+        make_text(alloc, name.as_str())
     }
 }
 

@@ -6,12 +6,12 @@ ghost use Rattle.serde_json.specs.View.{view};
 ghost use Rattle.scram_doc.specs.Objects.{members_of};
 ghost use Rattle.reconf_spec.specs.Texts.{bound_data, choice_data, invariant_data, names_data, precondition_data, set_data, want_data};
 
-use crate::items::Writer;
+use crate::items::{Writer, make_text};
 use crate::values::{name_of_value, name_of_variable, source_name};
 use scram_doc::{Object, Writes};
 use scram_types::bits::is_in;
 use scram_types::{Bound, Choice, Invariant, Precondition, Proc, Want};
-use serde_json::{Value, json};
+use serde_json::Value;
 use spec_reading::names::{ByName, Naming};
 use std::alloc::{AllocError, Global};
 
@@ -41,8 +41,7 @@ fn make_names<T, N: Naming<T>>(
     let mut values = Vec::new(alloc);
     for (n, item) in items.iter().enumerate() {
         if is_in(set, n as u8) {
-            let name = N::name(item);
-            let value = json!(in alloc; name)?;
+            let value = make_text(alloc, N::name(item))?;
             serde_json::push(&mut values, value)?;
         }
     }
