@@ -1,8 +1,9 @@
 //! Reading the lists of a script document: changes, halts and restarts.
 
-ghost use Rattle.std.specs.Prelude.{◌≡◌, ◌≤◌, length, option_map, IfOk};
+ghost use Rattle.std.specs.Prelude.{◌≡◌, ◌≤◌, [], codes, length, option_map, IfOk};
 ghost use Rattle.serde_json.specs.View.{view};
 ghost use Rattle.scram_doc.specs.Faults.{Answers};
+ghost use Rattle.scram_doc.specs.Paths.{member_path};
 ghost use Rattle.fault_script.specs.Reading.{find_value, check, read_change, read_changes, read_halt, read_halts, read_named_factor, read_named_proc, read_named_value, read_next_change, read_next_halt, read_next_restart, read_restart, read_restarts};
 
 use crate::order::{change_follows, halt_follows, restart_follows};
@@ -106,22 +107,21 @@ impl Elements<Change> for Changes<'_> {
     }
 }
 
+// Returns the changes that the member `changes` of a document encodes.
 pub(crate) fn read_changes(
     alloc: Global,
     spec: &Spec,
     frames: u32,
     v: &Value,
-    at: &Path,
 ) -> Result<List<Change>, ScriptError>
-    requires { length at.now ≤ 30 }
-    ensures { Answers (read_changes spec.now frames at.now (view v.now)) (λ changes. changes) result }
+    ensures { Answers (read_changes spec.now frames (member_path [] (codes "changes")) (view v.now)) (λ changes. changes) result }
 {
     let changes = read_list(
         alloc,
         &Changes { spec, frames },
         v,
         Lengths::up_to(MAX_CHANGES),
-        at,
+        &Path::root().member("changes"),
     )?;
     Ok(List::of(changes))
 }
@@ -130,11 +130,11 @@ fn read_halt(spec: &Spec, frames: u32, v: &Value, at: &Path) -> Result<HaltAt, S
     requires { length at.now ≤ 40 }
     ensures { result ≡ read_halt spec.now frames at.now (view v.now) }
 {
+    let steps = 8 * spec.apps.items().len() as u32 + 2;
     let (proc, frame, step) = exactly_three(v, ("processor", "frame", "step"), at)?;
     let proc = read_named_proc(spec, proc, &at.member("processor"))?;
     let frame = whole_in(frame, 0, frames, &at.member("frame"))?;
-    let words = 8 * spec.apps.items().len() as u32;
-    let step = whole_in(step, 0, words + 2, &at.member("step"))?;
+    let step = whole_in(step, 0, steps, &at.member("step"))?;
     Ok(HaltAt {
         proc,
         frame,
@@ -176,14 +176,13 @@ impl Elements<HaltAt> for Halts<'_> {
     }
 }
 
+// Returns the halts that the member `halts` of a document encodes.
 pub(crate) fn read_halts(
     alloc: Global,
     halts: &Halts<'_>,
     v: &Value,
-    at: &Path,
 ) -> Result<List<HaltAt>, ScriptError>
-    requires { length at.now ≤ 30 }
-    ensures halts { Answers (read_halts halts.now.spec.now halts.now.version halts.now.frames at.now (view v.now)) (λ halts. halts) result }
+    ensures halts { Answers (read_halts halts.now.spec.now halts.now.version halts.now.frames (member_path [] (codes "halts")) (view v.now)) (λ halts. halts) result }
     ensures few { IfOk result (λ halts. length halts ≤ 16) }
 {
     let halts = read_list(
@@ -191,7 +190,7 @@ pub(crate) fn read_halts(
         halts,
         v,
         Lengths::up_to(halts.version.halts_limit()),
-        at,
+        &Path::root().member("halts"),
     )?;
     Ok(List::of(halts))
 }
@@ -246,15 +245,14 @@ pub(crate) fn read_restarts(
     alloc: Global,
     restarts: &Restarts<'_>,
     v: Option<&Value>,
-    at: &Path,
 ) -> Result<List<RestartAt>, ScriptError>
-    requires { length at.now ≤ 30 }
-    ensures { Answers (read_restarts restarts.now.spec.now restarts.now.frames restarts.now.halts.now at.now (option_map (λ d. view d.now) v.entry))
+    ensures { Answers (read_restarts restarts.now.spec.now restarts.now.frames restarts.now.halts.now (member_path [] (codes "restarts")) (option_map (λ d. view d.now) v.entry))
         (λ restarts. restarts) result }
 {
     match v {
         Some(v) => {
-            let restarts = read_list(alloc, restarts, v, Lengths::up_to(8), at)?;
+            let at = Path::root().member("restarts");
+            let restarts = read_list(alloc, restarts, v, Lengths::up_to(8), &at)?;
             Ok(List::of(restarts))
         }
         None => Ok(List::of(Vec::new(alloc))),

@@ -4,6 +4,7 @@ ghost use Rattle.std.specs.Prelude.{◌≡◌, ◌≤◌, [], length, option_map
 ghost use Rattle.serde_json.specs.View.{view};
 ghost use Rattle.scram_doc.specs.Chain.{ok_map};
 ghost use Rattle.scram_doc.specs.Faults.{Answers};
+ghost use Rattle.scram_types.specs.declared.limits.TheConstants.{MAX_FRAMES};
 ghost use Rattle.fault_script.specs.Fits.{Fits};
 ghost use Rattle.fault_script.specs.Reading.{find_members, check_halts, make_members, need_restarts, read_frames, read_scram, read_values, script_in, script_of};
 
@@ -83,7 +84,8 @@ fn find_members(version: Version, v: &Value) -> Result<Members<'_>, ScriptFault>
 }
 
 fn read_frames(scram: &Value, frames: &Value) -> Result<u32, ScriptFault>
-    ensures { result ≡ read_frames (view scram.now) (view frames.now) }
+    ensures frames { result ≡ read_frames (view scram.now) (view frames.now) }
+    ensures most { IfOk result (λ frames. frames ≤ MAX_FRAMES) }
 {
     let at = Path::root();
     read_scram(scram, &at.member("scram"))?;
@@ -101,22 +103,25 @@ fn read_values(
         (option_map (λ d. view d.now) m.now.restarts)))
         (λ script. script) result }
 {
-    let at = Path::root();
     let frames = read_frames(m.scram, m.frames)?;
-    let changes = read_changes(alloc, spec, frames, m.changes, &at.member("changes"))?;
+    let changes = read_changes(alloc, spec, frames, m.changes)?;
     let listed = Halts {
         spec,
         version,
         frames,
     };
-    let halts = read_halts(alloc, &listed, m.halts, &at.member("halts"))?;
+    let halts = read_halts(alloc, &listed, m.halts)?;
     let listed = Restarts {
         spec,
         frames,
         halts: halts.items(),
     };
-    let restarts = read_restarts(alloc, &listed, m.restarts, &at.member("restarts"))?;
-    check_halts(restarts.items(), halts.items(), &at.member("halts"))?;
+    let restarts = read_restarts(alloc, &listed, m.restarts)?;
+    check_halts(
+        restarts.items(),
+        halts.items(),
+        &Path::root().member("halts"),
+    )?;
     Ok(Script {
         frames,
         changes,
