@@ -128,13 +128,26 @@ uav_canonical spec given = ap canonical (sym given ∙ plain_read uav_text uav_i
 pub generated_canonical : (spec : Parts) → spec_of generated_text ≡ Ok spec → spec_text spec ≡ generated_text
 generated_canonical spec given = ap canonical (sym given ∙ plain_read generated_text generated_is_plain) ∙ generated_written
 
-generated_further : reading generated_text ≡ ok_map with_further_factors (reading uav_text)
+-- The first reading gives what the second one gives, with the further factors. Two specifications are compared in a
+-- tenth of the steps that two readings take.
+abbrev adds_factors : Result Parts DocFault → Result Parts DocFault → Type 0
+adds_factors (Ok more) (Ok spec) = more ≡ with_further_factors spec
+adds_factors (Err fault) given = ⊥
+adds_factors (Ok more) (Err fault) = ⊥
+
+generated_adds : adds_factors (reading generated_text) (reading uav_text)
 unfolding generated_text uav_text value lex punctuate content word after_number number_of scan
-generated_further = refl
+generated_adds = refl
+
+further_if : (r given : Result Parts DocFault) → adds_factors r given → r ≡ ok_map with_further_factors given
+further_if (Ok more) (Ok spec) adds = ap Ok adds
+further_if (Err fault) given adds = absurd adds
+further_if (Ok more) (Err fault) adds = absurd adds
 
 pub generated_from_uav : (spec : Parts) → spec_of generated_text ≡ Ok spec → ok_map with_further_factors (spec_of uav_text) ≡ Ok spec
 generated_from_uav spec given =
-    ap (ok_map with_further_factors) (plain_read uav_text uav_is_plain) ∙ sym generated_further ∙ sym (plain_read generated_text generated_is_plain) ∙ given
+    ap (ok_map with_further_factors) (plain_read uav_text uav_is_plain)
+    ∙ sym (further_if (reading generated_text) (reading uav_text) generated_adds) ∙ sym (plain_read generated_text generated_is_plain) ∙ given
 
 pub if_ok_more : {A E : Type 0} (P Q : A → Type 0) (r : Result A E) → ((a : A) → P a → Q a) → IfOk r P → IfOk r Q
 if_ok_more P Q (Ok a) more known = more a known
