@@ -1,11 +1,17 @@
 use Rattle.std.proofs.Common.{List, ap, arith, get_or, length, subst, ◌+◌, ◌∙◌}
 use Rattle.std.proofs.lemmas.List.{length_push}
-use Rattle.scram_types.specs.Specification.{Parts}
+use Rattle.scram_types.specs.Specification.{IsSpec, Parts}
 use Rattle.scram_types.specs.declared.demands.Demand.{Demand}
 use Rattle.cube_cover.specs.Covers.{IsLeastEnv}
 use Rattle.cube_cover.specs.Demands.{misses}
 use Rattle.cube_cover.proofs.Missing.{found_more}
 use Rattle.cube_cover.proofs.demands.misses.Goals as goal
+
+pub chosen_regions-requires : goal.chosen_regions-requires
+chosen_regions-requires c = subst IsSpec c.spec.view_is c.spec.invariant
+
+pub least_miss-requires-clause-known : goal.least_miss-requires-clause-known
+least_miss-requires-clause-known c = subst IsSpec c.spec.view_is c.spec.invariant
 
 pub loop-demand-preserved : goal.loop-demand-preserved
 loop-demand-preserved c =

@@ -7,6 +7,15 @@ use Rattle.cube_cover.proofs.Listed.{each_more, length_more}
 use Rattle.cube_cover.proofs.RuleShares.{last_share, rule_rest, rule_share}
 use Rattle.cube_cover.proofs.shares.shares_of.Goals as goal
 
+pub take_rule-requires-clause-known : goal.take_rule-requires-clause-known
+take_rule-requires-clause-known c = subst IsSpec c.spec.view_is c.spec.invariant
+
+pub share_of-requires-clause-known : goal.share_of-requires-clause-known
+share_of-requires-clause-known c = subst IsSpec c.spec.view_is c.spec.invariant
+
+pub all_cubes-requires : goal.all_cubes-requires
+all_cubes-requires c = subst IsSpec c.spec.view_is c.spec.invariant
+
 pub loop-rule-preserved : goal.loop-rule-preserved
 loop-rule-preserved c =
     let same : c.items-rules.result.now ≡ c.args.spec.now.rules = c.items-rules.ensures ∙ ap (λ (s : Parts). s.rules) c.spec.view_is in
