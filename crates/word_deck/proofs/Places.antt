@@ -102,3 +102,7 @@ finished_by m p place turn e = let f = finished_if (is_done m p place) turn e in
 pub tried_by : (b : Bool) (turn : Turn) (tries : ℕ) → turn ≡ (if b then Finished else Worked) → tries_after turn tries ≡ tries
 tried_by true turn tries e = rw e refl
 tried_by false turn tries e = rw e refl
+
+-- A turn that finds nothing ready is not `Finished`.
+pub still_flies : (m : Flight) (p : ℕ) (before after : Place) → is_done m p before ≡ false → after ≡ before → (NotYet ≡ Finished) ↔ IsDone m p after
+still_flies m p before after e same = (λ turn. absurd (cc), λ done. let is : is_done m p after ≡ true = by_done m p after done in absurd (cc (e, is, same)))

@@ -69,7 +69,6 @@ impl Crew {
     /// that has halted restarts with its spare rack at the start of the frame of its restart. Returns `NotYet` only
     /// if the release word that the call loads shows that the frame is not yet released. Returns `Finished` if and
     /// only if the processor has then flown all frames or has halted for good. This method does not block.
-    #[tactic(auto, using(crate::proofs::Places::waits, crate::proofs::Places::done_by, crate::proofs::Places::flown_after))]
     pub fn turn(&mut self, mission: &Mission, words: &WordTable) -> Turn
         requires mission { mission_in words.now ≡ mission.now }
         requires fits { IsCrewOf words.now self.old }

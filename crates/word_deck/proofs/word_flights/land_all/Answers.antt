@@ -1,22 +1,24 @@
 use Rattle.std.proofs.Common.{rules, ◌≡◌, ◌∙◌, ap, subst, sym, length}
+use Rattle.coverage_check.specs.Missions.{MissionParts}
 use Rattle.frame_model.specs.Flights.{reports_of, rows_of}
-use Rattle.scram_kernel.specs.Kernels.{KernelParts}
+use Rattle.scram_kernel.specs.Kernels.{KernelParts, kernel_after}
 use Rattle.word_deck.specs.Kernels.{IsKernelDone}
 use Rattle.word_deck.proofs.Outcomes.{all_hold, few_told, landed_seats}
+use Rattle.word_deck.proofs.Watching.{rows_count}
 use Rattle.word_deck.proofs.word_flights.land_all.Goals as goal
 
 pub returns-clause-flown : goal.returns-clause-flown
 returns-clause-flown g c =
     let mission = c.args.mission.now in
     let flown = c.finish.result in
-    let rows : c.finish.result.rows ≡ rows_of mission.spec mission.script = search rules in
-    let told : c.finish.result.reports ≡ reports_of mission.spec mission.script = search rules in
-    let count : length c.finish.result.rows ≡ mission.script.frames = search rules in
+    let last = c.into_parts-kseat.ensures.kernel (rw c.requires.same c.requires.done) ∙ ap (λ (m : MissionParts). kernel_after m.spec m.script m.script.frames) c.requires.same in
+    let rows : flown.rows ≡ rows_of mission.spec mission.script = c.finish.ensures.rows ∙ ap (λ (k : KernelParts). rows_of k.spec k.script) last in
+    let told : flown.reports ≡ reports_of mission.spec mission.script = c.finish.ensures.reports ∙ ap (λ (k : KernelParts). reports_of k.spec k.script) last in
     record {
       rows = rows;
       reports = told;
       assured = all_hold mission.spec mission.script flown.rows flown.reports c.reconfigurations_are_assured.ensures c.holds.ensures.spec c.holds.ensures.mission rows told;
-      count = count;
+      count = rows_count mission flown.rows mission.script.frames rows;
       few = few_told mission.spec mission.script flown.rows flown.reports rows told;
     }
 
