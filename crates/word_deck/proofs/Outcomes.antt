@@ -13,12 +13,13 @@ use Rattle.frame_model.specs.Flights.{reports_of, rows_of}
 use Rattle.trace_props.specs.Missions.{ReconfigurationsAreAssured}
 use Rattle.trace_props.specs.Properties.{HoldsAll}
 use Rattle.trace_props.proofs.Sizes.{few_reports}
+use Rattle.word_table.specs.declared.seats.KSeat.{KSeat}
 use Rattle.word_table.specs.declared.seats.Seat.{Seat}
 use Rattle.word_table.specs.declared.tables.WordTable.{WordTable}
 use Rattle.word_table.specs.Actors.{IsInFlight, mission_flight}
 use Rattle.word_table.specs.Keeping.{IsFlown}
-use Rattle.word_table.specs.Tables.{AreOpening, AreSeatsOf, IsSeatOf, mission_in, proc_of}
-use Rattle.word_deck.specs.Flights.{AreAtTable, AreLanded, AreOpen}
+use Rattle.word_table.specs.Tables.{AreOpening, AreSeatsOf, IsKernelSeatOf, IsSeatOf, mission_in, proc_of}
+use Rattle.word_deck.specs.Flights.{AreAtTable, AreLanded, AreOpen, IsAtTable}
 
 -- Lemmas on the trace.
 
@@ -31,6 +32,15 @@ all_hold spec script rows told assured facts is r t = rw (r, t) (assured spec sc
 
 -- If two values of `WordTable` have the same words, a kernel's seat at one of them is also a kernel's seat at the
 -- other.
+pub kernel_flown : (old new : WordTable) (kseat : KSeat) (mission : MissionParts) → new.table ≡ old.table → IsAtTable old kseat → mission_in old ≡ mission
+    → IsSpec mission.spec → IsMission mission → IsKernelSeatOf new kseat
+kernel_flown old new kseat mission same at of facts is =
+    let key : mission_in old ≡ mission_in new = ap (λ t. t.shared.key) (sym same) in
+    record {
+      holds = subst IsFlown (sym of ∙ key) record { facts = facts; fits = is.fits };
+      table = at.0 ∙ ap (λ t. t.shared.table_id) (sym same);
+      mission = at.1 ∙ ap (λ (k : MissionParts). Some k) key;
+    }
 
 -- Lemmas on the seats of the processors.
 

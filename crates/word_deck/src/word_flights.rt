@@ -81,17 +81,17 @@ impl<'a> WordFlight<'a> {
         ensures mission { IfOk result (λ flight. flight.mission ≡ mission.entry) }
     {
         mission.holds();
-        let (words, kseat, seats) = WordTable::open(alloc, mission)?;
         let kernel = Kernel::new(alloc, mission.spec(), mission.script())?;
-        let procs = seats.len();
+        let procs = mission.spec().procs.items().len();
         let own = Vec::with_capacity(alloc, procs)?;
         let landed = Vec::with_capacity(alloc, procs)?;
+        let (words, kseat, waiting) = WordTable::open(alloc, mission)?;
         Ok(WordFlight {
             mission,
             words,
             kernel: KernelCrew::kernel(mission, kseat, kernel),
             roster: Roster {
-                waiting: seats,
+                waiting,
                 own,
                 landed,
             },
@@ -177,7 +177,7 @@ impl<'a> WordFlight<'a> {
         ensures mission { mission_in result.0.words ≡ self.entry.mission.now }
         ensures same { result.1.mission.now ≡ self.entry.mission.now }
         ensures seated { IsKernelSeatOf result.0.words result.1.kseat }
-        ensures fresh { frames_noted (length self.entry.mission.now.spec.procs) result.1.kseat ≡ 0 }
+        ensures fresh { frames_noted (length result.1.mission.now.spec.procs) result.1.kseat ≡ 0 }
         ensures waiting { AreOpen result.0.words result.2.waiting.items }
         ensures all { vec_len result.2.waiting ≡ length self.entry.mission.now.spec.procs }
         ensures own { vec_len result.2.own ≡ 0 }
