@@ -3,7 +3,7 @@
 use Rattle.std.proofs.Common.{◌≡◌, ◌∙◌, ℕ, zero, suc, ap, sym, subst, refl, arith, List, [], ◌∷◌, ◌++◌, length}
 use Rattle.std.specs.Prelude.{All, Option, Some, option_to_list, slice_get}
 use Rattle.std.proofs.lemmas.List.Elements.{All-append, All-pop}
-use Rattle.std.proofs.lemmas.List.{length-append, map-append}
+use Rattle.std.proofs.lemmas.List.{length-append, length-map, map-append}
 use Rattle.std.proofs.lemmas.Option.{slice_get_within}
 use Rattle.fail_stop.specs.Events.{At}
 use Rattle.scram_types.proofs.Items.{first_part, next_part}
@@ -59,6 +59,11 @@ module _ {X : Type 0} {Y : X → Type 0} where
       → (numbers_in ys ≡ numbers) × (proc_of crew.seat ≡ p)
   numbers_less numbers xs ys o crew p are all is =
       last_same (numbers_in ys) numbers (proc_of crew.seat) p (sym (map-append (λ (c : Crew X Y). proc_of c.seat) ys (crew ∷ [])) ∙ sym (ap numbers_in (popped xs ys o crew all is)) ∙ are)
+
+  pub numbers_some : (numbers : List ℕ) (xs : List (Crew X Y)) (p : ℕ) → numbers_in xs ≡ numbers ++ p ∷ [] → length xs ≡ 0 → ⊥
+  numbers_some numbers xs p are none =
+      let long : length xs ≡ length (numbers ++ p ∷ []) = sym (length-map xs (λ (c : Crew X Y). proc_of c.seat)) ∙ ap length are in
+      omega (arith, long, none, length-append numbers (p ∷ []))
 
 -- Lemmas on the crews that fly in the caller's turns.
 
