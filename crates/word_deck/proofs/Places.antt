@@ -1,5 +1,5 @@
 -- Lemmas on the change of a processor's place by a turn.
-use Rattle.std.proofs.Common.{◌≡◌, ◌∙◌, ◌↔◌, ℕ, ◌<◌, ◌≤◌, sym, refl, subst, arith, Bool, true, false, not}
+use Rattle.std.proofs.Common.{◌≡◌, ◌↔◌, ℕ, ◌<◌, ◌≤◌, sym, refl, subst, arith, Bool, true, false, not}
 use Rattle.std.specs.Prelude.{Option, Some, None, is_some, if◌then◌else◌}
 use Rattle.std.proofs.lemmas.Bool.Decides.{nat_tests}
 use Rattle.app_model.specs.declared.racks.Rack.{Rack}
@@ -12,7 +12,7 @@ use Rattle.fail_stop.specs.Flights.{Flight}
 use Rattle.fail_stop.specs.Flyers.{HasSpare, IsUnitAt, flyer_halted, flyer_started, spare_started}
 use Rattle.fail_stop.proofs.FlyersAt.{unit_begun, unit_stopped}
 use Rattle.word_table.specs.Actors.{IsInFlight, Waits, frame_awaited, restart_or, steps_of}
-use Rattle.word_deck.specs.Crews.{comes_back, is_done, place_after, place_flown, tries_after}
+use Rattle.word_deck.specs.Crews.{comes_back, is_done, tries_after}
 use Rattle.word_deck.specs.declared.turns.Turn.{Turn}
 use Rattle.word_deck.specs.declared.turns.Turn.TheVariants.{Worked, NotYet, Finished}
 
@@ -81,16 +81,6 @@ halted_there {X = X} {Y = Y} p q before after was flyer f made same frame at fli
 pub begins : (f : ℕ) (o : Option ℕ) → steps_of (after_frame f o) ≡ 0
 begins f None = refl
 begins f (Some s) = refl
-
-not_yet : (b : Bool) → NotYet ≡ (if b then Finished else Worked) → ⊥
-not_yet true e = cc
-not_yet false e = cc
-
-pub flown_after : (m : Flight) (p : ℕ) (before after : Place) (turn : Turn) → is_done m p before ≡ false → turn ≡ (if is_done m p after then Finished else Worked)
-    → after ≡ place_flown m p before → after ≡ place_after turn m p before
-flown_after m p before after NotYet e t a = absurd (not_yet (is_done m p after) t)
-flown_after m p before after Worked e t a = a
-flown_after m p before after Finished e t a = a ∙ sym (rw e refl)
 
 finished_if : (b : Bool) (turn : Turn) → turn ≡ (if b then Finished else Worked) → (turn ≡ Finished) ↔ (b ≡ true)
 finished_if true turn e = (λ f. refl, λ f. e)
