@@ -2,6 +2,7 @@ pub mod Cycles
 pub mod Distinct
 pub mod DocumentCycles
 pub mod Found
+pub mod FourMembers
 pub mod Handing
 pub mod Joined
 pub mod LongestChains

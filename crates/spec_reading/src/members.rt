@@ -7,7 +7,7 @@ ghost use Rattle.scram_doc.specs.Members.{required_at, no_more_than};
 ghost use Rattle.spec_reading.specs.Found.{AreLimitMembers, AreMembers, AreNamingMembers, AreTableMembers};
 ghost use Rattle.spec_reading.specs.Versions.{AreDemands, IsPolicy, demands_tested, each_needed, is_version_in, limit_members, members_count, members_tested, naming_members, policy_tested, table_members};
 
-use scram_doc::{DocFault, Path, no_more_than, object, required};
+use scram_doc::{DocFault, Path, no_more_than, object, required, required_four};
 use serde_json::Value;
 
 /// The values of a document's members. `policy` is `None` unless the version is 2 or 3, and `demands` is `None`
@@ -97,10 +97,8 @@ fn find_naming(document: &Value) -> Result<NamingMembers<'_>, DocFault>
 {
     let root = Path::root();
     let scram = required(document, "scram", &root)?;
-    let procs = required(document, "processors", &root)?;
-    let apps = required(document, "apps", &root)?;
-    let confs = required(document, "configurations", &root)?;
-    let factors = required(document, "factors", &root)?;
+    let names = ("processors", "apps", "configurations", "factors");
+    let (procs, apps, confs, factors) = required_four(document, names, &root)?;
     Ok(NamingMembers {
         scram,
         procs,
@@ -123,11 +121,8 @@ fn find_table(document: &Value) -> Result<TableMembers<'_>, DocFault>
     ensures tested { ok_map (λ _. tt) result ≡ each_needed table_members (view document.now) }
     ensures members { IfOk result (AreTableMembers (view document.now)) }
 {
-    let root = Path::root();
-    let rules = required(document, "rules", &root)?;
-    let bounds = required(document, "bounds", &root)?;
-    let start = required(document, "start", &root)?;
-    let goal = required(document, "goal", &root)?;
+    let names = ("rules", "bounds", "start", "goal");
+    let (rules, bounds, start, goal) = required_four(document, names, &Path::root())?;
     Ok(TableMembers {
         rules,
         bounds,
