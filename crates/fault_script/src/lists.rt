@@ -182,7 +182,8 @@ pub(crate) fn read_halts(
     halts: &Halts<'_>,
     v: &Value,
 ) -> Result<List<HaltAt>, ScriptError>
-    ensures halts { Answers (read_halts halts.now.spec.now halts.now.version halts.now.frames (member_path [] (codes "halts")) (view v.now)) (λ halts. halts) result }
+    ensures halts { Answers (read_halts halts.now.spec.now halts.now.version halts.now.frames (member_path [] (codes "halts")) (view v.now))
+        (λ halts. halts) result }
     ensures few { IfOk result (λ halts. length halts ≤ 16) }
 {
     let halts = read_list(
@@ -246,8 +247,8 @@ pub(crate) fn read_restarts(
     restarts: &Restarts<'_>,
     v: Option<&Value>,
 ) -> Result<List<RestartAt>, ScriptError>
-    ensures { Answers (read_restarts restarts.now.spec.now restarts.now.frames restarts.now.halts.now (member_path [] (codes "restarts")) (option_map (λ d. view d.now) v.entry))
-        (λ restarts. restarts) result }
+    ensures { Answers (read_restarts restarts.now.spec.now restarts.now.frames restarts.now.halts.now (member_path [] (codes "restarts"))
+        (option_map (λ d. view d.now) v.entry)) (λ restarts. restarts) result }
 {
     match v {
         Some(v) => {
