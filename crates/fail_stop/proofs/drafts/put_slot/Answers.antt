@@ -9,3 +9,6 @@ returns c =
     record {
       slots = all_put c.args.a c.args.area.now c.args.image.now c.loop-i.image long (subst (λ (n : ℕ). IsPut c.args.a n c.args.area.now c.args.image.now c.loop-i.image) last c.loop-i.invariant);
     }
+
+pub loop-i-preserved : goal.loop-i-preserved
+loop-i-preserved c = search rules

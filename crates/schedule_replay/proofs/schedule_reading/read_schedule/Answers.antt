@@ -20,3 +20,6 @@ loop-text-preserved c =
       known = rw items (each_end (HasEvent c.args.spec.now) c.loop-text.list.items c.in-Ok.event c.loop-text.invariant.known c.in-Ok.ensures.known);
       place = omega (arith, c.in-Some.ensures.shorter, c.loop-text.invariant.place);
     }
+
+pub returns-else-is_empty-clause-read : goal.returns-else-is_empty-clause-read
+returns-else-is_empty-clause-read c = search rules

@@ -1,3 +1,4 @@
+use Rattle.std.proofs.Common.{rules}
 use Rattle.scram_cli.proofs.command.answer_question.Goals as goal
 
 pub returns-in-Explain : goal.returns-in-Explain
@@ -14,3 +15,6 @@ returns-in-Choices g c = rw (c.in-Choices.is) c.choices.ensures
 
 pub returns-in-Choose : goal.returns-in-Choose
 returns-in-Choose g c = rw (c.in-Choose.is) (rw c.words.ensures at c.choose.ensures)
+
+pub returns-in-Check : goal.returns-in-Check
+returns-in-Check c = search rules

@@ -1,4 +1,5 @@
-use Rattle.std.proofs.Common.{◌≡◌, ◌∙◌, ℕ, ◌+◌, ◌<◌, List, add-one, drop, false, get_or, length, refl, subst, sym}
+use Rattle.std.proofs.lemmas.Grind.{common_steps}
+use Rattle.std.proofs.Common.{arith, ◌≡◌, ◌∙◌, ℕ, ◌+◌, ◌<◌, List, add-one, drop, false, get_or, length, refl, subst, sym}
 use Rattle.std.specs.Str.{bytes_eq}
 use Rattle.std.proofs.lemmas.List.{at_drop_all, drop_more}
 use Rattle.scram_types.specs.Lookups.{number_from}
@@ -20,3 +21,6 @@ loop-i-preserved g c =
 pub returns-clause-number : goal.returns-clause-number
 returns-clause-number g c =
     sym (at_drop_all (λ xs. number_from g.T.Named.spelling c.loop-i.i xs c.args.text.now) c.args.items.now c.loop-i.i c.loop-i-test.false) ∙ c.loop-i.invariant
+
+pub returns-then-eq-clause-number : goal.returns-then-eq-clause-number
+returns-then-eq-clause-number c = grind (arith, common_steps)

@@ -1,4 +1,4 @@
-use Rattle.std.proofs.Common.{length, arith}
+use Rattle.std.proofs.Common.{rules, length, arith}
 use Rattle.form_base.proofs.TextsBelow.{cut_below, printed_next}
 use Rattle.spec_forms.specs.Bounds.{bound_text_of}
 use Rattle.spec_forms.proofs.bound_pairs.put_bounds_from.Goals as goal
@@ -10,3 +10,6 @@ returns-in-Err g c =
 
 pub loop-j-preserved : goal.loop-j-preserved
 loop-j-preserved g c = printed_next (bound_text_of c.args.spec.now c.args.from.0) c.loop-j.j _ _ _ c.loop-j.invariant c.in-Ok.ensures
+
+pub loop-j-init : goal.loop-j-init
+loop-j-init c = search rules

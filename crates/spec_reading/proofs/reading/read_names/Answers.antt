@@ -9,3 +9,6 @@ pub read_more_names-requires-clause-procs_fit : goal.read_more_names-requires-cl
 read_more_names-requires-clause-procs_fit c =
     let read : c.read_procs.result ≡ Ok c.in_ok-procs.procs = search rules in
     kept (AllAfter IsNewProc) c.read_procs.result c.in_ok-procs.procs read c.read_procs.ensures.fits
+
+pub returns-in_err-apps-clause-cycle : goal.returns-in_err-apps-clause-cycle
+returns-in_err-apps-clause-cycle c = search rules

@@ -1,4 +1,4 @@
-use Rattle.std.proofs.Common.{◌≡◌, ◌+◌, ◌≤◌, List, ℕ, ◌++◌, length, codes, ap, arith, length-append}
+use Rattle.std.proofs.Common.{rules, ◌≡◌, ◌+◌, ◌≤◌, List, ℕ, ◌++◌, length, codes, ap, arith, length-append}
 use Rattle.std.proofs.lemmas.List.{append_assoc}
 use Rattle.trace_text.proofs.row_lines.add_act.Goals as goal
 
@@ -26,3 +26,6 @@ returns-in-Preparing-clause-short c = phase_short c.args.line.now _ _ c.text-in-
 
 pub returns-in-Initialising-clause-short : goal.returns-in-Initialising-clause-short
 returns-in-Initialising-clause-short c = phase_short c.args.line.now _ _ c.text-in-Initialising.ensures.text (omega arith) c.add_phase-in-Initialising.ensures.short
+
+pub returns-in-Held-clause-text : goal.returns-in-Held-clause-text
+returns-in-Held-clause-text c = search rules

@@ -52,3 +52,6 @@ returns-clause-seats g t c =
     let long : length c.fly_rest-kernel.new.roster.landed.items ≡ length c.pop.new.self.items = search rules in
     landed_more c.args.shared.now.resources.now.words c.fly_rest-kernel.new.roster.landed.items c.push_reserved.new.self.items c.land_boarded-seat.result (length c.pop.new.self.items) c.fly_rest-kernel.ensures.seats long
     (subst (λ p. IsLanded c.args.shared.now.resources.now.words p c.land_boarded-seat.result) (ap proc_of c.of-was.ensures ∙ last.1) c.land_boarded-seat.ensures.landed) c.push_reserved.ensures.items
+
+pub returns-in-None-clause-done : goal.returns-in-None-clause-done
+returns-in-None-clause-done c = search rules

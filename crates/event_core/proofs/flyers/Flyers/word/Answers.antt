@@ -13,3 +13,9 @@ returns-in-KStore-clause-word g c =
     let same : c.args.core.now.places.frame + 1 ≡ suc c.args.core.now.places.frame = omega arith in
     subst (λ (event : Event). IsEventWord (core_flight c.args.core.now) (core_places c.args.core.now) event c.kernel_word.result) (sym is)
     (c.kernel_word.ensures ∙ ap (λ f. word_in (kernel_words c.args.core.now.spec c.args.core.now.script f) c.in-KStore.i) same)
+
+pub returns-in-Halt-clause-fits : goal.returns-in-Halt-clause-fits
+returns-in-Halt-clause-fits c = search rules
+
+pub returns-in-Start-clause-fits : goal.returns-in-Start-clause-fits
+returns-in-Start-clause-fits c = search rules

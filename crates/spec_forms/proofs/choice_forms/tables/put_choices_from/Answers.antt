@@ -1,4 +1,4 @@
-use Rattle.std.proofs.Common.{◌≡◌, suc, length, arith, subst}
+use Rattle.std.proofs.Common.{rules, ◌≡◌, suc, length, arith, subst}
 use Rattle.form_base.specs.Texts.{texts_below}
 use Rattle.form_base.proofs.TextsBelow.{texts_more, texts_rest}
 use Rattle.scram_io.specs.Outside.{Printed}
@@ -23,3 +23,6 @@ pub returns : goal.returns
 returns g c =
     let end : c.loop-k.k ≡ suc (length c.args.spec.now.rules) = omega (arith, c.loop-k-test.false, c.requires.width, c.loop-k.auto.k-end) in
     subst (λ n. Printed (g.K.Sink.state c.args.out.now) (g.K.Sink.state c.loop-k.out) (texts_below (choice_text c.args.spec.now c.args.from.0) n)) end c.loop-k.invariant
+
+pub loop-k-init : goal.loop-k-init
+loop-k-init c = search rules

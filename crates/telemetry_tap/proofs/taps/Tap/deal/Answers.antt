@@ -1,4 +1,4 @@
-use Rattle.std.proofs.Common.{◌∙◌, ◌+◌, List, ◌∷◌, [], ap, length}
+use Rattle.std.proofs.Common.{rules, ◌∙◌, ◌+◌, List, ◌∷◌, [], ap, length}
 use Rattle.std.proofs.lemmas.List.{length-append}
 use Rattle.telemetry_tap.specs.declared.taps.Reader.{Reader}
 use Rattle.telemetry_tap.proofs.Starting.{new_more}
@@ -11,3 +11,6 @@ loop-i-preserved c = (
   new_more c.args.self.now c.loop-i.dealt.items c.push.new.self.items c.note.result c.loop-i.invariant.2 c.note.ensures.reader (c.note.ensures.seen ∙ c.loop-i.invariant.1) c.in_ok-push.ensures.items,
   ap (λ (list : List Reader). length list) c.in_ok-push.ensures.items ∙ length-append c.loop-i.dealt.items (c.note.result ∷ []) ∙ ap (λ n. n + 1) c.loop-i.invariant.3,
 )
+
+pub loop-i-init : goal.loop-i-init
+loop-i-init c = search rules

@@ -21,3 +21,6 @@ invariant_of-self g c =
           halted_there (proc_of crew.seat) (proc_of c.halt_after.new.seat) (seat_place crew.seat) (seat_place c.halt_after.new.seat) crew.flyer c.halt.new.self c.frame-frame.result c.halt.ensures c.halt_after.ensures.proc frame
           (c.halt_after.ensures.place ∙ ap Halted (sym frame)) (ap is_halted c.requires.flies.after) crew.keeps;
     }
+
+pub returns-in-Some-clause-fits : goal.returns-in-Some-clause-fits
+returns-in-Some-clause-fits c = search rules

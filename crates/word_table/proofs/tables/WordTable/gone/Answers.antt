@@ -67,3 +67,6 @@ returns-clause-image c =
     image_noted (mission_in words) c.requires.seat.holds.fits c.requires.seat.holds.facts kseat.frame c.args.p.0 c.bank_index.result c.read_image.new.image c.requires.p
     (omega (arith, c.bank_index.ensures, bank)) read
     ∙ ap (image_after (mission_in words).spec (mission_in words).script c.args.p.0) next
+
+pub invariant_of-kseat-2 : goal.invariant_of-kseat-2
+invariant_of-kseat-2 c = search rules

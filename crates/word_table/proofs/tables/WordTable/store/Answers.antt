@@ -1,4 +1,4 @@
-use Rattle.std.proofs.Common.{◌≡◌, ◌∙◌, ℕ, ◌+◌, ◌-◌, ◌<◌, suc, arith, sym, ap, [], ◌∷◌}
+use Rattle.std.proofs.Common.{rules, ◌≡◌, ◌∙◌, ℕ, ◌+◌, ◌-◌, ◌<◌, suc, arith, sym, ap, [], ◌∷◌}
 use Rattle.std.specs.Prelude.{Some}
 use Rattle.scram_types.specs.Lookups.{proc_id}
 use Rattle.bank_words.specs.declared.events.Event.TheVariants.{Store}
@@ -82,3 +82,6 @@ store-requires c =
           (proc_of seat) seat.frame is.before fits.proc (ap (λ (v : View). v.actors) left.0 ∙ here)
           c.args.i _ _ is.next (omega (arith, few.0, few.1)) (omega (arith, c.bank_index.ensures, own)) (value words seat c.args.i c.args.word fits c.requires.next c.requires.word),
     )
+
+pub invariant_of-seat : goal.invariant_of-seat
+invariant_of-seat c = search rules

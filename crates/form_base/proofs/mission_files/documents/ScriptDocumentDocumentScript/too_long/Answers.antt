@@ -1,0 +1,5 @@
+use Rattle.std.proofs.Common.{rules}
+use Rattle.form_base.proofs.mission_files.documents.ScriptDocumentDocumentScript.too_long.Goals as goal
+
+pub returns-clause-is : goal.returns-clause-is
+returns-clause-is c = search rules

@@ -1,0 +1,5 @@
+use Rattle.std.proofs.Common.{rules}
+use Rattle.kernel_pair.proofs.nexts.next_unit.Goals as goal
+
+pub returns-else-stops_at : goal.returns-else-stops_at
+returns-else-stops_at c = search rules

@@ -1,0 +1,5 @@
+use Rattle.std.proofs.Common.{rules}
+use Rattle.kernel_pair.proofs.nexts.plan_noted.Goals as goal
+
+pub returns-else-made-procs-4 : goal.returns-else-made-procs-4
+returns-else-made-procs-4 c = search rules

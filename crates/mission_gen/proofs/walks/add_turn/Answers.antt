@@ -1,0 +1,5 @@
+use Rattle.std.proofs.Common.{rules}
+use Rattle.mission_gen.proofs.walks.add_turn.Goals as goal
+
+pub returns : goal.returns
+returns c = search rules

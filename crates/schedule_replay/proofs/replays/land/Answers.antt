@@ -1,0 +1,5 @@
+use Rattle.std.proofs.Common.{rules}
+use Rattle.schedule_replay.proofs.replays.land.Goals as goal
+
+pub finish-requires : goal.finish-requires
+finish-requires c = search rules

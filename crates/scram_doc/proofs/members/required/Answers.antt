@@ -1,0 +1,5 @@
+use Rattle.std.proofs.Common.{rules}
+use Rattle.scram_doc.proofs.members.required.Goals as goal
+
+pub returns : goal.returns
+returns c = search rules

@@ -1,0 +1,5 @@
+use Rattle.std.proofs.Common.{rules}
+use Rattle.spec_reading.proofs.bounds.read_new_target.Goals as goal
+
+pub returns-else-is_bounded-clause-new : goal.returns-else-is_bounded-clause-new
+returns-else-is_bounded-clause-new c = search rules

@@ -1,0 +1,5 @@
+use Rattle.std.proofs.Common.{rules}
+use Rattle.spec_reading.proofs.intervals.read_ends.Goals as goal
+
+pub returns-else-least-greatest-clause-value : goal.returns-else-least-greatest-clause-value
+returns-else-least-greatest-clause-value c = search rules
