@@ -1,16 +1,31 @@
-//! A test of whole missions by direct calls. A row of `rows.txt` is `fly SPECIFICATION SCRIPT TRACE`, `judge
-//! SPECIFICATION TRACE`, `cover SPECIFICATION` or `draft`. The files are beside `rows.txt`, and blank lines separate the
-//! rows. An independent model of the rules made the traces, except that of `uav`, which is worked out by hand. The
-//! judgements, the covers and the drafts are worked out by hand as well. The targets were found by a walk over all
-//! environments.
+//! Tests of whole missions by direct calls, of schedules, and of pairs of units.
+//!
+//! Blank lines separate the rows of `rows.txt`. The first line of a row has one of the following forms. Its words are
+//! names of files beside `rows.txt`.
+//!
+//! - `fly SPECIFICATION SCRIPT TRACE`: Flies the mission on one thread, and compares each flight with the trace.
+//! - `judge SPECIFICATION TRACE`: Prints the first property that the trace breaks.
+//! - `cover SPECIFICATION`: Prints the cover of each configuration.
+//! - `draft`: Has live processors draft the frames of a mission, as module `drafts` says.
+//! - `replay: ..`: Reads, writes and flies a schedule, as module `replays` says.
+//! - `pair: ..`: Flies a mission with the kernel on two units, as module `pairs` says.
+//! - `read TIMES SPECIFICATION SCRIPT`, `write TIMES SPECIFICATION SCRIPT`: Reads or writes both documents `TIMES`
+//!   times, so that one reading or writing can be timed. Prints what is written.
+//!
+//! An independent model of the rules made the traces of the form `fly`, except that of `uav`, which is worked out by
+//! hand. The targets were found by a walk over all environments. The results of the other forms are worked out by hand.
 #![tactic(auto)]
 
 mod covers;
+mod documents;
 mod drafts;
 mod judgements;
 mod missions;
+mod pairs;
+mod replays;
 
 use crate::covers::print_covers;
+use crate::documents::{read_row, write_row};
 use crate::drafts::draft;
 use crate::judgements::judge;
 use crate::missions::fly;
@@ -19,19 +34,22 @@ use std::io::{self, ErrorKind};
 use test_kit::{each_row, split_word};
 
 fn main(rt: HostRuntime) -> io::Result<()> {
-    each_row(&rt, |title, _lines| {
-        answer(&rt, title)?;
+    each_row(&rt, |title, lines| {
+        answer(&rt, title, lines)?;
         println!(rt; "")
     })
 }
 
-/// Answers a row, and prints the result.
-fn answer(rt: &HostRuntime, row: &str) -> io::Result<()> {
-    let (form, files) = split_word(row);
-    if form == "draft" {
-        draft(rt)
-    } else {
-        answer_files(rt, form, files)
+/// Answers a row, and prints the results.
+fn answer(rt: &HostRuntime, title: &str, lines: &str) -> io::Result<()> {
+    let (form, words) = split_word(title);
+    match form {
+        "draft" => draft(rt),
+        "replay:" => replays::answer(rt, lines),
+        "pair:" => pairs::answer(rt, lines),
+        "read" => read_row(rt, words),
+        "write" => write_row(rt, words),
+        _ => answer_files(rt, form, words),
     }
 }
 
