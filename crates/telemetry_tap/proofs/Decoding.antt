@@ -17,7 +17,7 @@ running_back a b c d la lb lc ld = omega arith
 up_back : (a b c d : ℕ) → a < 65536 → b < 65536 → c < 256 → d < 256 → (a + 65536 * b + 4294967296 * c + 1099511627776 * d) / 1099511627776 % 256 ≡ d
 up_back a b c d la lb lc ld = omega arith
 
-summary_back : (s : Summary) → FitsWord s → summary_decode (summary_encode s) ≡ s
+pub summary_back : (s : Summary) → FitsWord s → summary_decode (summary_encode s) ≡ s
 summary_back s fits =
     let one = frames_back s.frames s.begun s.running s.up fits.frames fits.begun fits.running fits.up in
     let two = begun_back s.frames s.begun s.running s.up fits.frames fits.begun fits.running fits.up in

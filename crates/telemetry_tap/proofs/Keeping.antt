@@ -27,6 +27,10 @@ there_low (x ∷ xs) (suc i) v there = let low = there_low xs i v there in omega
 no_both : (v : TapView) → v.writes ≡ true → v.writes ≡ false → true ≡ false
 no_both v pens other = sym pens ∙ other
 
+-- What the load of a reader of this mission shows.
+pub summary_shown : (mission : MissionParts) (v w : TapView) (n : ℕ) → v.mission ≡ Some mission → IfSome v.mission (λ (m : MissionParts). ShowsSummary m v n w) → ShowsSummary mission v n w
+summary_shown mission v w n is shows = subst (λ (m : Option MissionParts). IfSome m (λ (m : MissionParts). ShowsSummary m v n w)) is shows
+
 module _ (mission : MissionParts) (slots id : ℕ) (me : TapSeat) (empty : me.1 ≡ []) where
   -- The writer's store keeps the rule.
   module _ (writes : me.0.writes ≡ true) where

@@ -9,3 +9,9 @@ pub returns-then-places-procs : goal.returns-then-places-procs
 returns-then-places-procs c =
     note_next (flight_of c.args.spec.now c.args.script.now) (machine_places c.args.places.now) (stored_in c.args.stored.now) _ _ _
     (search rules) (search rules) (search rules) c.end_in.ensures (c.next_note.ensures c.args.spec.now)
+
+pub overflow_sub-result : goal.overflow_sub-result
+overflow_sub-result c = search rules
+
+pub returns-then-places-script-2 : goal.returns-then-places-script-2
+returns-then-places-script-2 c = search rules

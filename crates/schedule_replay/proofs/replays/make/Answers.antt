@@ -15,8 +15,8 @@ returns-in-Err-clause-refused g c = λ list before there.
     record {
       at = core_places core;
       words = core_words core;
-      before = subst (λ (events : List Event). IsReplay (core_flight core) events (core_places core) (core_words core)) (sym (ap (λ (n : ℕ). take n list) count ∙ before)) c.events_made-index.ensures.schedule;
-      there = ap (λ (n : ℕ). slice_get list n) count ∙ there ∙ ap (λ (e : Event). Some e) (sym refused.1);
+      before = rw (count, before) c.events_made-index.ensures.schedule;
+      there = rw (count, refused.1) there;
       next_is = refused.2 ∙ ap (λ (e : Event). next_of_actor (core_flight core) (core_places core) (core_words core) e) (sym refused.1);
       not_next = λ same. refused.0 (sym refused.2 ∙ same ∙ ap (λ (e : Event). Some e) refused.1);
     }

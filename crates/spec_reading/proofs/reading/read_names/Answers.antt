@@ -12,3 +12,6 @@ read_more_names-requires-clause-procs_fit c =
 
 pub returns-in_err-apps-clause-cycle : goal.returns-in_err-apps-clause-cycle
 returns-in_err-apps-clause-cycle c = search rules
+
+pub returns-in_err-apps-clause-value : goal.returns-in_err-apps-clause-value
+returns-in_err-apps-clause-value c = search rules

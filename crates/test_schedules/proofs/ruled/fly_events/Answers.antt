@@ -24,3 +24,6 @@ loop-event-preserved g c = record {
   count = ap length c.make.ensures.history ∙ length-append c.loop-event.core.history _ ∙ ap (λ n. n + 1) c.loop-event.invariant.count;
   fits = c.make.ensures.fits;
 }
+
+pub returns-clause-count : goal.returns-clause-count
+returns-clause-count c = search rules

@@ -11,3 +11,6 @@ flip-requires-clause-next c =
     let f = frame_of (seat_place c.args.seat.now) in
     flips_on m (proc_of c.store_words-2.new.seat) p c.args.width f (seat_place c.store_words-2.new.seat) c.store_words-2.ensures.proc c.store_words-2.ensures.place c.requires.width
     (halts_then m p f c.args.step (suc c.args.width) c.requires.halt (search rules))
+
+pub returns-clause-place : goal.returns-clause-place
+returns-clause-place c = search rules

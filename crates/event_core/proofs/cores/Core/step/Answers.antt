@@ -134,3 +134,12 @@ places_after-self-inside-requires-clause-event c =
     let next = next_by c.args.self.now c.self.inside.spec.now c.self.inside.script.now c.self.inside.places c.self.inside.stored.items c.self.inside.history.items c.args.event c.next_of_actor-next.result
     c.self.view_is c.next_of_actor-next.ensures (c.if-not-is_event.ensures.0 refl) in
     is_inside _ _ _ _ _ _ _ c.self.invariant.machine c.args.event next
+
+pub returns-else-ends_frame-clause-next : goal.returns-else-ends_frame-clause-next
+returns-else-ends_frame-clause-next c = search rules
+
+pub returns-then-ends_frame-clause-next : goal.returns-then-ends_frame-clause-next
+returns-then-ends_frame-clause-next c = search rules
+
+pub returns-then-not-is_event-clause-same : goal.returns-then-not-is_event-clause-same
+returns-then-not-is_event-clause-same c = search rules

@@ -1,6 +1,10 @@
-use Rattle.std.proofs.Common.{rules, arith}
+use Rattle.std.proofs.Common.{◌∙◌, ap, arith}
+use Rattle.std.proofs.lemmas.Grind.{common_steps}
 use Rattle.telemetry_tap.specs.Taps.{tap_mission}
-use Rattle.telemetry_tap.proofs.Keeping.{read_allows}
+use Rattle.telemetry_tap.specs.Summaries.{summary_after}
+use Rattle.telemetry_tap.specs.Words.{summary_decode}
+use Rattle.telemetry_tap.proofs.Decoding.{summary_back}
+use Rattle.telemetry_tap.proofs.Keeping.{read_allows, summary_shown}
 use Rattle.telemetry_tap.proofs.taps.Tap.read.Goals as goal
 
 pub load-word-requires : goal.load-word-requires
@@ -13,4 +17,15 @@ load-word-requires c =
     )
 
 pub returns-clause-summary : goal.returns-clause-summary
-returns-clause-summary c = search rules
+returns-clause-summary c =
+    let shown = summary_shown (tap_mission c.args.self.now) c.args.reader.now.inner.me.0 c.load-word.new.seat.me.0 c.load-word.result c.requires.reader.mission c.load-word.ensures.2.1 in
+    let summary = summary_after (tap_mission c.args.self.now) (c.load-word.new.seat.me.0.seen) in
+    c.summary_decode.ensures ∙ ap summary_decode shown.word ∙ summary_back summary shown.fits
+
+pub returns-clause-within : goal.returns-clause-within
+returns-clause-within c =
+    let shown = summary_shown (tap_mission c.args.self.now) c.args.reader.now.inner.me.0 c.load-word.new.seat.me.0 c.load-word.result c.requires.reader.mission c.load-word.ensures.2.1 in
+    shown.within
+
+pub returns-clause-loads : goal.returns-clause-loads
+returns-clause-loads c = grind (arith, common_steps)

@@ -70,3 +70,6 @@ returns-clause-image c =
 
 pub invariant_of-kseat-2 : goal.invariant_of-kseat-2
 invariant_of-kseat-2 c = search rules
+
+pub returns-then-not-may_note-clause-tries : goal.returns-then-not-may_note-clause-tries
+returns-then-not-may_note-clause-tries c = search rules

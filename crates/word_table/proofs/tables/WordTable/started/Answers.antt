@@ -1,4 +1,4 @@
-use Rattle.std.proofs.Common.{◌∙◌, ◌+◌, ◌<◌, ap, subst, arith, List}
+use Rattle.std.proofs.Common.{◌∙◌, ◌+◌, ◌<◌, ap, subst, arith, List, rules}
 use Rattle.std.specs.Prelude.{slice_index}
 use Rattle.bank_words.specs.Images.{kernel_decode}
 use Rattle.word_table.specs.declared.actors.Actor.{Actor}
@@ -65,3 +65,9 @@ returns-clause-tries c =
     let ready : frame_awaited (flight_in words) (proc_of seat) (seat_place seat) < c.load-release.result = omega (arith, c.if-release-from.false, c.from.ensures, c.frame_awaited-frame.ensures) in
     let made = start_made (mission_in words) seat.inner.me.0 c.load-release.new.seat.me c.load-release.result p x c.requires.seat.mission seat.alone c.requires.waits (third c.load-release.ensures) ready in
     ap (λ (me : Sat). me.0.tries) c.read_kernel.ensures.same ∙ ap (λ (me : Sat). me.0.tries) made
+
+pub invariant_of-seat-2 : goal.invariant_of-seat-2
+invariant_of-seat-2 c = search rules
+
+pub returns-then-release-from-clause-tries : goal.returns-then-release-from-clause-tries
+returns-then-release-from-clause-tries c = search rules
