@@ -13,7 +13,8 @@
 //!   times, so that one reading or writing can be timed. Prints what is written.
 //!
 //! An independent model of the rules made the traces of the form `fly`, except that of `uav`, which is worked out by
-//! hand. The targets were found by a walk over all environments. The results of the other forms are worked out by hand.
+//! hand. The targets were found by a walk over all environments. Where the traces of the form `replay` are from, module
+//! `replays` says. The results of the other forms are worked out by hand.
 #![tactic(auto)]
 
 mod covers;

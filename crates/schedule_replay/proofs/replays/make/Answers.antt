@@ -1,8 +1,6 @@
-use Rattle.std.proofs.Common.{◌∙◌, ℕ, List, Some, ap, subst, sym, take}
-use Rattle.std.specs.Prelude.{slice_get}
+use Rattle.std.proofs.Common.{◌∙◌, Some, ap, sym}
 use Rattle.bank_words.specs.declared.events.Event.{Event}
 use Rattle.event_core.specs.Cores.{core_places, core_words, core_flight}
-use Rattle.event_core.specs.Replays.{IsReplay}
 use Rattle.fail_stop.specs.Events.{next_of_actor}
 use Rattle.event_core.proofs.Following.{fly_on}
 use Rattle.schedule_replay.proofs.replays.make.Goals as goal
